@@ -1,0 +1,59 @@
+-- Laws of `indexOf` and `zeros`, as loops over a slice and parts of a text cite them.
+-- Assumes nothing.
+use mathlib.Core.Path.{_≡_, refl, sym, ap, _∙_}
+use mathlib.Core.Bool.{Bool, true, false, cond}
+use mathlib.Core.List.{List, [], _∷_, _++_}
+use Prim.Native.Nat.{ℕ, zero, suc, _+_, _<_, _≤_}
+use native.Mathlib.Nat.{not-suc-le-zero, le-of-suc-le-suc}
+use native.Mathlib.Numerals.{add-one}
+use native.Mathlib.Omega.{arith}
+use lib.Dec.{eqb}
+use borrow.Author.Tests.{eqb-true, eq-eqb, ne-eqb}
+use lib.ListN.{length, take, drop, getD, drop-of-length-le}
+use Rattle.laws.specs.Lists.{indexOf, zeros}
+
+-- the text around the first b
+pub index-split : (b : ℕ) (t : List ℕ) → indexOf b t < length t → t ≡ take (indexOf b t) t ++ b ∷ drop (suc (indexOf b t)) t
+unfolding indexOf
+index-split b [] h = absurd (not-suc-le-zero h)
+index-split b (x ∷ l) h = go (eqb x b) refl (λ k. index-split b l k) h
+  where
+    go : (k : Bool) → eqb x b ≡ k
+        → (indexOf b l < length l → l ≡ take (indexOf b l) l ++ b ∷ drop (suc (indexOf b l)) l)
+        → cond k 0 (suc (indexOf b l)) < suc (length l)
+        → x ∷ l ≡ take (cond k 0 (suc (indexOf b l))) (x ∷ l) ++ b ∷ drop (suc (cond k 0 (suc (indexOf b l)))) (x ∷ l)
+    go true e r h = ap {B = List ℕ} (λ v. v ∷ l) (eqb-true x b e)
+    go false e r h = ap {B = List ℕ} (λ v. x ∷ v) (r (le-of-suc-le-suc h))
+
+pub index-le : (b : ℕ) (t : List ℕ) → indexOf b t ≤ length t
+unfolding indexOf
+index-le b [] = omega arith
+index-le b (x ∷ l) = go (eqb x b) (index-le b l)
+  where
+    go : (k : Bool) → indexOf b l ≤ length l → cond k 0 (suc (indexOf b l)) ≤ suc (length l)
+    go true r = omega arith
+    go false r = omega arith
+
+zeros-suc : (l : List ℕ) (i : ℕ) → getD l i 0 ≡ 0 → zeros (drop i l) ≡ zeros (drop (suc i) l)
+unfolding zeros
+zeros-suc [] zero h = refl
+zeros-suc [] (suc i) h = refl
+zeros-suc (x ∷ l) zero h = rw (eq-eqb x 0 h)
+zeros-suc (x ∷ l) (suc i) h = zeros-suc l i h
+
+-- a turn of the loop that looks for a byte that is not 0
+pub zeros-more : (b : Bool) (l : List ℕ) (i : ℕ) → getD l i 0 ≡ 0 → b ≡ zeros (drop i l) → b ≡ zeros (drop (i + 1) l)
+zeros-more b l i h e = rw add-one (e ∙ zeros-suc l i h)
+
+zeros-at : (l : List ℕ) (i : ℕ) → (getD l i 0 ≡ 0 → ⊥) → false ≡ zeros (drop i l)
+unfolding zeros
+zeros-at [] i h = absurd (h refl)
+zeros-at (x ∷ l) zero h = rw (ne-eqb x 0 h)
+zeros-at (x ∷ l) (suc i) h = zeros-at l i h
+
+pub zeros-not : (b : Bool) (l : List ℕ) (i : ℕ) → (getD l i 0 ≡ 0 → ⊥) → b ≡ zeros (drop i l) → false ≡ b
+zeros-not b l i h e = zeros-at l i h ∙ sym e
+
+pub zeros-end : (b : Bool) (l : List ℕ) (i : ℕ) → b ≡ zeros (drop i l) → length l ≤ i → true ≡ b
+unfolding zeros
+zeros-end b l i e h = sym (e ∙ rw (drop-of-length-le l h))

@@ -1,0 +1,21 @@
+-- Lists of bytes: the first place of a byte, zeros, and a list padded to a length.
+-- Assumes nothing.
+use Prim.Native.Nat.{ℕ, zero, suc, _-_}
+use mathlib.Core.Bool.{Bool, true, cond, _&&_}
+use mathlib.Core.List.{List, [], _∷_, _++_}
+use lib.ListN.{length, replicate}
+use lib.Dec.{eqb}
+
+-- the place of the first b, or the length where there is none
+unfoldable pub indexOf : ℕ → List ℕ → ℕ
+indexOf b [] = zero
+indexOf b (x ∷ l) = cond (eqb x b) zero (suc (indexOf b l))
+
+-- l, and copies of z up to n elements
+unfoldable pub padTo : {A : Type 0} → ℕ → A → List A → List A
+padTo n z l = l ++ replicate (n - length l) z
+
+-- nothing but zeros
+unfoldable pub zeros : List ℕ → Bool
+zeros [] = true
+zeros (x ∷ l) = eqb x 0 && zeros l
