@@ -1,3 +1,4 @@
+-- The search for a byte: none among the first i, and the first place in what is left. Assumes nothing.
 use mathlib.Core.Path.{_≡_, refl, sym, ap, _∙_}
 use mathlib.Core.List.{List, [], _∷_}
 use mathlib.Core.Bool.{Bool, true, false, cond}
@@ -12,8 +13,6 @@ use Rattle.laws.specs.Lists.{indexOf}
 use Rattle.laws.proofs.Lists.{next}
 use Rattle.laws.proofs.find.Statement.{statement}
 use Rattle.laws.proofs.find.Tie as tie
-use Rattle.laws.proofs.find.Reads as reads
-use Rattle.laws.proofs.find.Lts as lts
 
 abbrev Inv-loop : tie.InvT-loop
 Inv-loop t b i₀ i = (i ≤ length t) × (indexOf b t ≡ i + indexOf b (drop i t))

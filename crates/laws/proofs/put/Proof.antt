@@ -9,8 +9,6 @@ use lib.Seq.{paste, paste-zero, paste-suc, length-paste}
 use denote.Ref.{now}
 use Rattle.laws.proofs.put.Statement.{statement}
 use Rattle.laws.proofs.put.Tie as tie
-use Rattle.laws.proofs.put.Reads as reads
-use Rattle.laws.proofs.put.Lts as lts
 
 abbrev Inv-loop : tie.InvT-loop
 Inv-loop s out₀ at i₀ out i = (i ≤ length s) × (out ≡ paste out₀ at s i)
