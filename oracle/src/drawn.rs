@@ -1,0 +1,184 @@
+// Kinds of requests drawn at random.
+
+use crate::packets::*;
+use crate::random::Random;
+use crate::records::{Form, Record};
+use crate::Request;
+use protocol::{LATITUDE_LIMIT, LONGITUDE_LIMIT};
+
+pub fn text_unknown(random: &mut Random) -> Request {
+    Request::Text(packet(random, unknown).line())
+}
+
+pub fn text_position(random: &mut Random) -> Request {
+    Request::Text(packet(random, position).line())
+}
+
+pub fn text_mic_e(random: &mut Random) -> Request {
+    Request::Text(mic_e_packet(random).line())
+}
+
+pub fn frame_unknown(random: &mut Random) -> Request {
+    Request::Frame(packet(random, unknown).frame())
+}
+
+pub fn frame_position(random: &mut Random) -> Request {
+    Request::Frame(packet(random, position).frame())
+}
+
+pub fn frame_mic_e(random: &mut Random) -> Request {
+    Request::Frame(mic_e_packet(random).frame())
+}
+
+/// Destinations of characters at the edges of each class, mostly ones whose latitude is in range.
+pub fn destination_classes(random: &mut Random) -> Request {
+    let classes: &[u8] = if random.one_in(4) { b"/09:@AIJKLMNOPQXYZ[ap" } else { b"058AEJKLPTYZ" };
+    let destination: Vec<u8> = (0..6).map(|_| *random.pick(classes)).collect();
+    let made = Packet::simple(&destination, &mic_e(random));
+    if random.one_in(2) {
+        Request::Text(made.line())
+    } else {
+        Request::Frame(made.frame())
+    }
+}
+
+fn length_near_a_boundary(random: &mut Random) -> usize {
+    match random.below(8) {
+        0 => random.between(508, 516),
+        1 => random.between(12, 26),
+        _ => random.between(0, 40),
+    }
+}
+
+pub fn random_bytes(random: &mut Random) -> Request {
+    let length = length_near_a_boundary(random);
+    let bytes = random.bytes(length);
+    if random.one_in(2) {
+        Request::Text(bytes)
+    } else {
+        Request::Frame(bytes)
+    }
+}
+
+/// Lines of the bytes that mean something in a line, half of them with a good header.
+pub fn shaped_text(random: &mut Random) -> Request {
+    let mut text = Vec::new();
+    if random.one_in(2) {
+        text.extend_from_slice(b"A>S32UVT:");
+    }
+    for _ in 0..length_near_a_boundary(random) {
+        text.push(*random.pick(b"AB09>>::,,**--!=`' ./NSEWqA+\x1c\x1d\xc3\xa9\xff"));
+    }
+    Request::Text(text)
+}
+
+fn damage(random: &mut Random, bytes: &mut Vec<u8>) {
+    if bytes.is_empty() {
+        return bytes.push(random.byte());
+    }
+    let at = random.below(bytes.len());
+    match random.below(7) {
+        0 => {
+            bytes.remove(at);
+        }
+        1 => {
+            let byte = random.byte();
+            bytes.insert(at, byte);
+        }
+        2 => {
+            let other = random.below(bytes.len());
+            bytes.swap(at, other);
+        }
+        3 => bytes[at] ^= 1 << random.below(8),
+        4 => bytes[at] = random.byte(),
+        5 => bytes[at] = *random.pick(b" *-,:>!='`09NSEWKLZ"),
+        _ => bytes.truncate(at),
+    }
+}
+
+fn damaged(random: &mut Random, mut bytes: Vec<u8>) -> Vec<u8> {
+    for _ in 0..random.between(1, 3) {
+        damage(random, &mut bytes);
+    }
+    bytes
+}
+
+pub fn damaged_text(random: &mut Random) -> Request {
+    let good = any_packet(random).line();
+    Request::Text(damaged(random, good))
+}
+
+pub fn damaged_frame(random: &mut Random) -> Request {
+    let good = any_packet(random).frame();
+    Request::Frame(damaged(random, good))
+}
+
+fn angle(random: &mut Random, limit: i64) -> i64 {
+    let angle = match random.below(4) {
+        0 => random.below(limit as usize / 6000 + 1) as i64 * 6000 + random.between(0, 4) as i64 - 2,
+        1 => random.below(limit as usize / 100 + 1) as i64 * 100 + random.between(0, 2) as i64 - 1,
+        _ => random.below(limit as usize + 1) as i64,
+    };
+    let angle = angle.clamp(0, limit);
+    if random.one_in(2) {
+        -angle
+    } else {
+        angle
+    }
+}
+
+fn record(random: &mut Random, kind: &'static str) -> Record {
+    let mut record = Record::good(kind);
+    record.form = *random.pick(&[Form::Text, Form::Frame]);
+    record.room = *random.pick(&[512, 512, 600, 90, 40]);
+    record.from = (call(random), ssid_text(random));
+    record.hops = (0..random.between(0, 8))
+        .map(|_| ((call(random), ssid_text(random)), random.one_in(3)))
+        .collect();
+    let length = random.between(0, 30);
+    record.comment = random.bytes(length);
+    if kind != "mic-e" {
+        record.to = (call(random), ssid_text(random));
+    }
+    if kind != "unknown" {
+        record.flag = random.below(2);
+        record.latitude = angle(random, LATITUDE_LIMIT);
+        record.longitude = angle(random, LONGITUDE_LIMIT);
+        record.blanks = random.below(6);
+        record.table = random.between(0, 127);
+        record.code = random.between(0, 127);
+    }
+    if kind == "mic-e" {
+        record.message = *random.pick(&crate::records::MESSAGES);
+        record.speed = random.below(800) as i64;
+        record.course = random.below(361) as i64;
+        record.table = random.below(256);
+        record.code = random.below(256);
+    }
+    record
+}
+
+fn ssid_text(random: &mut Random) -> Vec<u8> {
+    match random.below(8) {
+        0 => random.pick(&[&b"00"[..], b"01", b"+7", b"16", b"X", b"015"]).to_vec(),
+        1..=3 => random.between(1, 15).to_string().into_bytes(),
+        _ => Vec::new(),
+    }
+}
+
+pub fn written_unknown(random: &mut Random) -> Request {
+    Request::Line(record(random, "unknown").request())
+}
+
+pub fn written_position(random: &mut Random) -> Request {
+    Request::Line(record(random, "position").request())
+}
+
+pub fn written_mic_e(random: &mut Random) -> Request {
+    Request::Line(record(random, "mic-e").request())
+}
+
+pub fn bounds(random: &mut Random) -> Request {
+    let (limit, name) = *random.pick(&[(LATITUDE_LIMIT, "lat"), (LONGITUDE_LIMIT, "lon")]);
+    Request::Line(format!("B {} {} {}", angle(random, limit), random.below(6), name))
+}

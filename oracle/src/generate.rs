@@ -1,0 +1,170 @@
+// Makes requests for the comparison, by kind, from a seed: random kinds as many as asked for, whole sets whole
+// (or, when few are asked for, an even sample). The same arguments give the same requests on every machine.
+
+mod drawn;
+mod packets;
+mod random;
+mod records;
+mod whole;
+
+use std::io::{self, BufWriter, Write};
+
+use protocol::push_hex;
+use random::Random;
+
+/// From this count on, whole sets are given whole.
+const WHOLE_FROM: u64 = 10_000;
+
+pub enum Request {
+    Text(Vec<u8>),
+    Frame(Vec<u8>),
+    Line(String),
+}
+
+enum Maker {
+    Drawn(fn(&mut Random) -> Request),
+    Whole(fn(&mut dyn FnMut(Request))),
+}
+
+use Maker::{Drawn, Whole};
+
+const KINDS: [(&str, Maker); 41] = [
+    ("text-unknown", Drawn(drawn::text_unknown)),
+    ("text-position", Drawn(drawn::text_position)),
+    ("text-mic-e", Drawn(drawn::text_mic_e)),
+    ("frame-unknown", Drawn(drawn::frame_unknown)),
+    ("frame-position", Drawn(drawn::frame_position)),
+    ("frame-mic-e", Drawn(drawn::frame_mic_e)),
+    ("text-every-byte", Whole(whole::text_every_byte)),
+    ("frame-every-byte", Whole(whole::frame_every_byte)),
+    ("motion-pairs", Whole(whole::motion_pairs)),
+    ("motion-speeds", Whole(whole::motion_speeds)),
+    ("mic-e-longitudes", Whole(whole::mic_e_longitudes)),
+    ("mic-e-limits", Whole(whole::mic_e_limits)),
+    ("destination-every-byte", Whole(whole::destination_every_byte)),
+    ("destination-blanks", Whole(whole::destination_blanks)),
+    ("destination-classes", Drawn(drawn::destination_classes)),
+    ("latitudes", Whole(whole::latitudes)),
+    ("longitudes", Whole(whole::longitudes)),
+    ("degrees", Whole(whole::degrees)),
+    ("blanks", Whole(whole::blanks)),
+    ("lengths-near-512", Whole(whole::lengths_near_512)),
+    ("cut", Whole(whole::cut)),
+    ("position-first-bytes", Whole(whole::position_first_bytes)),
+    ("symbols", Whole(whole::symbols)),
+    ("hops", Whole(whole::hops)),
+    ("frame-shapes", Whole(whole::frame_shapes)),
+    ("callsigns", Whole(whole::callsigns)),
+    ("callsign-lengths", Whole(whole::callsign_lengths)),
+    ("utf8", Whole(whole::utf8)),
+    ("random-bytes", Drawn(drawn::random_bytes)),
+    ("shaped-text", Drawn(drawn::shaped_text)),
+    ("damaged-text", Drawn(drawn::damaged_text)),
+    ("damaged-frame", Drawn(drawn::damaged_frame)),
+    ("written-unknown", Drawn(drawn::written_unknown)),
+    ("written-position", Drawn(drawn::written_position)),
+    ("written-mic-e", Drawn(drawn::written_mic_e)),
+    ("written-rooms", Whole(whole::written_rooms)),
+    ("written-lengths", Whole(whole::written_lengths)),
+    ("written-limits", Whole(whole::written_limits)),
+    ("written-callsigns", Whole(whole::written_callsigns)),
+    ("bounds", Drawn(drawn::bounds)),
+    ("bounds-limits", Whole(whole::bounds_limits)),
+];
+
+fn push_request(out: &mut Vec<u8>, request: Request) {
+    match request {
+        Request::Text(bytes) => {
+            out.extend_from_slice(b"T ");
+            push_hex(out, &bytes);
+        }
+        Request::Frame(bytes) => {
+            out.extend_from_slice(b"F ");
+            push_hex(out, &bytes);
+        }
+        Request::Line(line) => out.extend_from_slice(line.as_bytes()),
+    }
+    out.push(b'\n');
+}
+
+fn size_of_set(set: fn(&mut dyn FnMut(Request))) -> u64 {
+    let mut size = 0;
+    set(&mut |_| size += 1);
+    size
+}
+
+/// Writes the requests of one kind and returns how many they are.
+fn make(maker: &Maker, random: &mut Random, count: u64, out: &mut impl Write) -> io::Result<u64> {
+    let mut line = Vec::new();
+    let mut made = 0;
+    let mut result = Ok(());
+    let mut emit = |request| {
+        line.clear();
+        push_request(&mut line, request);
+        made += 1;
+        if result.is_ok() {
+            result = out.write_all(&line);
+        }
+    };
+    match maker {
+        Drawn(draw) => (0..count).for_each(|_| emit(draw(random))),
+        Whole(set) => {
+            let stride = if count >= WHOLE_FROM { 1 } else { size_of_set(*set) / count + 1 };
+            let start = random.next() % stride;
+            let mut index = 0;
+            set(&mut |request| {
+                if index % stride == start {
+                    emit(request);
+                }
+                index += 1;
+            });
+        }
+    }
+    result.map(|()| made)
+}
+
+fn usage() -> ! {
+    eprintln!(
+        "usage: generate KIND|all SEED COUNT INDEX >requests   COUNT of each random kind; whole sets are whole from {}\n\
+         \x20      generate --kinds                            lists the kinds\n\
+         INDEX is written: one line for each kind, its name and how many requests it has, in their order",
+        WHOLE_FROM
+    );
+    std::process::exit(2)
+}
+
+fn generate(kind: &str, seed: u64, count: u64, index: &str) -> io::Result<()> {
+    let mut requests = BufWriter::with_capacity(1 << 20, io::stdout());
+    let mut index = std::fs::File::create(index)?;
+    let mut total = 0;
+    for (name, maker) in KINDS.iter().filter(|(name, _)| kind == "all" || kind == *name) {
+        let made = make(maker, &mut Random::new(seed, name), count, &mut requests)?;
+        writeln!(index, "{} {}", name, made)?;
+        total += made;
+    }
+    requests.flush()?;
+    if total == 0 {
+        usage();
+    }
+    eprintln!("generate: {} requests, kind {}, seed {}, count {}", total, kind, seed, count);
+    Ok(())
+}
+
+fn main() {
+    let arguments: Vec<String> = std::env::args().skip(1).collect();
+    let result = match arguments.iter().map(String::as_str).collect::<Vec<_>>().as_slice() {
+        ["--kinds"] => {
+            KINDS.iter().for_each(|(name, _)| println!("{}", name));
+            Ok(())
+        }
+        [kind, seed, count, index] => match (seed.parse(), count.parse()) {
+            (Ok(seed), Ok(count)) if count > 0 => generate(kind, seed, count, index),
+            _ => usage(),
+        },
+        _ => usage(),
+    };
+    if let Err(fault) = result {
+        eprintln!("generate: {}", fault);
+        std::process::exit(1);
+    }
+}

@@ -1,0 +1,190 @@
+// Judges one request: are the oracle's answer and the port's equal on document 01's domain of equality?
+// Of two refusals only the fact counts; where the oracle marks its answer, document 01's own number is demanded.
+
+use protocol::{from_decimal, words, Mark};
+
+/// The numbers that a reader can answer, and those that any function can.
+const LAST_OF_READING: u32 = 12;
+const LAST: u32 = 16;
+const WRITTEN_FIELDS: [&[u8]; 2] = [b"text=", b"frame="];
+
+#[derive(Clone, Debug, PartialEq, Eq)]
+pub enum Verdict {
+    Accepted,
+    Refused,
+    RefusedOnShim,
+    Outside(Mark),
+    Listed(Mark),
+    Different(&'static str),
+}
+
+use Verdict::*;
+
+/// What became of one of the two rewritten forms of an accepted record.
+#[derive(Clone, Copy, Debug, PartialEq, Eq)]
+pub enum Rewritten {
+    Equal,
+    Refused,
+    Marked(Mark),
+}
+
+pub struct Judgement {
+    pub verdict: Verdict,
+    pub rewritten: Vec<Rewritten>,
+}
+
+impl From<Verdict> for Judgement {
+    fn from(verdict: Verdict) -> Judgement {
+        Judgement { verdict, rewritten: Vec::new() }
+    }
+}
+
+fn refusal(word: &[u8], last: u32) -> Option<u32> {
+    let number = u32::try_from(from_decimal(word)?).ok()?;
+    if (1..=last).contains(&number) {
+        Some(number)
+    } else {
+        None
+    }
+}
+
+fn mark_or_outside(mark: Mark) -> Verdict {
+    if mark.is_listed_difference() {
+        Listed(mark)
+    } else {
+        Outside(mark)
+    }
+}
+
+fn judge_rewritten(oracle: &[u8], ours: &[u8]) -> Result<Rewritten, &'static str> {
+    let colon = oracle.iter().position(|byte| *byte == b':').ok_or("no colon in the oracle's answer")?;
+    let number = &oracle[..colon];
+    let refused = ours.strip_suffix(b":-").and_then(|number| refusal(number, LAST));
+    if number == b"0" {
+        return if oracle == ours { Ok(Rewritten::Equal) } else { Err("rewritten bytes") };
+    }
+    if let Some(mark) = number.strip_prefix(b"outside-").and_then(Mark::named) {
+        return if refused == Some(mark.number_written()) {
+            Ok(Rewritten::Marked(mark))
+        } else {
+            Err("rewriting, where document 01 names the number")
+        };
+    }
+    match (refusal(number, LAST), refused) {
+        (Some(_), Some(_)) => Ok(Rewritten::Refused),
+        (Some(_), None) => Err("rewriting, which the Rust refuses"),
+        (None, _) => Err("rewriting, where the Rust panics"),
+    }
+}
+
+fn judge_record(oracle: &[u8], ours: &[u8]) -> Judgement {
+    let (oracle, ours) = (words(oracle), words(ours));
+    if oracle.len() != ours.len() {
+        return Different("accepted by the Rust").into();
+    }
+    let mut rewritten = Vec::new();
+    for (oracle, ours) in oracle.iter().zip(&ours) {
+        let name = WRITTEN_FIELDS.iter().find(|name| oracle.starts_with(name) && ours.starts_with(name));
+        match name {
+            None if oracle == ours => {}
+            None => return Different("a field").into(),
+            Some(name) => match judge_rewritten(&oracle[name.len()..], &ours[name.len()..]) {
+                Ok(result) => rewritten.push(result),
+                Err(what) => return Different(what).into(),
+            },
+        }
+    }
+    let listed = rewritten.iter().find_map(|result| match result {
+        Rewritten::Marked(mark) if mark.is_listed_difference() => Some(*mark),
+        _ => None,
+    });
+    Judgement {
+        verdict: listed.map_or(Accepted, Listed),
+        rewritten,
+    }
+}
+
+fn judge_reading(oracle: &[u8], ours: &[u8]) -> Judgement {
+    let refused = refusal(ours, LAST_OF_READING);
+    let demanded = |is_met: bool, verdict: Verdict, otherwise: &'static str| {
+        if is_met {
+            Judgement::from(verdict)
+        } else {
+            Different(otherwise).into()
+        }
+    };
+    match words(oracle).as_slice() {
+        [b"0", ..] => judge_record(oracle, ours),
+        [b"outside", mark, b"0"] => match Mark::named(mark) {
+            Some(mark) => demanded(
+                refused.is_some() && refused == mark.number_read(),
+                Outside(mark),
+                "document 01 names the number",
+            ),
+            None => Different("an unknown mark").into(),
+        },
+        [b"outside", mark, _] => match Mark::named(mark) {
+            Some(mark) => demanded(refused.is_some(), Outside(mark), "refused by the Rust and by document 01"),
+            None => Different("an unknown mark").into(),
+        },
+        [b"shim", _] => demanded(refused.is_some(), RefusedOnShim, "refused by the shim and by document 01"),
+        [number] if refusal(number, LAST_OF_READING).is_some() => {
+            demanded(refused.is_some(), Refused, "refused by the Rust")
+        }
+        _ => Different("no answer of the Rust").into(),
+    }
+}
+
+fn untouched(number: u32, room: usize) -> Vec<u8> {
+    let buffer = if room == 0 { "-".to_string() } else { "aa".repeat(room) };
+    format!("{} 0 0 {}", number, buffer).into_bytes()
+}
+
+fn judge_writing(request: &[u8], oracle: &[u8], ours: &[u8]) -> Verdict {
+    let room = words(request).get(2).and_then(|room| from_decimal(room)).unwrap_or(0) as usize;
+    match words(oracle).as_slice() {
+        [b"outside", mark] => match Mark::named(mark) {
+            Some(mark) if ours == untouched(mark.number_written(), room) => mark_or_outside(mark),
+            Some(_) => Different("document 01 names the number"),
+            None => Different("an unknown mark"),
+        },
+        [b"0", ..] if oracle == ours => Accepted,
+        [b"0", ..] => Different("written bytes"),
+        [b"16", ..] if oracle == ours => Refused,
+        [b"16", ..] => Different("room and bytes needed"),
+        [number, ..] if refusal(number, LAST).is_some() => {
+            let number = words(ours).first().and_then(|number| refusal(number, LAST));
+            match number {
+                Some(number) if ours == untouched(number, room) => Refused,
+                _ => Different("refused by the Rust"),
+            }
+        }
+        _ => Different("no answer of the Rust"),
+    }
+}
+
+/// The page box, words four and five, is the port's own and is not compared.
+fn judge_bounds(oracle: &[u8], ours: &[u8]) -> Verdict {
+    let out_of_range = format!("15 {:016x} {:016x} 0 0", 0, 0);
+    match (words(oracle).as_slice(), words(ours).as_slice()) {
+        ([b"outside", b"range"], _) if ours == out_of_range.as_bytes() => Outside(Mark::Range),
+        ([b"outside", ..], _) => Different("document 01 names the number and bounds"),
+        ([b"0", lower, upper, _, _], [b"0", our_lower, our_upper, _, _]) => {
+            if lower == our_lower && upper == our_upper {
+                Accepted
+            } else {
+                Different("the bounds")
+            }
+        }
+        _ => Different("the answer"),
+    }
+}
+
+pub fn judge(request: &[u8], oracle: &[u8], ours: &[u8]) -> Judgement {
+    match request.first() {
+        Some(b'T' | b'F') => judge_reading(oracle, ours),
+        Some(b'W') => judge_writing(request, oracle, ours).into(),
+        Some(b'B') => judge_bounds(oracle, ours).into(),
+        _ => Different("a request the oracle does not know").into(),
+    }
+}

@@ -1,0 +1,79 @@
+// The unchanged Rust crate as judge: answers requests of INSPECT.md (T, F, W, B), one a line, one answer a line.
+// Answers outside document 01's domain of equality are marked. With --plain each mark gives way to document 01's number,
+// so that the program can stand in for the port when the comparison itself is tested.
+
+mod bounds;
+mod reading;
+mod record;
+mod writing;
+
+use std::io::{self, BufReader, BufWriter, Write};
+use std::panic::{self, AssertUnwindSafe};
+
+use protocol::{next_line, words};
+use record::Form;
+
+const LONGEST_REQUEST: usize = 4096;
+
+#[derive(Clone, Copy, PartialEq, Eq)]
+pub enum Style {
+    Marked,
+    Plain,
+}
+
+/// Runs a piece of the crate; a panic there becomes its message.
+pub fn caught<T>(run: impl FnOnce() -> T) -> Result<T, String> {
+    panic::catch_unwind(AssertUnwindSafe(run)).map_err(|payload| {
+        let message = payload
+            .downcast_ref::<String>()
+            .map(String::as_str)
+            .or_else(|| payload.downcast_ref::<&str>().copied())
+            .unwrap_or("without a message");
+        message.replace('\n', " ")
+    })
+}
+
+fn answer(request: &[u8], style: Style, out: &mut Vec<u8>) {
+    let request_words = words(request);
+    let answered = match request_words.as_slice() {
+        _ if request.len() > LONGEST_REQUEST => None,
+        [b"T", input] => reading::answer(input, Form::Text, style, out),
+        [b"F", input] => reading::answer(input, Form::Frame, style, out),
+        [b"W", rest @ ..] => writing::answer(rest, style, out),
+        [b"B", angle, blanks, limit] => bounds::answer(angle, blanks, limit, style, out),
+        _ => None,
+    };
+    if answered.is_none() {
+        out.extend_from_slice(b"bad request");
+    }
+    out.push(b'\n');
+}
+
+fn answer_all(style: Style) -> io::Result<()> {
+    let mut requests = BufReader::with_capacity(1 << 20, io::stdin());
+    let mut answers = BufWriter::with_capacity(1 << 20, io::stdout());
+    let (mut request, mut line) = (Vec::new(), Vec::new());
+    while next_line(&mut requests, &mut request)? {
+        line.clear();
+        answer(&request, style, &mut line);
+        answers.write_all(&line)?;
+    }
+    answers.flush()
+}
+
+fn main() {
+    let arguments: Vec<String> = std::env::args().skip(1).collect();
+    let style = match arguments.iter().map(String::as_str).collect::<Vec<_>>().as_slice() {
+        [] => Style::Marked,
+        ["--plain"] => Style::Plain,
+        _ => {
+            eprintln!("usage: oracle [--plain] <requests >answers");
+            std::process::exit(2);
+        }
+    };
+    panic::set_hook(Box::new(|_| {}));
+    if let Err(fault) = answer_all(style) {
+        eprintln!("oracle: {}", fault);
+        std::process::exit(1);
+    }
+}

@@ -1,0 +1,154 @@
+// What the programs of this folder share: hexadecimal, whole numbers, lines of a file, and the marks
+// that the oracle puts on answers outside document 01's domain of equality.
+
+use std::io::{self, BufRead};
+
+/// The longest line or frame that document 01 admits, and the longest output.
+pub const LONGEST: usize = 512;
+pub const LONGEST_CALLSIGN: usize = 16;
+pub const MOST_HOPS: usize = 8;
+pub const LATITUDE_LIMIT: i64 = 540_000;
+pub const LONGITUDE_LIMIT: i64 = 1_080_000;
+
+pub fn push_hex(out: &mut Vec<u8>, bytes: &[u8]) {
+    const DIGITS: &[u8; 16] = b"0123456789abcdef";
+    if bytes.is_empty() {
+        out.push(b'-');
+    }
+    for byte in bytes {
+        out.push(DIGITS[usize::from(byte >> 4)]);
+        out.push(DIGITS[usize::from(byte & 15)]);
+    }
+}
+
+fn nibble(digit: u8) -> Option<u8> {
+    match digit {
+        b'0'..=b'9' => Some(digit - b'0'),
+        b'a'..=b'f' => Some(digit - b'a' + 10),
+        _ => None,
+    }
+}
+
+/// The bytes that a lower-case hexadecimal word stands for; `-` stands for none.
+pub fn from_hex(word: &[u8]) -> Option<Vec<u8>> {
+    if word == b"-" {
+        return Some(Vec::new());
+    }
+    if word.is_empty() || word.len() % 2 == 1 {
+        return None;
+    }
+    word.chunks(2)
+        .map(|pair| Some(nibble(pair[0])? << 4 | nibble(pair[1])?))
+        .collect()
+}
+
+/// A decimal number: digits, with a dash before them if negative.
+pub fn from_decimal(word: &[u8]) -> Option<i64> {
+    let digits = word.strip_prefix(b"-").unwrap_or(word);
+    if !digits.iter().all(u8::is_ascii_digit) {
+        return None;
+    }
+    std::str::from_utf8(word).ok()?.parse().ok()
+}
+
+/// Degrees, minutes and hundredths of the size of an angle.
+pub fn dmh_of(angle: i64) -> (u32, u32, u32) {
+    let size = angle.unsigned_abs() as u32;
+    (size / 6000, size % 6000 / 100, size % 100)
+}
+
+pub fn words(line: &[u8]) -> Vec<&[u8]> {
+    line.split(|byte| *byte == b' ').collect()
+}
+
+/// Reads the next line, without its end, into `line`; false at the end of the input.
+pub fn next_line(input: &mut impl BufRead, line: &mut Vec<u8>) -> io::Result<bool> {
+    line.clear();
+    if input.read_until(b'\n', line)? == 0 {
+        return Ok(false);
+    }
+    if line.last() == Some(&b'\n') {
+        line.pop();
+    }
+    Ok(true)
+}
+
+/// Why an input, or a record to be written, lies outside the domain of equality.
+#[derive(Clone, Copy, Debug, PartialEq, Eq)]
+pub enum Mark {
+    TooLong,
+    CallsignLength,
+    Hops,
+    QElement,
+    BodyKind,
+    Digits,
+    Range,
+    CallsignText,
+    SsidZero,
+    Parts,
+    Symbol,
+    MicE180,
+}
+
+impl Mark {
+    pub const ALL: [Mark; 12] = [
+        Mark::TooLong,
+        Mark::CallsignLength,
+        Mark::Hops,
+        Mark::QElement,
+        Mark::BodyKind,
+        Mark::Digits,
+        Mark::Range,
+        Mark::CallsignText,
+        Mark::SsidZero,
+        Mark::Parts,
+        Mark::Symbol,
+        Mark::MicE180,
+    ];
+
+    pub fn name(self) -> &'static str {
+        match self {
+            Mark::TooLong => "too-long",
+            Mark::CallsignLength => "callsign-length",
+            Mark::Hops => "hops",
+            Mark::QElement => "q-element",
+            Mark::BodyKind => "body-kind",
+            Mark::Digits => "digits",
+            Mark::Range => "range",
+            Mark::CallsignText => "callsign-text",
+            Mark::SsidZero => "ssid-zero",
+            Mark::Parts => "parts",
+            Mark::Symbol => "symbol",
+            Mark::MicE180 => "mic-e-180",
+        }
+    }
+
+    pub fn named(name: &[u8]) -> Option<Mark> {
+        Mark::ALL.into_iter().find(|mark| mark.name().as_bytes() == name)
+    }
+
+    /// The number that document 01 gives to a reader's input so marked; `Digits` is 8 or 9, as the place has it.
+    pub fn number_read(self) -> Option<u32> {
+        match self {
+            Mark::TooLong => Some(1),
+            Mark::CallsignLength => Some(4),
+            Mark::Hops => Some(5),
+            Mark::QElement => Some(6),
+            Mark::BodyKind => Some(7),
+            _ => None,
+        }
+    }
+
+    /// The number that document 01 gives to a record so marked when it is to be written or bounded.
+    pub fn number_written(self) -> u32 {
+        match self {
+            Mark::TooLong => 1,
+            _ => 15,
+        }
+    }
+
+    /// True for the two cases that document 01 itself lists as differences from the Rust.
+    pub fn is_listed_difference(self) -> bool {
+        matches!(self, Mark::Symbol | Mark::MicE180)
+    }
+}

@@ -1,0 +1,126 @@
+// Records made by hand, as the requests W of INSPECT.md.
+
+use protocol::push_hex;
+
+pub type Name = (Vec<u8>, Vec<u8>);
+
+pub const MESSAGES: [&str; 16] = [
+    "M0", "M1", "M2", "M3", "M4", "M5", "M6", "C0", "C1", "C2", "C3", "C4", "C5", "C6", "emergency", "unknown",
+];
+
+#[derive(Clone, Copy)]
+pub enum Form {
+    Text,
+    Frame,
+}
+
+#[derive(Clone)]
+pub struct Record {
+    pub form: Form,
+    pub room: usize,
+    pub comment: Vec<u8>,
+    pub kind: &'static str,
+    pub flag: usize,
+    pub from: Name,
+    pub to: Name,
+    pub hops: Vec<(Name, bool)>,
+    pub latitude: i64,
+    pub longitude: i64,
+    pub blanks: usize,
+    pub table: usize,
+    pub code: usize,
+    pub message: &'static str,
+    pub speed: i64,
+    pub course: i64,
+}
+
+pub fn name(call: &[u8], ssid: &[u8]) -> Name {
+    (call.to_vec(), ssid.to_vec())
+}
+
+impl Record {
+    pub fn good(kind: &'static str) -> Record {
+        let nothing = Record {
+            form: Form::Text,
+            room: 512,
+            comment: b"Hi".to_vec(),
+            kind,
+            flag: 0,
+            from: name(b"N0CALL", b"1"),
+            to: name(b"", b""),
+            hops: vec![(name(b"WIDE1", b"1"), true), (name(b"K1A", b""), false)],
+            latitude: 0,
+            longitude: 0,
+            blanks: 0,
+            table: 0,
+            code: 0,
+            message: "-",
+            speed: 0,
+            course: 0,
+        };
+        let placed = Record {
+            flag: 1,
+            latitude: 294_350,
+            longitude: -432_175,
+            table: 47,
+            code: 45,
+            ..nothing.clone()
+        };
+        match kind {
+            "unknown" => Record { to: name(b"APRS", b""), ..nothing },
+            "position" => Record { to: name(b"APRS", b""), ..placed },
+            _ => Record {
+                message: "M3",
+                speed: 20,
+                course: 251,
+                ..placed
+            },
+        }
+    }
+
+    pub fn request(&self) -> String {
+        format!(
+            "W {} {} {} {} {} {} {} {} {} {} {} {} {} {} {} {}",
+            match self.form {
+                Form::Text => "text",
+                Form::Frame => "frame",
+            },
+            self.room,
+            hex(&self.comment),
+            self.kind,
+            self.flag,
+            name_word(&self.from),
+            name_word(&self.to),
+            hops_word(&self.hops),
+            self.latitude,
+            self.longitude,
+            self.blanks,
+            self.table,
+            self.code,
+            self.message,
+            self.speed,
+            self.course
+        )
+    }
+}
+
+fn hex(bytes: &[u8]) -> String {
+    let mut word = Vec::new();
+    push_hex(&mut word, bytes);
+    String::from_utf8(word).expect("hexadecimal is ASCII")
+}
+
+fn name_word((call, ssid): &Name) -> String {
+    format!("{}/{}", hex(call), hex(ssid))
+}
+
+fn hops_word(hops: &[(Name, bool)]) -> String {
+    if hops.is_empty() {
+        return "-".to_string();
+    }
+    let words: Vec<String> = hops
+        .iter()
+        .map(|(name, heard)| name_word(name) + if *heard { "*" } else { "" })
+        .collect();
+    words.join(",")
+}
