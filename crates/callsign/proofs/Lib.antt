@@ -1,0 +1,14 @@
+pub mod Unicode
+pub mod Numbers
+pub mod Bits
+pub mod Ranges
+pub mod Writes
+pub mod Texts
+pub mod Digits
+pub mod Characters
+pub mod Sends
+pub mod Made
+pub mod AddressBack
+pub mod TextBack
+pub mod Theorems
+pub mod Unique

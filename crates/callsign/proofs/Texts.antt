@@ -1,0 +1,147 @@
+-- Laws of a text read: `readUnstarred` and `readText` by the facts that the code's tests leave.
+-- Assumes nothing.
+use mathlib.Core.Path.{_≡_, refl, sym, ap, _∙_}
+use mathlib.Core.Bool.{Bool, true, false, not, cond}
+use mathlib.Core.List.{List, [], _∷_, _++_}
+use Prim.Native.Nat.{ℕ, zero, suc, _+_, _-_, _<_, _≤_}
+use native.Mathlib.Omega.{arith}
+use lib.Dec.{eqb}
+use borrow.Author.Tests.{eqb-false, eq-eqb, ne-eqb, lt-ltb, le-ltb, not-false}
+use lib.ListN.{length, take, drop, getD, length-drop, length-take}
+use lib.Seq.{length-take-le, getD-drop}
+use Rattle.laws.specs.Bytes.{star, dash, digit0}
+use Rattle.laws.specs.Lists.{indexOf, padTo}
+use Rattle.laws.proofs.Places.{index-split, index-le}
+use Rattle.callsign.specs.declared.CallRead.{CallRead}
+use Rattle.callsign.specs.Utf8.{utf8}
+use Rattle.callsign.specs.Text.{joined, callAs, made, isZero, callRefused, callAccepted, parted, readUnstarred, readText}
+use Rattle.callsign.proofs.Ranges.{zero-alone, not-zero, joined-full}
+
+-- ---- the two sides of a dash
+
+module _ (a b : List ℕ) (starred : Bool) where
+  parted-left : length a ≡ 0 → parted a b starred ≡ callRefused 3
+  unfolding parted
+  parted-left h = rw (eq-eqb (length a) 0 h)
+
+  module _ (h : length a ≡ 0 → ⊥) where
+    parted-right : length b ≡ 0 → parted a b starred ≡ callRefused 3
+    unfolding parted
+    parted-right k = rw (ne-eqb (length a) 0 h, eq-eqb (length b) 0 k)
+
+    module _ (k : length b ≡ 0 → ⊥) where
+      parted-zero : isZero b ≡ true → parted a b starred ≡ callAccepted (made a []) starred true
+      unfolding parted
+      parted-zero z = rw (ne-eqb (length a) 0 h, ne-eqb (length b) 0 k, z)
+
+      parted-kept : isZero b ≡ false → parted a b starred ≡ callAccepted (made a b) starred false
+      unfolding parted
+      parted-kept z = rw (ne-eqb (length a) 0 h, ne-eqb (length b) 0 k, z)
+
+module _ (r : CallRead) (a x : List ℕ) (n : ℕ) (starred z : Bool) (e : length a ≡ n) where
+  accepted-bare : x ≡ padTo 16 0 a → r ≡ callAccepted (callAs x n 0) starred z → r ≡ callAccepted (made a []) starred z
+  unfolding made joined
+  accepted-bare q w = w ∙ rw (q, ← e)
+
+  accepted-full : (b : List ℕ) (k : ℕ) → (length b ≡ 0 → ⊥) → length b ≡ k → x ≡ padTo 16 0 (a ++ dash ∷ b)
+      → r ≡ callAccepted (callAs x n k) starred z → r ≡ callAccepted (made a b) starred z
+  unfolding made
+  accepted-full b k h f q w = w ∙ rw (joined-full a b h, q, ← e, ← f)
+
+-- ---- the text without its star
+
+module _ (t : List ℕ) (starred : Bool) where
+  short : length t ≤ 16 → readUnstarred t starred ≡ cond (not (utf8 t)) (callRefused 3) (cond (eqb (indexOf dash t) (length t)) (callAccepted (made t []) starred false) (parted (take (indexOf dash t) t) (drop (suc (indexOf dash t)) t) starred))
+  unfolding readUnstarred
+  short h = rw (le-ltb 16 (length t) h)
+
+  pub too-long : (r : CallRead) → 16 < length t → r ≡ callRefused 4 → r ≡ readUnstarred t starred
+  unfolding readUnstarred
+  too-long r h e = rw (lt-ltb 16 (length t) h) e
+
+  pub no-utf8 : (r : CallRead) (u : Bool) → length t ≤ 16 → u ≡ utf8 t → not u ≡ true → r ≡ callRefused 3 → r ≡ readUnstarred t starred
+  no-utf8 r u h e n q = sym (short h ∙ rw (← e, n) (sym q))
+
+module _ (t : List ℕ) (starred u : Bool) (d : ℕ) (h : length t ≤ 16) (e : u ≡ utf8 t) (n : not u ≡ false) (f : d ≡ indexOf dash t) where
+  valid : utf8 t ≡ true
+  valid = sym e ∙ not-false u n
+
+  pub undashed : (r : CallRead) (x : List ℕ) → d ≡ length t → x ≡ padTo 16 0 t → r ≡ callAccepted (callAs x (length t) 0) starred false → r ≡ readUnstarred t starred
+  undashed r x w q s =
+      accepted-bare r t x (length t) starred false refl q s ∙ sym (short t starred h ∙ rw (valid, eq-eqb (indexOf dash t) (length t) (sym f ∙ w)))
+
+  module _ (i : d ≡ length t → ⊥) where
+    ssid-length : length (drop (suc (indexOf dash t)) t) ≡ length t - d - 1
+    ssid-length = rw length-drop (omega arith)
+
+    call-length : length (take (indexOf dash t) t) ≡ d
+    call-length = rw (length-take-le (indexOf dash t) t (index-le dash t)) (sym f)
+
+    at-parts : readUnstarred t starred ≡ parted (take (indexOf dash t) t) (drop (suc (indexOf dash t)) t) starred
+    at-parts = short t starred h ∙ rw (valid, ne-eqb (indexOf dash t) (length t) (λ k. i (f ∙ k)))
+
+    pub no-call : (r : CallRead) → d ≡ 0 → r ≡ callRefused 3 → r ≡ readUnstarred t starred
+    no-call r z q = q ∙ sym (at-parts ∙ parted-left _ _ starred (call-length ∙ z))
+
+    module _ (c : d ≡ 0 → ⊥) where
+      pub no-ssid : (r : CallRead) → length t - d - 1 ≡ 0 → r ≡ callRefused 3 → r ≡ readUnstarred t starred
+      no-ssid r z q = q ∙ sym (at-parts ∙ parted-right _ _ starred (λ k. c (sym call-length ∙ k)) (ssid-length ∙ z))
+
+      module _ (k : length t - d - 1 ≡ 0 → ⊥) where
+        first : getD (drop (suc (indexOf dash t)) t) 0 0 ≡ getD t (d + 1) 0
+        first = getD-drop (suc (indexOf dash t)) t 0 0 ∙ ap (λ (j : ℕ). getD t j 0) (omega arith)
+
+        pub ssid-zero : (r : CallRead) (x : List ℕ) → length t - d - 1 ≡ 1 → getD t (d + 1) 0 ≡ digit0 → x ≡ padTo 16 0 (take d t) → r ≡ callAccepted (callAs x d 0) starred true → r ≡ readUnstarred t starred
+        ssid-zero r x w z q s =
+            accepted-bare r (take (indexOf dash t) t) x d starred true call-length (q ∙ ap (λ (m : ℕ). padTo 16 0 (take m t)) f) s
+            ∙ sym (at-parts ∙ parted-zero _ _ starred (λ m. c (sym call-length ∙ m)) (λ m. k (sym ssid-length ∙ m)) (zero-alone _ (ssid-length ∙ w) (first ∙ z)))
+
+        ssid-kept : (r : CallRead) (x : List ℕ) → (length t - d - 1 ≡ 1 → getD t (d + 1) 0 ≡ digit0 → ⊥) → x ≡ padTo 16 0 t → r ≡ callAccepted (callAs x d (length t - d - 1)) starred false → r ≡ readUnstarred t starred
+        ssid-kept r x w q s =
+            let b : List ℕ = drop (suc (indexOf dash t)) t in
+            let there : length b ≡ 0 → ⊥ = λ m. k (sym ssid-length ∙ m) in
+            accepted-full r (take (indexOf dash t) t) x d starred false call-length b (length t - d - 1) there ssid-length
+            (q ∙ ap (λ (l : List ℕ). padTo 16 0 l) (index-split dash t (omega (arith, index-le dash t)))) s
+            ∙ sym (at-parts ∙ parted-kept _ b starred (λ m. c (sym call-length ∙ m)) there (not-zero b (λ o z. w (sym ssid-length ∙ o) (sym first ∙ z))))
+
+        pub ssid-long : (r : CallRead) (x : List ℕ) → (length t - d - 1 ≡ 1 → ⊥) → x ≡ padTo 16 0 t → r ≡ callAccepted (callAs x d (length t - d - 1)) starred false → r ≡ readUnstarred t starred
+        ssid-long r x w q = ssid-kept r x (λ a b. w a) q
+
+        pub ssid-other : (r : CallRead) (x : List ℕ) → (getD t (d + 1) 0 ≡ digit0 → ⊥) → x ≡ padTo 16 0 t → r ≡ callAccepted (callAs x d (length t - d - 1)) starred false → r ≡ readUnstarred t starred
+        ssid-other r x w q = ssid-kept r x (λ a b. w b) q
+
+-- ---- bounds on a place that was found
+
+module _ (t : List ℕ) (b d : ℕ) (f : d ≡ indexOf b t) where
+  pub found-le : d ≤ length t
+  found-le = omega (arith, index-le b t)
+
+  pub found-room : (d ≡ length t → ⊥) → 1 ≤ length t - d
+  found-room h = omega (arith, index-le b t)
+
+  pub found-part : d ≡ length (take d t)
+  found-part = sym (length-take-le d t found-le)
+
+pub part-le : (t : List ℕ) (d n : ℕ) → length t ≤ n → length (take d t) ≤ n
+part-le t d n h = rw length-take (omega arith)
+
+-- ---- the star
+
+module _ (s : List ℕ) (r : CallRead) where
+  pub unstarred : (getD s (length s - 1) 0 ≡ star → ⊥) → r ≡ readUnstarred s false → r ≡ readText s
+  unfolding readText
+  unstarred h e = rw (ne-eqb (getD s (length s - 1) 0) star h) e
+
+  pub starred : getD s (length s - 1) 0 ≡ star → r ≡ readUnstarred (take (length s - 1) s) true → r ≡ readText s
+  unfolding readText
+  starred h e = rw (eq-eqb (getD s (length s - 1) 0) star h) e
+
+no-last : (s : List ℕ) → length s ≡ 0 → getD s (length s - 1) 0 ≡ star → ⊥
+no-last [] h e = eqb-false 0 star refl e
+no-last (x ∷ s) h e = omega arith
+
+pub none-starred : (s : List ℕ) (r : CallRead) → length s ≡ 0 → r ≡ readUnstarred s false → r ≡ readText s
+none-starred s r h e = unstarred s r (no-last s h) e
+
+pub last-part : (s : List ℕ) → length s - 1 ≡ length (take (length s - 1) s)
+last-part s = sym (length-take-le (length s - 1) s (omega arith))

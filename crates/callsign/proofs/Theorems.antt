@@ -1,0 +1,57 @@
+-- What the definitions of a callsign amount to: read and written they agree, and what is read is in range.
+-- Assumes nothing.
+use mathlib.Core.Path.{_≡_, refl}
+use mathlib.Core.Bool.{Bool, true}
+use mathlib.Core.List.{List, [], _∷_}
+use Prim.Native.Nat.{ℕ}
+use Rattle.laws.specs.Bytes.{within, raised}
+use Rattle.laws.specs.Lists.{padTo, zeros}
+use Rattle.callsign.specs.declared.Callsign.{Callsign}
+use Rattle.callsign.specs.declared.Field.{Field}
+use Rattle.callsign.specs.declared.Field.the-variants.{Hop}
+use Rattle.callsign.specs.Utf8.{after, characters, utf8}
+use Rattle.callsign.specs.Text.{joined, made, isZero, readText}
+use Rattle.callsign.specs.Range.{callPart, ssidPart, textLen, isDashed, inRange, rangeRefusal}
+use Rattle.callsign.specs.Address.{ssidOf, heardOf, lastOf, onto, areSpaces, unpacked, ssidText, addressOf, readAddress}
+use Rattle.callsign.specs.Packed.{every, decimal, fitNumber, digitsNumber, ssidNumber, bit, upperBits, seventhOf, sent, packedAs, packedBy, writeAddress}
+use Rattle.callsign.proofs.Ranges.{accepted}
+use Rattle.callsign.proofs.Bits.{heardIn}
+use Rattle.callsign.proofs.Characters.{address-as}
+use Rattle.callsign.proofs.AddressBack as address
+use Rattle.callsign.proofs.TextBack as text
+
+-- an address that was written reads back: the call raised, the SSID's number as text, bit 7 as the field has it
+pub address-reads-back : (c : Callsign) (field : Field) (last : Bool) → writeAddress c field last .refusal ≡ 0
+    → readAddress (writeAddress c field last .bytes) ≡ address-as (address.inAddress c) (heardIn field) last
+address-reads-back = address.address-back
+
+-- whatever is read of an address is in range
+pub address-is-in-range : (b : List ℕ) → inRange (readAddress b .call) ≡ true
+address-is-in-range = address.address-range
+
+-- whatever is read of a text is in range, so it can be written
+pub text-is-in-range : (s : List ℕ) → inRange (readText s .call) ≡ true
+text-is-in-range = text.text-range
+
+pub text-can-be-written : (s : List ℕ) → rangeRefusal (readText s .call) ≡ 0
+text-can-be-written s = accepted (readText s .call) (text.text-range s)
+
+-- what an accepted text is written as, with the `-0` and the star that were reported, is that text
+pub text-is-kept : (s : List ℕ) → readText s .refusal ≡ 0 → text.asRead (readText s) ≡ s
+text-is-kept = text.text-back
+
+-- ---- P10: hop N0CALL-1, heard, last
+
+abbrev pub N0CALL-1 : Callsign
+N0CALL-1 = made (78 ∷ 48 ∷ 67 ∷ 65 ∷ 76 ∷ 76 ∷ []) (49 ∷ [])
+
+abbrev pub P10-bytes : List ℕ
+P10-bytes = 0x9c ∷ 0x60 ∷ 0x86 ∷ 0x82 ∷ 0x98 ∷ 0x98 ∷ 0xe3 ∷ []
+
+pub P10 : writeAddress N0CALL-1 (Hop true) true ≡ record { refusal = 0; bytes = P10-bytes }
+unfolding writeAddress inRange textLen callPart ssidPart isDashed utf8 characters after within zeros isZero made joined padTo ssidNumber digitsNumber fitNumber decimal every packedBy packedAs sent raised seventhOf upperBits bit
+P10 = refl
+
+pub P10-read : readAddress P10-bytes ≡ address-as N0CALL-1 true true
+unfolding readAddress addressOf unpacked onto areSpaces lastOf heardOf ssidOf ssidText within raised made joined padTo
+P10-read = refl

@@ -1,0 +1,55 @@
+-- Laws of the text written: the star, and the range in front.
+-- Assumes nothing.
+use mathlib.Core.Path.{_≡_, sym, ap, _∙_}
+use mathlib.Core.Bool.{Bool, true, false, not}
+use mathlib.Core.List.{List, [], _∷_, _++_}
+use Prim.Native.Nat.{ℕ, _+_, _≤_}
+use native.Mathlib.Omega.{arith}
+use borrow.Author.Tests.{not-true}
+use lib.ListN.{length, take, length-append}
+use lib.Seq.{length-take-le}
+use Rattle.laws.specs.Bytes.{star}
+use Rattle.laws.specs.Wrote.{Wrote, ends, refusedBy, overBy, wrote}
+use Rattle.laws.specs.declared.Answer.{Answer}
+use Rattle.laws.proofs.Wrote.{not-over, refuses}
+use Rattle.callsign.specs.declared.Callsign.{Callsign}
+use Rattle.callsign.specs.Range.{textLen, inRange, rangeRefusal, textOf, withStar}
+use Rattle.callsign.proofs.Ranges.{bare-length, full-length, found-in-range, text-in-use, accepted, rejected}
+
+-- ---- the star
+
+module _ (l out : List ℕ) (starred : Bool) (w : Wrote) where
+  pub with-star : starred ≡ true → length l ≤ 16 → w ≡ wrote (overBy 17 (l ++ star ∷ [])) (l ++ star ∷ []) out → w ≡ wrote 0 (withStar l starred) out
+  unfolding withStar
+  with-star s h e =
+      let fits : length (l ++ star ∷ []) ≤ 17 = omega (arith, length-append l (star ∷ [])) in
+      rw s (e ∙ ap (λ (r : ℕ). wrote r (l ++ star ∷ []) out) (not-over 17 (l ++ star ∷ []) fits))
+
+  pub without-star : starred ≡ false → w ≡ wrote 0 l out → w ≡ wrote 0 (withStar l starred) out
+  unfolding withStar
+  without-star s e = rw s e
+
+pub short-prefix : (l : List ℕ) (n m : ℕ) → length l ≡ m → n ≤ m → length (take n l) ≤ m
+short-prefix l n m e h = rw (length-take-le n l (omega arith)) h
+
+-- ---- the range in front
+
+module _ (c : Callsign) (u : Bool) (e : u ≡ inRange c) (starred : Bool) (out : List ℕ) where
+  pub text-refused : (r : Answer) → not u ≡ true → r ≡ refusedBy 15 → ends r out ≡ wrote (rangeRefusal c) (withStar (textOf c) starred) out
+  text-refused r h q =
+      rw q (refuses 15 (rangeRefusal c) (withStar (textOf c) starred) out (rejected c (sym e ∙ not-true u h)) (λ z. omega arith))
+
+  module _ (h : not u ≡ false) (long : length (c .text) ≡ 16) where
+    in-range : inRange c ≡ true
+    in-range = found-in-range c u e h
+
+    text-by : (w : Wrote) (n : ℕ) → textLen c ≡ n → w ≡ wrote 0 (withStar (take n (c .text)) starred) out → w ≡ wrote (rangeRefusal c) (withStar (textOf c) starred) out
+    text-by w n q r =
+        r ∙ ap (λ (l : List ℕ). wrote 0 (withStar l starred) out) (ap (λ (m : ℕ). take m (c .text)) (sym q) ∙ sym (text-in-use c in-range long))
+        ∙ ap (λ (k : ℕ). wrote k (withStar (textOf c) starred) out) (sym (accepted c in-range))
+
+    pub text-bare : (w : Wrote) → c .«ssid_len» ≡ 0 → w ≡ wrote 0 (withStar (take (c .«call_len») (c .text)) starred) out → w ≡ wrote (rangeRefusal c) (withStar (textOf c) starred) out
+    text-bare w k r = text-by w (c .«call_len») (bare-length c k) r
+
+    pub text-full : (w : Wrote) → (c .«ssid_len» ≡ 0 → ⊥) → w ≡ wrote 0 (withStar (take (c .«call_len» + 1 + c .«ssid_len») (c .text)) starred) out → w ≡ wrote (rangeRefusal c) (withStar (textOf c) starred) out
+    text-full w k r = text-by w (c .«call_len» + 1 + c .«ssid_len») (full-length c k) r

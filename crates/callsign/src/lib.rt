@@ -1,0 +1,590 @@
+// One callsign: its text read and written, its UTF-8 judged, and its AX.25 address unpacked and packed by
+// shifts and masks.
+ghost use mathlib.Core.Path.{_≡_};
+ghost use Prim.Native.Nat.{_≤_, _<_};
+ghost use lib.ListN.{length, take, drop};
+ghost use Rattle.laws.specs.Bytes.{isLetterOrDigit, raised};
+ghost use Rattle.laws.specs.Lists.{padTo, zeros};
+ghost use Rattle.laws.specs.Wrote.{ends, wrote};
+ghost use Rattle.callsign.specs.Utf8.{after, owed, utf8};
+ghost use Rattle.callsign.specs.Text.{callAs, made, blankCall, callRefused, callAccepted, readUnstarred, readText};
+ghost use Rattle.callsign.specs.Range.{inRange, rangeRefusal, sound, textOf, withStar};
+ghost use Rattle.callsign.specs.Address.{heardOf, lastOf, ssidOf, ssidText, addressRefused, readAddress};
+ghost use Rattle.callsign.specs.Packed.{digitsNumber, ssidNumber, upperBits, seventhOf, unwrittenBy, packedAs, writeAddress};
+
+// A callsign as it is written: call, dash and SSID in `text`, the rest of it zero. Without an SSID there is no dash.
+#[repr(C)]
+pub struct Callsign {
+    pub text: [u8; 16],
+    pub call_len: usize,
+    pub ssid_len: usize,
+}
+
+// What reading a text gives: the refusal's number or 0, the callsign, whether a star followed it, and whether its
+// SSID was a lone `0`, which is dropped.
+pub struct CallRead {
+    pub refusal: u8,
+    pub call: Callsign,
+    pub starred: bool,
+    pub zero: bool,
+}
+
+// What reading an address gives: the refusal's number or 0, the callsign, and the two flags of the seventh byte.
+pub struct AddressRead {
+    pub refusal: u8,
+    pub call: Callsign,
+    pub heard: bool,
+    pub last: bool,
+}
+
+// The field of a frame that an address goes into; a hop is heard or not.
+pub enum Field {
+    Destination,
+    Source,
+    Hop(bool),
+}
+
+// The seven bytes of an address, or the refusal's number and zeros.
+pub struct AddressWritten {
+    pub refusal: u8,
+    pub bytes: [u8; 7],
+}
+
+// ---- UTF-8
+
+// The bytes that a character's first byte asks for: how many, and the next one's lowest and highest value.
+struct Tails(u8, u8, u8);
+
+// What follows a first byte of 0x80 or more. One that starts no character asks for a byte from 1 to 0: there is none.
+fn after_first(b: u8) -> Tails
+    requires { ⌜ 0x80 ≤ b ⌝ }
+    ensures { λ r. ⌜ owed (r .0) (r .1) (r .2) ≡ after b ⌝ }
+{
+    if b < 0xc2 {
+        return Tails(1, 1, 0);
+    }
+    if b < 0xe0 {
+        return Tails(1, 0x80, 0xbf);
+    }
+    if b == 0xe0 {
+        return Tails(2, 0xa0, 0xbf);
+    }
+    if b == 0xed {
+        return Tails(2, 0x80, 0x9f);
+    }
+    if b < 0xf0 {
+        return Tails(2, 0x80, 0xbf);
+    }
+    if b == 0xf0 {
+        return Tails(3, 0x90, 0xbf);
+    }
+    if b < 0xf4 {
+        return Tails(3, 0x80, 0xbf);
+    }
+    if b == 0xf4 {
+        return Tails(3, 0x80, 0x8f);
+    }
+    Tails(1, 1, 0)
+}
+
+// Whether t is whole characters, whatever its bytes: `count` is how many the character begun still asks for.
+fn is_characters(t: &[u8]) -> bool
+    ensures { λ r. ⌜ r ≡ utf8 (now (t .entry)) ⌝ }
+{
+    let mut count: u8 = 0;
+    let mut lo: u8 = 0x80;
+    let mut hi: u8 = 0xbf;
+    let mut i: usize = 0;
+    while i < t.len() {
+        let b = t[i];
+        i += 1;
+        if count != 0 {
+            if b < lo {
+                return false;
+            }
+            if hi < b {
+                return false;
+            }
+            count -= 1;
+            lo = 0x80;
+            hi = 0xbf;
+            continue;
+        }
+        if b < 0x80 {
+            continue;
+        }
+        let next = after_first(b);
+        count = next.0;
+        lo = next.1;
+        hi = next.2;
+    }
+    count == 0
+}
+
+// Whether t is UTF-8. Plain ASCII takes one comparison a byte.
+fn is_utf8(t: &[u8]) -> bool
+    ensures { λ r. ⌜ r ≡ utf8 (now (t .entry)) ⌝ }
+{
+    let mut i: usize = 0;
+    while i < t.len() {
+        if 0x80 <= t[i] {
+            return is_characters(&t[i..]);
+        }
+        i += 1;
+    }
+    true
+}
+
+// ---- the text read
+
+// The bytes of t, and zeros up to 16.
+fn pad(t: &[u8]) -> [u8; 16]
+    requires { ⌜ length (now t) ≤ 16 ⌝ }
+    ensures { λ r. ⌜ r ≡ padTo 16 0 (now (t .entry)) ⌝ }
+{
+    let mut out = [0u8; 16];
+    let mut i: usize = 0;
+    while i < t.len() {
+        out[i] = t[i];
+        i += 1;
+    }
+    out
+}
+
+// The callsign with nothing in it.
+pub fn blank() -> Callsign
+    ensures { λ r. ⌜ r ≡ blankCall ⌝ }
+{
+    let text = [0u8; 16];
+    Callsign {
+        text,
+        call_len: 0,
+        ssid_len: 0,
+    }
+}
+
+fn refused(n: u8) -> CallRead
+    ensures { λ r. ⌜ r ≡ callRefused n ⌝ }
+{
+    let call = blank();
+    CallRead {
+        refusal: n,
+        call,
+        starred: false,
+        zero: false,
+    }
+}
+
+fn accepted(text: [u8; 16], n: usize, k: usize, starred: bool, zero: bool) -> CallRead
+    ensures { λ r. ⌜ r ≡ callAccepted (callAs text n k) starred zero ⌝ }
+{
+    let call = Callsign {
+        text,
+        call_len: n,
+        ssid_len: k,
+    };
+    CallRead {
+        refusal: 0,
+        call,
+        starred,
+        zero,
+    }
+}
+
+// Reads a text whose star, if it had one, is off.
+fn read_unstarred(t: &[u8], starred: bool) -> CallRead
+    ensures { λ r. ⌜ r ≡ readUnstarred (now (t .entry)) starred ⌝ }
+{
+    let n = t.len();
+    if 16 < n {
+        return refused(4);
+    }
+    if !is_utf8(t) {
+        return refused(3);
+    }
+    let d = laws::find(t, b'-');
+    if d == n {
+        let text = pad(t);
+        return accepted(text, n, 0, starred, false);
+    }
+    if d == 0 {
+        return refused(3);
+    }
+    let k = n - d - 1;
+    if k == 0 {
+        return refused(3);
+    }
+    if k == 1 {
+        if t[d + 1] == b'0' {
+            let text = pad(&t[..d]);
+            return accepted(text, d, 0, starred, true);
+        }
+    }
+    let text = pad(t);
+    accepted(text, d, k, starred, false)
+}
+
+// Reads a callsign's text: one star at its end comes off and is reported; refused with 4 or 3.
+pub fn read_text(s: &[u8]) -> CallRead
+    ensures { λ r. ⌜ r ≡ readText (now (s .entry)) ⌝ }
+{
+    let n = s.len();
+    if n == 0 {
+        return read_unstarred(s, false);
+    }
+    let m = n - 1;
+    if s[m] == b'*' {
+        read_unstarred(&s[..m], true)
+    } else {
+        read_unstarred(s, false)
+    }
+}
+
+// ---- the range, and the text written
+
+// Whether the bytes from n on are zero.
+fn is_spare(text: [u8; 16], n: usize) -> bool
+    requires { ⌜ n ≤ 16 ⌝ }
+    ensures { λ r. ⌜ r ≡ zeros (drop n text) ⌝ }
+{
+    let mut i = n;
+    while i < 16 {
+        if text[i] != 0 {
+            return false;
+        }
+        i += 1;
+    }
+    true
+}
+
+// Whether the first n bytes are UTF-8 and the others zero.
+fn is_sound(text: [u8; 16], n: usize) -> bool
+    requires { ⌜ n ≤ 16 ⌝ }
+    ensures { λ r. ⌜ r ≡ sound text n ⌝ }
+{
+    if is_utf8(&text[..n]) {
+        is_spare(text, n)
+    } else {
+        false
+    }
+}
+
+// Whether a callsign is in range. The dash is ASCII, so the text is judged whole where the definition judges call and
+// SSID each.
+pub fn in_range(c: Callsign) -> bool
+    ensures { λ r. ⌜ r ≡ inRange c ⌝ }
+{
+    let n = c.call_len;
+    let k = c.ssid_len;
+    let text = c.text;
+    if 16 < n {
+        return false;
+    }
+    if k == 0 {
+        return is_sound(text, n);
+    }
+    if 16 - n <= k {
+        return false;
+    }
+    if text[n] != b'-' {
+        return false;
+    }
+    if k != 1 {
+        return is_sound(text, n + 1 + k);
+    }
+    if text[n + 1] == b'0' {
+        return false;
+    }
+    is_sound(text, n + 1 + k)
+}
+
+// Writes the first n bytes of text, and a star where starred.
+fn write_starred(text: [u8; 16], n: usize, starred: bool, out: &mut [u8]) -> laws::Answer
+    requires { ⌜ n ≤ 16 ⌝ }
+    ensures { λ r. ⌜ ends r (now (out .exit)) ≡ wrote 0 (withStar (take n text) starred) (now (out .entry)) ⌝ }
+{
+    if starred {
+        laws::write_two(17, &text[..n], b"*", out)
+    } else {
+        laws::write(&text[..n], out)
+    }
+}
+
+// Writes a callsign as text, with a star after it where starred; refused with 15 or 16.
+pub fn write_text(c: Callsign, starred: bool, out: &mut [u8]) -> laws::Answer
+    ensures { λ r. ⌜ ends r (now (out .exit)) ≡ wrote (rangeRefusal c) (withStar (textOf c) starred) (now (out .entry)) ⌝ }
+{
+    if !in_range(c) {
+        return laws::refused(15);
+    }
+    let k = c.ssid_len;
+    let text = c.text;
+    if k == 0 {
+        let n = c.call_len;
+        write_starred(text, n, starred, out)
+    } else {
+        let n = c.call_len + 1 + k;
+        write_starred(text, n, starred, out)
+    }
+}
+
+// ---- one byte of an address
+
+// Whether the low bit is set: in the seventh byte, that the address is the last.
+pub fn last(b: u8) -> bool
+    ensures { λ r. ⌜ r ≡ lastOf b ⌝ }
+{
+    b & 0x01 != 0
+}
+
+// Whether bit 7 of the seventh byte is set.
+pub fn heard(b: u8) -> bool
+    ensures { λ r. ⌜ r ≡ heardOf b ⌝ }
+{
+    b & 0x80 != 0
+}
+
+// The SSID in bits 1 to 4 of the seventh byte.
+pub fn ssid(b: u8) -> u8
+    ensures { λ r. ⌜ r ≡ ssidOf b ⌝ }
+{
+    (b >> 1) & 0x0f
+}
+
+// Whether c is an ASCII letter or digit.
+pub fn letter_or_digit(c: u8) -> bool
+    ensures { λ r. ⌜ r ≡ isLetterOrDigit c ⌝ }
+{
+    ((b'0' <= c) & (c <= b'9')) | ((b'A' <= c) & (c <= b'Z')) | ((b'a' <= c) & (c <= b'z'))
+}
+
+// A small letter's capital, and any other byte as it is.
+pub fn capital(c: u8) -> u8
+    ensures { λ r. ⌜ r ≡ raised c ⌝ }
+{
+    if c < b'a' {
+        return c;
+    }
+    if b'z' < c {
+        return c;
+    }
+    c - 32
+}
+
+// ---- an address read
+
+// The callsign of the first n characters and an SSID's number, 0 for none.
+fn numbered(call: [u8; 6], n: usize, ssid: u8) -> Callsign
+    requires { ⌜ (n ≤ 6) × (ssid < 16) ⌝ }
+    ensures { λ r. ⌜ r ≡ made (take n call) (ssidText ssid) ⌝ }
+{
+    let mut text = pad(&call[..n]);
+    if ssid == 0 {
+        return Callsign {
+            text,
+            call_len: n,
+            ssid_len: 0,
+        };
+    }
+    text[n] = b'-';
+    if ssid < 10 {
+        text[n + 1] = b'0' + ssid;
+        return Callsign {
+            text,
+            call_len: n,
+            ssid_len: 1,
+        };
+    }
+    text[n + 1] = b'1';
+    text[n + 2] = b'0' + (ssid - 10);
+    Callsign {
+        text,
+        call_len: n,
+        ssid_len: 2,
+    }
+}
+
+// The callsign of an address's characters, the first `len` of `call`, and of the SSID in its seventh byte.
+pub fn address_call(call: [u8; 6], len: usize, seventh: u8) -> Callsign
+    ensures { λ r. ⌜ r ≡ made (take len call) (ssidText (ssidOf seventh)) ⌝ }
+{
+    let number = ssid(seventh);
+    if 6 < len {
+        return numbered(call, 6, number);
+    }
+    numbered(call, len, number)
+}
+
+fn no_address() -> AddressRead
+    ensures { λ r. ⌜ r ≡ addressRefused 3 ⌝ }
+{
+    let call = blank();
+    AddressRead {
+        refusal: 3,
+        call,
+        heard: false,
+        last: false,
+    }
+}
+
+// Reads the seven bytes of an address; any other number of bytes, or a byte out of place, is refused with 3.
+pub fn read_address(b: &[u8]) -> AddressRead
+    ensures { λ r. ⌜ r ≡ readAddress (now (b .entry)) ⌝ }
+{
+    if b.len() != 7 {
+        return no_address();
+    }
+    let mut call = [0u8; 6];
+    let mut n: usize = 0;
+    let mut space = false;
+    let mut i: usize = 0;
+    while i < 6 {
+        let d = b[i];
+        i += 1;
+        if last(d) {
+            return no_address();
+        }
+        let c = d >> 1;
+        if c == b' ' {
+            space = true;
+        } else {
+            if space {
+                return no_address();
+            }
+            if !letter_or_digit(c) {
+                return no_address();
+            }
+            call[n] = capital(c);
+            n += 1;
+        }
+    }
+    let s = b[6];
+    let made = address_call(call, n, s);
+    AddressRead {
+        refusal: 0,
+        call: made,
+        heard: heard(s),
+        last: last(s),
+    }
+}
+
+// ---- an address written
+
+// The number of an SSID's text, where it fits into four bits.
+enum Number {
+    Unfit,
+    Fits(u8),
+}
+
+fn digits_number(s: &[u8]) -> Number
+    ensures { λ r. ⌜ r ≡ digitsNumber (now (s .entry)) ⌝ }
+{
+    if s.len() == 0 {
+        return Number::Unfit;
+    }
+    let mut v: u8 = 0;
+    let mut i: usize = 0;
+    while i < s.len() {
+        let d = s[i];
+        if d < b'0' {
+            return Number::Unfit;
+        }
+        if b'9' < d {
+            return Number::Unfit;
+        }
+        v = v * 10 + (d - b'0');
+        if 15 < v {
+            return Number::Unfit;
+        }
+        i += 1;
+    }
+    Number::Fits(v)
+}
+
+// The number of an SSID's text: an optional `+`, then digits.
+fn ssid_number(s: &[u8]) -> Number
+    ensures { λ r. ⌜ r ≡ ssidNumber (now (s .entry)) ⌝ }
+{
+    if s.len() == 0 {
+        return Number::Fits(0);
+    }
+    if s[0] == b'+' {
+        digits_number(&s[1..])
+    } else {
+        digits_number(s)
+    }
+}
+
+// The three upper bits of the seventh byte.
+fn upper(field: Field) -> u8
+    ensures { λ r. ⌜ r ≡ upperBits field ⌝ }
+{
+    match field {
+        Field::Destination => 0b111,
+        Field::Source => 0b011,
+        Field::Hop(heard) => ((heard as u8) << 2) | 0b011,
+    }
+}
+
+// The seventh byte: three bits by the field, four of SSID, and the last flag.
+fn seventh(field: Field, ssid: u8, last: bool) -> u8
+    requires { ⌜ ssid < 16 ⌝ }
+    ensures { λ r. ⌜ r ≡ seventhOf field ssid last ⌝ }
+{
+    (upper(field) << 5) | (ssid << 1) | (last as u8)
+}
+
+fn unwritten(n: u8) -> AddressWritten
+    ensures { λ r. ⌜ r ≡ unwrittenBy n ⌝ }
+{
+    AddressWritten {
+        refusal: n,
+        bytes: [0u8; 7],
+    }
+}
+
+// The call's characters, spaces up to six, and the seventh byte.
+fn packed(call: &[u8], seventh: u8) -> AddressWritten
+    ensures { λ r. ⌜ r ≡ packedAs (now (call .entry)) seventh ⌝ }
+{
+    if 6 < call.len() {
+        return unwritten(13);
+    }
+    let mut bytes = [b' ' << 1; 7];
+    let mut i: usize = 0;
+    while i < call.len() {
+        let c = call[i];
+        if !letter_or_digit(c) {
+            return unwritten(13);
+        }
+        let u = capital(c);
+        bytes[i] = u << 1;
+        i += 1;
+    }
+    bytes[6] = seventh;
+    AddressWritten { refusal: 0, bytes }
+}
+
+// Writes the seven bytes of a callsign's address in a field of a frame; refused with 15 or 13.
+pub fn write_address(c: Callsign, field: Field, last: bool) -> AddressWritten
+    ensures { λ r. ⌜ r ≡ writeAddress c field last ⌝ }
+{
+    if !in_range(c) {
+        return unwritten(15);
+    }
+    let text = c.text;
+    let n = c.call_len;
+    let k = c.ssid_len;
+    if k == 0 {
+        let s = seventh(field, 0, last);
+        return packed(&text[..n], s);
+    }
+    let from = n + 1;
+    let to = from + k;
+    let number = ssid_number(&text[from..to]);
+    let Number::Fits(v) = number else {
+        return unwritten(13);
+    };
+    let s = seventh(field, v, last);
+    packed(&text[..n], s)
+}
