@@ -1,0 +1,124 @@
+-- Angles put together and taken apart. First the laws of a side and a size that callers cite, then the machine's signed
+-- numbers: an `i32` is taken apart by way of an `i64`.
+-- Assumes nothing.
+use mathlib.Core.Path.{_≡_, refl, sym, ap, subst, _∙_}
+use mathlib.Core.Bool.{Bool, true, false, false≢true}
+use Prim.Native.Nat.{ℕ, zero, suc, _≤_, _<_}
+use native.Mathlib.Omega.{arith}
+use borrow.Author.Tests.{ltb-true, lt-ltb, le-ltb}
+use lib.Dec.{T}
+use lib.IntN.{ℤ, pos, negsuc, negℤ, natAbs, _-ℤ_, +ℤ-idl}
+use lib.Signed.{ltZ, nonNeg}
+use mir.Syntax.{w32, w64}
+use mir.Val.{Fits, SFits, toZ, ofZ}
+use mir.Facts.{toZ-ofZ, toZ-pos, sfits-widen, fits-natAbs}
+use Rattle.lonlat.specs.Angle.{mostLongitude, signedOf, isMinus, longitudeOf}
+use Rattle.lonlat.specs.declared.LongitudeMade.the-variants.{Made, OutOfRange}
+
+-- ---- a side and a size
+
+-- the two parts give the angle back
+pub rejoined : (angle : ℤ) → signedOf (isMinus angle) (natAbs angle) ≡ angle
+unfolding signedOf isMinus
+rejoined (pos n) = refl
+rejoined (negsuc n) = refl
+
+pub size-signed : (minus : Bool) (size : ℕ) → natAbs (signedOf minus size) ≡ size
+unfolding signedOf
+size-signed false size = refl
+size-signed true zero = refl
+size-signed true (suc n) = refl
+
+-- the side is as it was said, but for 0
+pub side-signed : (minus : Bool) (size : ℕ) → 0 < size → isMinus (signedOf minus size) ≡ minus
+unfolding signedOf isMinus
+side-signed false size h = refl
+side-signed true zero h = absurd (omega arith)
+side-signed true (suc n) h = refl
+
+-- 0 on either side is plain 0
+pub zero-plain : (minus : Bool) → signedOf minus 0 ≡ pos 0
+unfolding signedOf
+zero-plain false = refl
+zero-plain true = refl
+
+pub size-below-zero : (angle : ℤ) → isMinus angle ≡ true → 0 < natAbs angle
+unfolding isMinus
+size-below-zero (pos n) e = absurd (false≢true e)
+size-below-zero (negsuc n) e = omega arith
+
+-- one size, and one side unless it is 0: one angle
+pub signed-one : (angle : ℤ) (minus : Bool) (size : ℕ) → natAbs angle ≡ size → isMinus angle ≡ minus → signedOf minus size ≡ angle
+signed-one angle minus size e f = ap (signedOf minus) (sym e) ∙ ap (λ (m : Bool). signedOf m (natAbs angle)) (sym f) ∙ rejoined angle
+
+pub longitude-made : (size : ℕ) (west : Bool) → size ≤ mostLongitude → longitudeOf size west ≡ Made (record { 0 = signedOf west size })
+unfolding longitudeOf
+longitude-made size west h = rw (le-ltb mostLongitude size h)
+
+pub longitude-out : (size : ℕ) (west : Bool) → mostLongitude < size → longitudeOf size west ≡ OutOfRange
+unfolding longitudeOf
+longitude-out size west h = rw (lt-ltb mostLongitude size h)
+
+-- ---- the machine's numbers: apart
+
+pub back : (z : ℤ) → SFits w32 z → toZ w32 (ofZ w32 z) ≡ z
+back z f = toZ-ofZ {w = w32} {z = z} f
+
+pub wider : (z : ℤ) → SFits w32 z → SFits w64 (toZ w32 (ofZ w32 z))
+wider z f = subst (SFits w64) (sym (back z f)) (sfits-widen {w = w32} {w′ = w64} tt f)
+
+wide-back : (z : ℤ) → SFits w32 z → toZ w64 (ofZ w64 (toZ w32 (ofZ w32 z))) ≡ z
+wide-back z f = toZ-ofZ {w = w64} {z = toZ w32 (ofZ w32 z)} (wider z f) ∙ back z f
+
+turned-fits : (z : ℤ) → SFits w32 z → SFits w64 (negℤ z)
+turned-fits (pos zero) f = record { sfits = omega arith }
+turned-fits (pos (suc n)) f = record { sfits = omega (arith, f .sfits) }
+turned-fits (negsuc n) f = record { sfits = omega (arith, f .sfits) }
+
+turned-is : (z : ℤ) → SFits w32 z → pos 0 -ℤ toZ w64 (ofZ w64 (toZ w32 (ofZ w32 z))) ≡ negℤ z
+turned-is z f = ap (λ (y : ℤ). pos 0 -ℤ y) (wide-back z f) ∙ +ℤ-idl (negℤ z)
+
+pub turned : (z : ℤ) → SFits w32 z → SFits w64 (pos 0 -ℤ toZ w64 (ofZ w64 (toZ w32 (ofZ w32 z))))
+turned z f = subst (SFits w64) (sym (turned-is z f)) (turned-fits z f)
+
+pub turned-back : (z : ℤ) → SFits w32 z → toZ w64 (ofZ w64 (pos 0 -ℤ toZ w64 (ofZ w64 (toZ w32 (ofZ w32 z))))) ≡ negℤ z
+turned-back z f = toZ-ofZ {w = w64} {z = pos 0 -ℤ toZ w64 (ofZ w64 (toZ w32 (ofZ w32 z)))} (turned z f) ∙ turned-is z f
+
+pub size-turned : (z : ℤ) → natAbs (negℤ z) ≡ natAbs z
+size-turned (pos zero) = refl
+size-turned (pos (suc n)) = refl
+size-turned (negsuc n) = refl
+
+-- what the test against 0 tells
+pub below-zero : (z : ℤ) → ltZ z (pos 0) ≡ true → nonNeg z ≡ false
+below-zero (pos n) e = absurd (let h : n < 0 = ltb-true n 0 e in omega arith)
+below-zero (negsuc n) e = refl
+
+pub not-below : (z : ℤ) → ltZ z (pos 0) ≡ false → nonNeg z ≡ true
+not-below (pos n) e = refl
+not-below (negsuc n) e = sym e
+
+pub turned-up : (z : ℤ) → nonNeg z ≡ false → T (nonNeg (negℤ z))
+turned-up (pos n) e = absurd (false≢true (sym e))
+turned-up (negsuc n) e = tt
+
+pub size-fits : (z : ℤ) → SFits w32 z → Fits w32 (natAbs z)
+size-fits z f = fits-natAbs {w = w32} {w′ = w32} tt f
+
+-- ---- the machine's numbers: together
+
+pub plain : (m : ℕ) → m ≤ mostLongitude → toZ w32 m ≡ pos m
+plain m h = toZ-pos w32 {n = m} (omega arith)
+
+minus-fits : (m : ℕ) → m ≤ mostLongitude → SFits w32 (negℤ (pos m))
+minus-fits zero h = record { sfits = omega arith }
+minus-fits (suc n) h = record { sfits = omega arith }
+
+minus-is : (m : ℕ) → m ≤ mostLongitude → pos 0 -ℤ toZ w32 m ≡ negℤ (pos m)
+minus-is m h = ap (λ (y : ℤ). pos 0 -ℤ y) (plain m h) ∙ +ℤ-idl (negℤ (pos m))
+
+pub minus-made : (m : ℕ) → m ≤ mostLongitude → SFits w32 (pos 0 -ℤ toZ w32 m)
+minus-made m h = subst (SFits w32) (sym (minus-is m h)) (minus-fits m h)
+
+pub minus-back : (m : ℕ) → m ≤ mostLongitude → toZ w32 (ofZ w32 (pos 0 -ℤ toZ w32 m)) ≡ negℤ (pos m)
+minus-back m h = toZ-ofZ {w = w32} {z = pos 0 -ℤ toZ w32 m} (minus-made m h) ∙ minus-is m h

@@ -1,0 +1,143 @@
+-- Laws of digit places: tests of every byte, the last places as one byte, and the value that digits write.
+-- Assumes nothing.
+use mathlib.Core.Path.{_≡_, refl, sym, ap, _∙_}
+use mathlib.Core.Bool.{Bool, true, false, false≢true, _&&_}
+use mathlib.Core.List.{List, [], _∷_, _++_}
+use Prim.Native.Nat.{ℕ, zero, suc, _+_, _-_, _*_, _/_, _%_, _^_, _<_, _≤_}
+use native.Mathlib.Nat.{pow-succ', pow-le-pow-right}
+use native.Mathlib.Numerals.{add-one}
+use native.Mathlib.Omega.{arith}
+use borrow.Author.Tests.{le-leb, lt-leb, leb-true}
+use lib.Dec.{leb}
+use lib.ListN.{length, take, drop, getD, replicate, length-append, length-replicate, getD-replicate, take-append-drop, length-drop}
+use lib.Seq.{length-take-le, take-at, getD-append-add}
+use Rattle.laws.specs.Bytes.{within, isDigit, digit0, digit9}
+use Rattle.laws.proofs.Lists.{next}
+use Rattle.lonlat.specs.Digits.{every, lastAs, numberAfter, numberOf, degreesOf, minutesOf, hundredthsOf, valueOf}
+
+-- ---- every byte
+
+module _ (test : ℕ → Bool) (t : List ℕ) (i : ℕ) where
+  -- a turn of a loop that tests each byte
+  pub every-more : i < length t → test (getD t i 0) ≡ true → every test t ≡ every test (drop i t) → every test t ≡ every test (drop (i + 1) t)
+  unfolding every
+  every-more h p e = e ∙ rw (next 0 t i h, p)
+
+  pub every-not : i < length t → test (getD t i 0) ≡ false → every test t ≡ every test (drop i t) → every test t ≡ false
+  unfolding every
+  every-not h p e = e ∙ rw (next 0 t i h, p)
+
+-- ---- the last n as b
+
+module _ (b n : ℕ) (t : List ℕ) (few : n ≤ length t) where
+  kept : length (take (length t - n) t) ≡ length t - n
+  kept = length-take-le (length t - n) t (omega arith)
+
+  pub last-length : length (lastAs b n t) ≡ length t
+  unfolding lastAs
+  last-length = length-append (take (length t - n) t) (replicate n b) ∙ rw (kept, length-replicate n b) (omega arith)
+
+  pub last-start : take (length t - n) (lastAs b n t) ≡ take (length t - n) t
+  unfolding lastAs
+  last-start = take-at (take (length t - n) t) (replicate n b) (length t - n) kept
+
+  pub last-is : (i : ℕ) → length t - n ≤ i → i < length t → getD (lastAs b n t) i 0 ≡ b
+  unfolding lastAs
+  last-is i h k =
+      let e : i ≡ length (take (length t - n) t) + (i - (length t - n)) = rw kept (omega arith) in
+      let l : i - (length t - n) < n = omega arith in
+      ap (λ (j : ℕ). getD (take (length t - n) t ++ replicate n b) j 0) e
+      ∙ getD-append-add (take (length t - n) t) (replicate n b) (i - (length t - n)) 0
+      ∙ getD-replicate n (i - (length t - n)) b 0 l
+
+-- ---- numbers
+
+pub digit-within : (b : ℕ) → digit0 ≤ b → b ≤ digit9 → isDigit b ≡ true
+unfolding within
+digit-within b h k = rw (le-leb digit0 b h, le-leb b digit9 k)
+
+pub digit-below : (b : ℕ) → b < digit0 → isDigit b ≡ false
+unfolding within
+digit-below b h = rw (lt-leb digit0 b h)
+
+pub digit-above : (b : ℕ) → digit9 < b → isDigit b ≡ false
+unfolding within
+digit-above b h = let l : digit0 ≤ b = omega arith in rw (le-leb digit0 b l, lt-leb b digit9 h)
+
+pub grows : (v i x : ℕ) → v < 10 ^ i → x ≤ 9 → 10 * v + x < 10 ^ (i + 1)
+grows v i x h k = rw (add-one i, pow-succ' 10 i) (omega arith)
+
+pub seven : (v i : ℕ) → v < 10 ^ i → i ≤ 7 → v < 10000000
+seven v i h k = let l : 10 ^ i ≤ 10 ^ 7 = pow-le-pow-right (omega arith) k in omega arith
+
+pub number-more : (t : List ℕ) (i v : ℕ) → i < length t → numberOf t ≡ numberAfter v (drop i t) → numberOf t ≡ numberAfter (10 * v + (getD t i 0 - digit0)) (drop (i + 1) t)
+unfolding numberAfter
+number-more t i v h e = e ∙ rw (next 0 t i h)
+
+pub record IsDigit (b : ℕ) : Type 0 where
+  pub low : digit0 ≤ b
+  pub high : b ≤ digit9
+
+pub a-digit : (b : ℕ) → isDigit b ≡ true → IsDigit b
+unfolding within
+a-digit b e = go (leb digit0 b) (leb b digit9) refl refl e
+  where
+    go : (p q : Bool) → leb digit0 b ≡ p → leb b digit9 ≡ q → (p && q) ≡ true → IsDigit b
+    go true true e f g = record { low = leb-true digit0 b e; high = leb-true b digit9 f }
+    go true false e f g = absurd (false≢true g)
+    go false q e f g = absurd (false≢true g)
+
+pub and-first : (p q : Bool) → (p && q) ≡ true → p ≡ true
+and-first true q e = refl
+and-first false q e = e
+
+pub and-second : (p q : Bool) → (p && q) ≡ true → q ≡ true
+and-second true q e = e
+and-second false q e = absurd (false≢true e)
+
+pub every-first : (test : ℕ → Bool) (b : ℕ) (t : List ℕ) → every test (b ∷ t) ≡ true → test b ≡ true
+unfolding every
+every-first test b t e = and-first (test b) (every test t) e
+
+pub every-rest : (test : ℕ → Bool) (b : ℕ) (t : List ℕ) → every test (b ∷ t) ≡ true → every test t ≡ true
+unfolding every
+every-rest test b t e = and-second (test b) (every test t) e
+
+pub every-drop : (test : ℕ → Bool) (k : ℕ) (t : List ℕ) → every test t ≡ true → every test (drop k t) ≡ true
+every-drop test zero t e = e
+every-drop test (suc k) [] e = e
+every-drop test (suc k) (b ∷ t) e = every-drop test k t (every-rest test b t e)
+
+number-append : (v : ℕ) (s t : List ℕ) → numberAfter v (s ++ t) ≡ numberAfter (numberAfter v s) t
+unfolding numberAfter
+number-append v [] t = refl
+number-append v (b ∷ s) t = number-append (10 * v + (b - digit0)) s t
+
+-- degrees d, and four digits behind them
+four : (d : ℕ) (t : List ℕ) → length t ≡ 4 → every isDigit t ≡ true
+    → 6000 * d + 100 * numberOf (take 2 t) + numberOf (drop 2 t) ≡ 6000 * (numberAfter d t / 10000) + numberAfter d t % 10000
+unfolding numberOf numberAfter
+four d [] h e = absurd (omega arith)
+four d (w ∷ []) h e = absurd (omega arith)
+four d (w ∷ x ∷ []) h e = absurd (omega arith)
+four d (w ∷ x ∷ y ∷ []) h e = absurd (omega arith)
+four d (w ∷ x ∷ y ∷ z ∷ []) h e =
+    let e₁ = every-rest isDigit w (x ∷ y ∷ z ∷ []) e in
+    let e₂ = every-rest isDigit x (y ∷ z ∷ []) e₁ in
+    let e₃ = every-rest isDigit y (z ∷ []) e₂ in
+    let dw = a-digit w (every-first isDigit w (x ∷ y ∷ z ∷ []) e) in
+    let dx = a-digit x (every-first isDigit x (y ∷ z ∷ []) e₁) in
+    let dy = a-digit y (every-first isDigit y (z ∷ []) e₂) in
+    let dz = a-digit z (every-first isDigit z [] e₃) in
+    omega arith
+four d (w ∷ x ∷ y ∷ z ∷ q ∷ t) h e = absurd (omega arith)
+
+-- the value by way of the one number that all digits write
+pub value-number : (t : List ℕ) → 4 ≤ length t → every isDigit t ≡ true → valueOf t ≡ 6000 * (numberOf t / 10000) + numberOf t % 10000
+unfolding valueOf degreesOf minutesOf hundredthsOf numberOf
+value-number t h e =
+    let k = length t - 4 in
+    let l : length (drop k t) ≡ 4 = rw (length-drop k t) (omega arith) in
+    let n : numberAfter (numberAfter 0 (take k t)) (drop k t) ≡ numberAfter 0 t = sym (number-append 0 (take k t) (drop k t)) ∙ ap (numberAfter 0) (take-append-drop k t) in
+    four (numberOf (take k t)) (drop k t) l (every-drop isDigit k t e)
+    ∙ ap (λ (v : ℕ). 6000 * (v / 10000) + v % 10000) n

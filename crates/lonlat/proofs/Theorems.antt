@@ -1,0 +1,221 @@
+-- What is read is in range, what is written reads back, and document 01's P12.
+-- Assumes nothing.
+use mathlib.Core.Path.{_≡_, refl, ap, _∙_}
+use mathlib.Core.Bool.{Bool, true, false, cond, _&&_}
+use mathlib.Core.List.{List, [], _∷_}
+use Prim.Native.Nat.{ℕ, _-_, _%_, _≤_}
+use native.Mathlib.Omega.{arith}
+use borrow.Author.Tests.{leb-true, le-leb, le-ltb}
+use lib.Dec.{eqb, leb, ltb}
+use lib.IntN.{ℤ, pos, natAbs}
+use lib.ListN.{length, getD}
+use Rattle.laws.specs.Bytes.{digit0, digit9, point, isDigit, within, capitalN, capitalS, capitalE, capitalW}
+use Rattle.laws.specs.Lists.{indexOf}
+use Rattle.lonlat.specs.Angle.{mostLatitude, mostLongitude, widthOf, cutTo, cutAngle, signedOf, isMinus}
+use Rattle.lonlat.specs.declared.AngleRead.{AngleRead}
+use Rattle.lonlat.specs.declared.AngleRead.the-variants.{Of, Bad}
+use Rattle.lonlat.specs.declared.Latitude.{Latitude}
+use Rattle.lonlat.specs.declared.Longitude.{Longitude}
+use Rattle.lonlat.specs.declared.LatitudeRead.the-variants as lat
+use Rattle.lonlat.specs.declared.LongitudeRead.the-variants as lon
+use Rattle.lonlat.specs.Digits.{every, lastAs, numberAfter, numberOf, degreesOf, minutesOf, hundredthsOf, valueOf, fits, angleIn, placesOf}
+use Rattle.lonlat.specs.Latitude.{blanksIn, restBlank, countedDigits, isNorthOrSouth, latitudeWith, latitudeIn, latitudePlaces, readLatitude, blankedPlaces, northOrSouth, latitudeText}
+use Rattle.lonlat.specs.Longitude.{isEastOrWest, longitudeWith, longitudeIn, longitudePlaces, readLongitude, eastOrWest, longitudeText}
+use Rattle.lonlat.proofs.Angle.{rejoined, size-signed}
+use Rattle.lonlat.proofs.Digits.{and-second}
+use Rattle.lonlat.proofs.Texts.{every-last, places-are, six-places, seven-places, blanked-six, blanked-latitude, latitude-of-text, longitude-of-text}
+use Rattle.lonlat.proofs.Cut.{latitude-cut, longitude-cut}
+
+-- ---- P12
+
+pub ninety-degrees : readLatitude (digit9 ∷ digit0 ∷ digit0 ∷ digit0 ∷ point ∷ digit0 ∷ digit0 ∷ capitalN ∷ []) ≡ lat.Read (record { 0 = pos 540000 }) 0 capitalN
+unfolding readLatitude latitudeIn restBlank blanksIn countedDigits indexOf every lastAs latitudeWith angleIn fits within valueOf degreesOf minutesOf hundredthsOf numberOf numberAfter signedOf
+ninety-degrees = refl
+
+pub sixty-minutes : readLatitude (0x38 ∷ digit9 ∷ 0x36 ∷ digit0 ∷ point ∷ digit0 ∷ digit0 ∷ capitalN ∷ []) ≡ lat.Read (record { 0 = pos 540000 }) 0 capitalN
+unfolding readLatitude latitudeIn restBlank blanksIn countedDigits indexOf every lastAs latitudeWith angleIn fits within valueOf degreesOf minutesOf hundredthsOf numberOf numberAfter signedOf
+sixty-minutes = refl
+
+pub past-ninety : readLatitude (digit9 ∷ digit0 ∷ digit0 ∷ digit0 ∷ point ∷ digit0 ∷ 0x31 ∷ capitalN ∷ []) ≡ lat.Refused
+unfolding readLatitude latitudeIn restBlank blanksIn countedDigits indexOf every lastAs latitudeWith angleIn fits within valueOf degreesOf minutesOf hundredthsOf numberOf numberAfter signedOf
+past-ninety = refl
+
+-- ---- what is read is in range
+
+fits-most : (most : ℕ) (t : List ℕ) → fits most t ≡ true → valueOf t ≤ most
+unfolding fits
+fits-most most t p = leb-true (valueOf t) most (and-second (every isDigit t) (leb (valueOf t) most) p)
+
+angle-most : (most : ℕ) (minus : Bool) (t : List ℕ) (z : ℤ) → angleIn most minus t ≡ Of z → natAbs z ≤ most
+unfolding angleIn
+angle-most most minus t z e = go (fits most t) refl e
+  where
+    same : (x y : ℤ) → Of x ≡ Of y → x ≡ y
+    same x y e = cc
+
+    go : (b : Bool) → fits most t ≡ b → cond b (Of (signedOf minus (valueOf t))) Bad ≡ Of z → natAbs z ≤ most
+    go true p q = rw (← same (signedOf minus (valueOf t)) z q, size-signed minus (valueOf t)) (fits-most most t p)
+    go false p q = absurd (let n : _≡_ {A = ℕ} 0 1 = cc in omega arith)
+
+pub record LatitudeFound (latitude : Latitude) (blanks letter : ℕ) : Type 0 where
+  pub near : natAbs (latitude .0) ≤ mostLatitude
+  pub few : blanks ≤ 5
+  pub side : isNorthOrSouth letter ≡ true
+
+module _ (latitude : Latitude) (blanks letter : ℕ) where
+  latitude-with : (n x : ℕ) (a : AngleRead) → ((z : ℤ) → a ≡ Of z → natAbs z ≤ mostLatitude) → n ≤ 5 → isNorthOrSouth x ≡ true
+      → latitudeWith n x a ≡ lat.Read latitude blanks letter → LatitudeFound latitude blanks letter
+  unfolding latitudeWith
+  latitude-with n x (Of z) m h e q =
+      let l : record { 0 = z } ≡ latitude = cc in
+      let b : n ≡ blanks = cc in
+      let y : x ≡ letter = cc in
+      record { near = rw (← l) (m z refl); few = rw (← b) h; side = rw (← y) e }
+  latitude-with n x Bad m h e q = absurd (let k : _≡_ {A = ℕ} 0 1 = cc in omega arith)
+
+  pub latitude-found : (t : List ℕ) (x : ℕ) → latitudeIn t x ≡ lat.Read latitude blanks letter → LatitudeFound latitude blanks letter
+  unfolding latitudeIn
+  latitude-found t x e = go (isNorthOrSouth x) refl (restBlank t) (leb (blanksIn t) 5) refl e
+    where
+      go : (p : Bool) → isNorthOrSouth x ≡ p → (q r : Bool) → leb (blanksIn t) 5 ≡ r
+          → cond (p && q && r) (latitudeWith (blanksIn t) x (angleIn mostLatitude (eqb x capitalS) (countedDigits t))) lat.Refused ≡ lat.Read latitude blanks letter
+          → LatitudeFound latitude blanks letter
+      go true i true true j g = latitude-with (blanksIn t) x (angleIn mostLatitude (eqb x capitalS) (countedDigits t)) (λ z. angle-most mostLatitude (eqb x capitalS) (countedDigits t) z) (leb-true (blanksIn t) 5 j) i g
+      go true i true false j g = absurd (let k : _≡_ {A = ℕ} 0 1 = cc in omega arith)
+      go true i false r j g = absurd (let k : _≡_ {A = ℕ} 0 1 = cc in omega arith)
+      go false i q r j g = absurd (let k : _≡_ {A = ℕ} 0 1 = cc in omega arith)
+
+  pub read-latitude-found : (s : List ℕ) → readLatitude s ≡ lat.Read latitude blanks letter → LatitudeFound latitude blanks letter
+  unfolding readLatitude
+  read-latitude-found s e = go (eqb (length s) 8 && eqb (getD s 4 0) point) e
+    where
+      go : (p : Bool) → cond p (latitudeIn (latitudePlaces s) (getD s 7 0)) lat.Refused ≡ lat.Read latitude blanks letter → LatitudeFound latitude blanks letter
+      go true g = latitude-found (latitudePlaces s) (getD s 7 0) g
+      go false g = absurd (let k : _≡_ {A = ℕ} 0 1 = cc in omega arith)
+
+pub record LongitudeFound (longitude : Longitude) (letter : ℕ) : Type 0 where
+  pub near : natAbs (longitude .0) ≤ mostLongitude
+  pub side : isEastOrWest letter ≡ true
+
+module _ (longitude : Longitude) (letter : ℕ) where
+  longitude-with : (x : ℕ) (a : AngleRead) → ((z : ℤ) → a ≡ Of z → natAbs z ≤ mostLongitude) → isEastOrWest x ≡ true
+      → longitudeWith x a ≡ lon.Read longitude letter → LongitudeFound longitude letter
+  unfolding longitudeWith
+  longitude-with x (Of z) m e q =
+      let l : record { 0 = z } ≡ longitude = cc in
+      let y : x ≡ letter = cc in
+      record { near = rw (← l) (m z refl); side = rw (← y) e }
+  longitude-with x Bad m e q = absurd (let k : _≡_ {A = ℕ} 0 1 = cc in omega arith)
+
+  pub longitude-found : (t : List ℕ) (x : ℕ) → longitudeIn t x ≡ lon.Read longitude letter → LongitudeFound longitude letter
+  unfolding longitudeIn
+  longitude-found t x e = go (isEastOrWest x) refl e
+    where
+      go : (p : Bool) → isEastOrWest x ≡ p → cond p (longitudeWith x (angleIn mostLongitude (eqb x capitalW) t)) lon.Refused ≡ lon.Read longitude letter → LongitudeFound longitude letter
+      go true i g = longitude-with x (angleIn mostLongitude (eqb x capitalW) t) (λ z. angle-most mostLongitude (eqb x capitalW) t z) i g
+      go false i g = absurd (let k : _≡_ {A = ℕ} 0 1 = cc in omega arith)
+
+  pub read-longitude-found : (s : List ℕ) (blanks : ℕ) → readLongitude s blanks ≡ lon.Read longitude letter → LongitudeFound longitude letter
+  unfolding readLongitude
+  read-longitude-found s blanks e = go (ltb 5 blanks) (eqb (length s) 9 && eqb (getD s 5 0) point) e
+    where
+      go : (p q : Bool) → cond p lon.OutOfRange (cond q (longitudeIn (lastAs digit0 blanks (longitudePlaces s)) (getD s 8 0)) lon.Refused) ≡ lon.Read longitude letter → LongitudeFound longitude letter
+      go true q g = absurd (let k : _≡_ {A = ℕ} 0 1 = cc in omega arith)
+      go false true g = longitude-found (lastAs digit0 blanks (longitudePlaces s)) (getD s 8 0) g
+      go false false g = absurd (let k : _≡_ {A = ℕ} 0 1 = cc in omega arith)
+
+-- up to five blanks are never out of range
+pub longitude-few : (s : List ℕ) (blanks : ℕ) → blanks ≤ 5 → readLongitude s blanks ≡ lon.OutOfRange → ⊥
+unfolding readLongitude longitudeIn longitudeWith
+longitude-few s blanks few e = with-digits (eqb (length s) 9 && eqb (getD s 5 0) point) (rw (le-ltb 5 blanks few) at e)
+  where
+    told : (x : ℕ) (a : AngleRead) → longitudeWith x a ≡ lon.OutOfRange → ⊥
+    told x (Of z) e = let k : _≡_ {A = ℕ} 0 1 = cc in omega arith
+    told x Bad e = let k : _≡_ {A = ℕ} 0 1 = cc in omega arith
+
+    lettered : (b : Bool) (x : ℕ) (a : AngleRead) → cond b (longitudeWith x a) lon.Refused ≡ lon.OutOfRange → ⊥
+    lettered true x a e = told x a e
+    lettered false x a e = let k : _≡_ {A = ℕ} 0 1 = cc in omega arith
+
+    with-digits : (b : Bool) → cond b (longitudeIn (lastAs digit0 blanks (longitudePlaces s)) (getD s 8 0)) lon.Refused ≡ lon.OutOfRange → ⊥
+    with-digits true e = lettered (isEastOrWest (getD s 8 0)) (getD s 8 0) (angleIn mostLongitude (eqb (getD s 8 0) capitalW) (lastAs digit0 blanks (longitudePlaces s))) e
+    with-digits false e = let k : _≡_ {A = ℕ} 0 1 = cc in omega arith
+
+-- ---- what is written reads back: cut to the width that the blanks leave
+
+places-angle : (most k n size : ℕ) (minus : Bool) → size ≤ most → valueOf (lastAs digit0 n (placesOf k size)) ≡ cutTo n size
+    → angleIn most minus (lastAs digit0 n (placesOf k size)) ≡ Of (signedOf minus (cutTo n size))
+unfolding angleIn fits cutTo within
+places-angle most k n size minus h e =
+    let l : size - size % widthOf n ≤ most = omega arith in
+    rw (every-last isDigit digit0 n (placesOf k size) refl (places-are k size), e, le-leb (size - size % widthOf n) most l)
+
+pub cut-multiple : (n size : ℕ) → size % widthOf n ≡ 0 → cutTo n size ≡ size
+unfolding cutTo
+cut-multiple n size h = omega arith
+
+-- the six places of a size and a letter: what Mic-E writes and reads
+pub latitude-back : (size blanks letter : ℕ) → size ≤ mostLatitude → blanks ≤ 5 → isNorthOrSouth letter ≡ true
+    → latitudeIn (blankedPlaces blanks size) letter ≡ lat.Read (record { 0 = signedOf (eqb letter capitalS) (cutTo blanks size) }) blanks letter
+unfolding blankedPlaces latitudeWith
+latitude-back size blanks letter h few e =
+    blanked-latitude (placesOf 2 size) (places-are 2 size) blanks (rw (six-places size) (omega arith)) few letter e
+    ∙ ap (latitudeWith blanks letter) (places-angle mostLatitude 2 blanks size (eqb letter capitalS) h (latitude-cut size h blanks few))
+
+module _ (angle : ℤ) where
+  north-or-south : isNorthOrSouth (northOrSouth angle) ≡ true
+  unfolding northOrSouth
+  north-or-south = go (isMinus angle)
+    where
+      go : (b : Bool) → isNorthOrSouth (cond b capitalS capitalN) ≡ true
+      go true = refl
+      go false = refl
+
+  south-minus : eqb (northOrSouth angle) capitalS ≡ isMinus angle
+  unfolding northOrSouth
+  south-minus = go (isMinus angle)
+    where
+      go : (b : Bool) → eqb (cond b capitalS capitalN) capitalS ≡ b
+      go true = refl
+      go false = refl
+
+  east-or-west : isEastOrWest (eastOrWest angle) ≡ true
+  unfolding eastOrWest
+  east-or-west = go (isMinus angle)
+    where
+      go : (b : Bool) → isEastOrWest (cond b capitalW capitalE) ≡ true
+      go true = refl
+      go false = refl
+
+  west-minus : eqb (eastOrWest angle) capitalW ≡ isMinus angle
+  unfolding eastOrWest
+  west-minus = go (isMinus angle)
+    where
+      go : (b : Bool) → eqb (cond b capitalW capitalE) capitalW ≡ b
+      go true = refl
+      go false = refl
+
+  pub cut-whole : (blanks : ℕ) → natAbs angle % widthOf blanks ≡ 0 → cutAngle blanks angle ≡ angle
+  unfolding cutAngle
+  cut-whole blanks h = ap (signedOf (isMinus angle)) (cut-multiple blanks (natAbs angle) h) ∙ rejoined angle
+
+  module _ (blanks : ℕ) (few : blanks ≤ 5) where
+    pub latitude-reads-cut : natAbs angle ≤ mostLatitude → readLatitude (latitudeText angle blanks) ≡ lat.Read (record { 0 = cutAngle blanks angle }) blanks (northOrSouth angle)
+    unfolding latitudeText cutAngle
+    latitude-reads-cut h =
+        latitude-of-text (blankedPlaces blanks (natAbs angle)) (northOrSouth angle) (blanked-six blanks (natAbs angle) (omega arith))
+        ∙ latitude-back (natAbs angle) blanks (northOrSouth angle) h few north-or-south
+        ∙ rw south-minus
+
+    pub latitude-reads-back : natAbs angle ≤ mostLatitude → natAbs angle % widthOf blanks ≡ 0 → readLatitude (latitudeText angle blanks) ≡ lat.Read (record { 0 = angle }) blanks (northOrSouth angle)
+    latitude-reads-back h w = latitude-reads-cut h ∙ ap (λ (z : ℤ). lat.Read (record { 0 = z }) blanks (northOrSouth angle)) (cut-whole blanks w)
+
+    pub longitude-reads-cut : natAbs angle ≤ mostLongitude → readLongitude (longitudeText angle) blanks ≡ lon.Read (record { 0 = cutAngle blanks angle }) (eastOrWest angle)
+    unfolding longitudeText cutAngle longitudeIn longitudeWith
+    longitude-reads-cut h =
+        longitude-of-text (placesOf 3 (natAbs angle)) (eastOrWest angle) (seven-places (natAbs angle)) blanks few
+        ∙ rw (east-or-west, places-angle mostLongitude 3 blanks (natAbs angle) (eqb (eastOrWest angle) capitalW) h (longitude-cut (natAbs angle) h blanks few), west-minus)
+
+  pub longitude-reads-back : natAbs angle ≤ mostLongitude → readLongitude (longitudeText angle) 0 ≡ lon.Read (record { 0 = angle }) (eastOrWest angle)
+  unfolding widthOf
+  longitude-reads-back h = longitude-reads-cut 0 (omega arith) h ∙ ap (λ (z : ℤ). lon.Read (record { 0 = z }) (eastOrWest angle)) (cut-whole 0 (omega arith))

@@ -1,0 +1,4 @@
+pub mod Angle
+pub mod Digits
+pub mod Latitude
+pub mod Longitude

@@ -1,0 +1,339 @@
+// Angles in whole hundredths of a minute: taken apart, put together, read from text and written to it.
+ghost use mathlib.Core.Path.{_≡_};
+ghost use Prim.Native.Nat.{_≤_};
+ghost use lib.ListN.{length};
+ghost use mathlib.Core.Bool.{cond, _||_};
+ghost use lib.Dec.{eqb};
+ghost use Rattle.laws.specs.Wrote.{ends, wrote};
+ghost use Rattle.lonlat.specs.Angle.{mostLongitude, signedOf, sidesOf, longitudeOf};
+ghost use Rattle.lonlat.specs.Digits.{every, lastAs, sizeOf, angleIn, digitOf, placesOf, textOf};
+ghost use Rattle.lonlat.specs.Latitude.{isBlank, keptOf, latitudeIn, readLatitude, blankedPlaces, latitudeText, latitudeRefusal};
+ghost use Rattle.lonlat.specs.Longitude.{longitudeIn, readLongitude, longitudeText, longitudeRefusal};
+
+// A latitude: signed hundredths of a minute, north positive.
+pub struct Latitude(pub i32);
+
+// A longitude: signed hundredths of a minute, east positive.
+pub struct Longitude(pub i32);
+
+// An angle taken apart: whether it lies south or west, and its size. 0 does not.
+pub struct Sides {
+    pub minus: bool,
+    pub size: u32,
+}
+
+// A longitude put together, or the refusal of one past 180 degrees.
+pub enum LongitudeMade {
+    Made(Longitude),
+    OutOfRange,
+}
+
+// The angle's side and size.
+pub fn parts(angle: i32) -> Sides
+    ensures { λ r. ⌜ r ≡ sidesOf angle ⌝ }
+{
+    if angle < 0 {
+        let turned = 0 - (angle as i64);
+        return Sides {
+            minus: true,
+            size: turned as u32,
+        };
+    }
+    Sides {
+        minus: false,
+        size: angle as u32,
+    }
+}
+
+// The angle of a side and a size.
+fn signed(size: u32, minus: bool) -> i32
+    requires { ⌜ size ≤ mostLongitude ⌝ }
+    ensures { λ r. ⌜ r ≡ signedOf minus size ⌝ }
+{
+    if minus {
+        0 - (size as i32)
+    } else {
+        size as i32
+    }
+}
+
+// The longitude of that size, east or west; 0 on either side is plain 0. Past 180 degrees it is out of range.
+pub fn longitude_of(size: u32, west: bool) -> LongitudeMade
+    ensures { λ r. ⌜ r ≡ longitudeOf size west ⌝ }
+{
+    if 1080000 < size {
+        return LongitudeMade::OutOfRange;
+    }
+    LongitudeMade::Made(Longitude(signed(size, west)))
+}
+
+// What digit places say together: hundredths of a minute.
+enum Size {
+    Hundredths(u32),
+    NoDigit,
+}
+
+// The value of the digits: all but the last four are degrees, then two of minutes and two of hundredths.
+fn value(t: &[u8]) -> Size
+    requires { ⌜ (4 ≤ length (now t)) × (length (now t) ≤ 7) ⌝ }
+    ensures { λ r. ⌜ r ≡ sizeOf (now (t .entry)) ⌝ }
+{
+    let mut v: u32 = 0;
+    let mut i: usize = 0;
+    while i < t.len() {
+        let b = t[i];
+        if b < b'0' {
+            return Size::NoDigit;
+        }
+        if b'9' < b {
+            return Size::NoDigit;
+        }
+        v = 10 * v + ((b - b'0') as u32);
+        i += 1;
+    }
+    Size::Hundredths(6000 * (v / 10000) + v % 10000)
+}
+
+// The last n bytes of t become b.
+fn last_as(b: u8, n: usize, t: &mut [u8])
+    requires { ⌜ n ≤ length (now t) ⌝ }
+    ensures { λ _. ⌜ now (t .exit) ≡ lastAs b n (now (t .entry)) ⌝ }
+{
+    let mut i = t.len() - n;
+    while i < t.len() {
+        t[i] = b;
+        i += 1;
+    }
+}
+
+// Whether t is nothing but blanks.
+fn blank(t: &[u8]) -> bool
+    ensures { λ r. ⌜ r ≡ every isBlank (now (t .entry)) ⌝ }
+{
+    let mut i: usize = 0;
+    while i < t.len() {
+        if t[i] != b' ' {
+            return false;
+        }
+        i += 1;
+    }
+    true
+}
+
+// How many places stand before the blanks that end t; 0 where a blank stands before another byte.
+fn kept_of(t: &[u8]) -> usize
+    ensures { λ r. ⌜ r ≡ keptOf (now (t .entry)) ⌝ }
+{
+    let kept = laws::find(t, b' ');
+    if blank(&t[kept..]) {
+        return kept;
+    }
+    0
+}
+
+// What digits say together with a side: the angle.
+enum AngleRead {
+    Of(i32),
+    Bad,
+}
+
+// The angle of digits, at most `most` in size.
+fn angle_in(most: u32, minus: bool, t: &[u8]) -> AngleRead
+    requires { ⌜ (4 ≤ length (now t)) × (length (now t) ≤ 7) × (most ≤ mostLongitude) ⌝ }
+    ensures { λ r. ⌜ r ≡ angleIn most minus (now (t .entry)) ⌝ }
+{
+    match value(t) {
+        Size::Hundredths(v) => {
+            if most < v {
+                return AngleRead::Bad;
+            }
+            AngleRead::Of(signed(v, minus))
+        }
+        Size::NoDigit => AngleRead::Bad,
+    }
+}
+
+// Whether the letter is one of two.
+fn either(letter: u8, a: u8, b: u8) -> bool
+    ensures { λ r. ⌜ r ≡ (eqb letter a || eqb letter b) ⌝ }
+{
+    if letter == a {
+        return true;
+    }
+    letter == b
+}
+
+// What eight bytes of latitude read as: the angle, its blanks, and the letter as it stands.
+pub enum LatitudeRead {
+    Read {
+        latitude: Latitude,
+        blanks: u8,
+        letter: u8,
+    },
+    Refused,
+}
+
+// Six digit places and a letter.
+fn latitude_in(places: [u8; 6], letter: u8) -> LatitudeRead
+    ensures { λ r. ⌜ r ≡ latitudeIn places letter ⌝ }
+{
+    if !either(letter, b'N', b'S') {
+        return LatitudeRead::Refused;
+    }
+    let kept = kept_of(&places);
+    if kept == 0 {
+        return LatitudeRead::Refused;
+    }
+    let blanks = 6 - kept;
+    let mut t = places;
+    last_as(b'0', blanks, &mut t);
+    match angle_in(540000, letter == b'S', &t) {
+        AngleRead::Of(angle) => LatitudeRead::Read {
+            latitude: Latitude(angle),
+            blanks: blanks as u8,
+            letter,
+        },
+        AngleRead::Bad => LatitudeRead::Refused,
+    }
+}
+
+// Reads `ddmm.hh` and N or S: exactly eight bytes, the last 0 to 5 digits blank.
+pub fn read_latitude(s: &[u8]) -> LatitudeRead
+    ensures { λ r. ⌜ r ≡ readLatitude (now (s .entry)) ⌝ }
+{
+    if s.len() != 8 {
+        return LatitudeRead::Refused;
+    }
+    if s[4] != b'.' {
+        return LatitudeRead::Refused;
+    }
+    latitude_in([s[0], s[1], s[2], s[3], s[5], s[6]], s[7])
+}
+
+// What nine bytes of longitude read as: the angle, and the letter as it stands. OutOfRange is for blanks past five.
+pub enum LongitudeRead {
+    Read { longitude: Longitude, letter: u8 },
+    Refused,
+    OutOfRange,
+}
+
+// Seven digits and a letter.
+fn longitude_in(t: &[u8; 7], letter: u8) -> LongitudeRead
+    ensures { λ r. ⌜ r ≡ longitudeIn (now (t .entry)) letter ⌝ }
+{
+    if !either(letter, b'E', b'W') {
+        return LongitudeRead::Refused;
+    }
+    match angle_in(1080000, letter == b'W', t) {
+        AngleRead::Of(angle) => LongitudeRead::Read {
+            longitude: Longitude(angle),
+            letter,
+        },
+        AngleRead::Bad => LongitudeRead::Refused,
+    }
+}
+
+// Reads `dddmm.hh` and E or W: exactly nine bytes, the last digits, as many as blanks says, taken as 0 whichever bytes
+// stand there. More than five blanks are out of range.
+pub fn read_longitude(s: &[u8], blanks: u8) -> LongitudeRead
+    ensures { λ r. ⌜ r ≡ readLongitude (now (s .entry)) blanks ⌝ }
+{
+    if 5 < blanks {
+        return LongitudeRead::OutOfRange;
+    }
+    if s.len() != 9 {
+        return LongitudeRead::Refused;
+    }
+    if s[5] != b'.' {
+        return LongitudeRead::Refused;
+    }
+    let mut t = [s[0], s[1], s[2], s[3], s[4], s[6], s[7]];
+    last_as(b'0', blanks as usize, &mut t);
+    longitude_in(&t, s[8])
+}
+
+// The character of the last digit of v.
+fn digit(v: u32) -> u8
+    ensures { λ r. ⌜ r ≡ digitOf v ⌝ }
+{
+    b'0' + (v % 10) as u8
+}
+
+// The text of a latitude's size, its last digits blank, and the letter.
+fn latitude_text(size: u32, blanks: usize, letter: u8) -> [u8; 8]
+    requires { ⌜ blanks ≤ 6 ⌝ }
+    ensures { λ r. ⌜ r ≡ textOf (blankedPlaces blanks size) letter ⌝ }
+{
+    let d = size / 6000;
+    let m = size / 100 % 60;
+    let mut t = [
+        digit(d / 10),
+        digit(d),
+        digit(m / 10),
+        digit(m),
+        digit(size % 100 / 10),
+        digit(size % 100),
+    ];
+    last_as(b' ', blanks, &mut t);
+    [t[0], t[1], t[2], t[3], b'.', t[4], t[5], letter]
+}
+
+// Writes `ddmm.hh` and N or S, the last digits blank, as many as blanks says: eight bytes. An angle past 90 degrees or
+// more than five blanks are 15, a buffer without room 16.
+pub fn write_latitude(l: Latitude, blanks: u8, out: &mut [u8]) -> laws::Answer
+    ensures { λ r. ⌜ ends r (now (out .exit)) ≡ wrote (latitudeRefusal (l .0) blanks) (latitudeText (l .0) blanks) (now (out .entry)) ⌝ }
+{
+    let sides = parts(l.0);
+    if 540000 < sides.size {
+        return laws::refused(15);
+    }
+    if 5 < blanks {
+        return laws::refused(15);
+    }
+    let letter = side_letter(sides.minus, b'N', b'S');
+    let text = latitude_text(sides.size, blanks as usize, letter);
+    laws::write(&text, out)
+}
+
+// The letter of a side.
+fn side_letter(minus: bool, plus: u8, other: u8) -> u8
+    ensures { λ r. ⌜ r ≡ cond minus other plus ⌝ }
+{
+    if minus {
+        return other;
+    }
+    plus
+}
+
+// The text of a longitude's size, and the letter.
+fn longitude_text(size: u32, letter: u8) -> [u8; 9]
+    ensures { λ r. ⌜ r ≡ textOf (placesOf 3 size) letter ⌝ }
+{
+    let d = size / 6000;
+    let m = size / 100 % 60;
+    let h = size % 100;
+    [
+        digit(d / 100),
+        digit(d / 10),
+        digit(d),
+        digit(m / 10),
+        digit(m),
+        b'.',
+        digit(h / 10),
+        digit(h),
+        letter,
+    ]
+}
+
+// Writes `dddmm.hh` and E or W, in full: nine bytes. An angle past 180 degrees is 15, a buffer without room 16.
+pub fn write_longitude(l: Longitude, out: &mut [u8]) -> laws::Answer
+    ensures { λ r. ⌜ ends r (now (out .exit)) ≡ wrote (longitudeRefusal (l .0)) (longitudeText (l .0)) (now (out .entry)) ⌝ }
+{
+    let sides = parts(l.0);
+    if 1080000 < sides.size {
+        return laws::refused(15);
+    }
+    let letter = side_letter(sides.minus, b'E', b'W');
+    let text = longitude_text(sides.size, letter);
+    laws::write(&text, out)
+}

@@ -1,0 +1,72 @@
+-- What is in range: the tests, and what they tell.
+-- Assumes nothing.
+use mathlib.Core.Path.{_≡_, ap, _∙_}
+use mathlib.Core.Bool.{Bool, true, false, not}
+use Prim.Native.Nat.{ℕ, _<_, _≤_}
+use borrow.Author.Tests.{le-leb, lt-leb, lt-ltb, le-ltb, leb-true, not-true, not-false}
+use lib.Dec.{leb, ltb}
+use lib.IntN.{ℤ, natAbs}
+use Rattle.lonlat.specs.Angle.{mostLatitude, mostLongitude, isMinus, sidesOf}
+use Rattle.lonlat.specs.declared.Sides.{Sides}
+use Rattle.lonlat.proofs.Digits.{and-first, and-second}
+use Rattle.position.specs.declared.Place.{Place}
+use Rattle.position.specs.Reach.{inReach}
+use Rattle.position.specs.Position.{placeInRange, symbolsInRange}
+
+pub reach-far : (most size blanks : ℕ) → most < size → false ≡ inReach most size blanks
+unfolding inReach
+reach-far most size blanks h = rw (lt-leb size most h)
+
+pub reach-blanks : (most size blanks : ℕ) → size ≤ most → leb blanks 5 ≡ inReach most size blanks
+unfolding inReach
+reach-blanks most size blanks h = rw (le-leb size most h)
+
+-- what the test tells
+module _ (most size blanks : ℕ) (e : inReach most size blanks ≡ true) where
+  pub reach-near : size ≤ most
+  unfolding inReach
+  reach-near = leb-true size most (and-first (leb size most) (leb blanks 5) e)
+
+  pub reach-few : blanks ≤ 5
+  unfolding inReach
+  reach-few = leb-true blanks 5 (and-second (leb size most) (leb blanks 5) e)
+
+-- p is the angle taken apart, z the angle as the code has it
+module _ (angle z : ℤ) (back : z ≡ angle) (p : Sides) (e : p ≡ sidesOf z) where
+  pub sized : p .size ≡ natAbs angle
+  unfolding sidesOf
+  sized = ap (λ (q : Sides). q .size) e ∙ ap natAbs back
+
+  pub sided : p .minus ≡ isMinus angle
+  unfolding sidesOf
+  sided = ap (λ (q : Sides). q .minus) e ∙ ap isMinus back
+
+  -- u is the test of the size
+  pub reach-sized : (most blanks : ℕ) (u : Bool) → u ≡ inReach most (p .size) blanks → u ≡ inReach most (natAbs angle) blanks
+  reach-sized most blanks u f = f ∙ ap (λ (s : ℕ). inReach most s blanks) sized
+
+module _ (p : Place) (u : Bool) (e : u ≡ inReach mostLatitude (natAbs (p .latitude .0)) (p .blanks)) where
+  pub place-far : not u ≡ true → false ≡ placeInRange p
+  unfolding placeInRange
+  place-far h = rw (← e, not-true u h)
+
+  pub place-near : not u ≡ false → (r : Bool) → r ≡ inReach mostLongitude (natAbs (p .longitude .0)) (p .blanks) → r ≡ placeInRange p
+  unfolding placeInRange
+  place-near h r f = rw (← e, not-false u h) f
+
+module _ (p : Place) (e : placeInRange p ≡ true) where
+  pub latitude-near : inReach mostLatitude (natAbs (p .latitude .0)) (p .blanks) ≡ true
+  unfolding placeInRange
+  latitude-near = and-first (inReach mostLatitude (natAbs (p .latitude .0)) (p .blanks)) (inReach mostLongitude (natAbs (p .longitude .0)) (p .blanks)) e
+
+  pub longitude-near : inReach mostLongitude (natAbs (p .longitude .0)) (p .blanks) ≡ true
+  unfolding placeInRange
+  longitude-near = and-second (inReach mostLatitude (natAbs (p .latitude .0)) (p .blanks)) (inReach mostLongitude (natAbs (p .longitude .0)) (p .blanks)) e
+
+pub table-fine : (p : Place) → p .table < 128 → ltb (p .code) 128 ≡ symbolsInRange p
+unfolding symbolsInRange
+table-fine p h = rw (lt-ltb (p .table) 128 h)
+
+pub table-high : (p : Place) → 128 ≤ p .table → false ≡ symbolsInRange p
+unfolding symbolsInRange
+table-high p h = rw (le-ltb (p .table) 128 h)

@@ -1,0 +1,195 @@
+-- What a position reads as is blank or in range, and what is written reads back.
+-- Assumes nothing.
+use mathlib.Core.Path.{_≡_, refl, sym, ap, _∙_}
+use mathlib.Core.Bool.{Bool, true, false, false≢true, cond, _||_}
+use mathlib.Core.List.{List, [], _∷_, _++_, append-assoc}
+use Prim.Native.Nat.{ℕ, _+_, _%_, _≤_}
+use native.Mathlib.Omega.{arith}
+use borrow.Author.Tests.{le-leb, le-ltb}
+use lib.Dec.{eqb, ltb}
+use lib.IntN.{natAbs}
+use lib.ListN.{length, take, drop, getD, length-append, List·getD-append}
+use lib.Seq.{take-at, drop-at, getD-at, getD-drop, getD-append-add}
+use Rattle.laws.specs.Bytes.{isDigit}
+use Rattle.lonlat.specs.Angle.{mostLatitude, mostLongitude, widthOf, cutAngle}
+use Rattle.lonlat.specs.Latitude.{readLatitude, latitudeNumber, northOrSouth, latitudeText}
+use Rattle.lonlat.specs.Longitude.{readLongitude, longitudeNumber, eastOrWest, longitudeText}
+use Rattle.lonlat.specs.declared.Latitude.{Latitude}
+use Rattle.lonlat.specs.declared.Longitude.{Longitude}
+use Rattle.lonlat.specs.declared.LatitudeRead.{LatitudeRead}
+use Rattle.lonlat.specs.declared.LatitudeRead.the-variants as lat
+use Rattle.lonlat.specs.declared.LongitudeRead.{LongitudeRead}
+use Rattle.lonlat.specs.declared.LongitudeRead.the-variants as lon
+use Rattle.lonlat.proofs.Texts.{latitude-text-length, latitude-text-first, longitude-text-length}
+use Rattle.lonlat.proofs.Theorems.{LatitudeFound, read-latitude-found, LongitudeFound, read-longitude-found, longitude-few, cut-whole, latitude-reads-cut, longitude-reads-cut}
+use Rattle.position.specs.declared.Place.{Place}
+use Rattle.position.specs.declared.PositionRead.{PositionRead}
+use Rattle.position.specs.Reach.{inReach}
+use Rattle.position.specs.Position.{fixedBytes, isNumeric, isUncompressed, refusedPosition, withLongitude, withLatitude, readPosition, placeInRange, positionText}
+use Rattle.position.proofs.Reach.{latitude-near, longitude-near, reach-near, reach-few}
+
+-- ---- every answer, by cases: a refusal, or a place with its letters
+
+abbrev pub isPositionRefusal : ℕ → Bool
+isPositionRefusal n = eqb n 7 || (eqb n 8 || (eqb n 9 || eqb n 10))
+
+abbrev placeOf : List ℕ → Latitude → Longitude → ℕ → Place
+placeOf s latitude longitude blanks = record { latitude = latitude; longitude = longitude; blanks = blanks; table = getD s 8 0; code = getD s 18 0 }
+
+module _ (P : PositionRead → Type 0) (s : List ℕ)
+    (blank : (n : ℕ) → isPositionRefusal n ≡ true → P (refusedPosition n))
+    (found : (latitude : Latitude) (longitude : Longitude) (blanks north east : ℕ) → LatitudeFound latitude blanks north → LongitudeFound longitude east
+    → P (record { refusal = 0; place = placeOf s latitude longitude blanks; north = north; east = east })) where
+  longitude-cases : (latitude : Latitude) (blanks north : ℕ) → LatitudeFound latitude blanks north
+      → (q : LongitudeRead) → readLongitude (take 9 (drop 9 s)) blanks ≡ q → P (withLongitude s latitude blanks north q)
+  unfolding withLongitude longitudeNumber
+  longitude-cases latitude blanks north l (lon.Read longitude east) e = found latitude longitude blanks north east l (read-longitude-found longitude east (take 9 (drop 9 s)) blanks e)
+  longitude-cases latitude blanks north l lon.Refused e = blank 9 refl
+  longitude-cases latitude blanks north l lon.OutOfRange e = absurd (longitude-few (take 9 (drop 9 s)) blanks (l .few) e)
+
+  latitude-cases : (q : LatitudeRead) → readLatitude (take 8 s) ≡ q → P (withLatitude s q)
+  unfolding withLatitude latitudeNumber
+  latitude-cases (lat.Read latitude blanks north) e =
+      longitude-cases latitude blanks north (read-latitude-found latitude blanks north (take 8 s) e) (readLongitude (take 9 (drop 9 s)) blanks) refl
+  latitude-cases lat.Refused e = blank 8 refl
+
+  pub position-cases : P (readPosition s)
+  unfolding readPosition
+  position-cases = go (isUncompressed s) (ltb (length s) fixedBytes)
+    where
+      go : (u v : Bool) → P (cond u (cond v (refusedPosition 10) (withLatitude s (readLatitude (take 8 s)))) (refusedPosition 7))
+      go true true = blank 10 refl
+      go true false = latitude-cases (readLatitude (take 8 s)) refl
+      go false v = blank 7 refl
+
+-- a refusal is one of 7, 8, 9, 10, and leaves nothing
+pub record Answered (r : PositionRead) : Type 0 where
+  pub number : (r .refusal ≡ 0 → ⊥) → isPositionRefusal (r .refusal) ≡ true
+  pub nothing : (r .refusal ≡ 0 → ⊥) → r ≡ refusedPosition (r .refusal)
+  pub near : r .refusal ≡ 0 → placeInRange (r .place) ≡ true
+
+refusal-not-zero : (n : ℕ) → isPositionRefusal n ≡ true → n ≡ 0 → ⊥
+refusal-not-zero n e z = let k : isPositionRefusal 0 ≡ true = rw z at e in let f : false ≡ true = k in false≢true f
+
+found-near : (s : List ℕ) (latitude : Latitude) (longitude : Longitude) (blanks north east : ℕ) → LatitudeFound latitude blanks north → LongitudeFound longitude east
+    → placeInRange (placeOf s latitude longitude blanks) ≡ true
+unfolding placeInRange inReach
+found-near s latitude longitude blanks north east l m =
+    rw (le-leb (natAbs (latitude .0)) mostLatitude (l .near), le-leb blanks 5 (l .few), le-leb (natAbs (longitude .0)) mostLongitude (m .near))
+
+pub read-position-answered : (s : List ℕ) → Answered (readPosition s)
+read-position-answered s =
+    position-cases Answered s
+    (λ n e. record { number = λ h. e; nothing = λ h. refl; near = λ z. absurd (refusal-not-zero n e z) })
+    (λ latitude longitude blanks north east l m. record { number = λ h. absurd (h refl); nothing = λ h. absurd (h refl); near = λ z. found-near s latitude longitude blanks north east l m })
+
+-- ---- what is written reads back
+
+-- a place with its angles cut to the width that the blanks leave
+abbrev pub cutPlace : Place → Place
+cutPlace p = record {
+  latitude = record { 0 = cutAngle (p .blanks) (p .latitude .0) };
+  longitude = record { 0 = cutAngle (p .blanks) (p .longitude .0) };
+  blanks = p .blanks;
+  table = p .table;
+  code = p .code;
+}
+
+-- a text of 8 bytes, one byte, a text of 9, one byte, and the rest
+module _ (n : List ℕ) (t : ℕ) (e : List ℕ) (c : ℕ) (rest : List ℕ) (eight : length n ≡ 8) (nine : length e ≡ 9) where
+  whole : List ℕ
+  whole = n ++ (t ∷ e ++ (c ∷ rest))
+
+  whole-long : fixedBytes ≤ length whole
+  unfolding whole
+  whole-long = rw (length-append n (t ∷ e ++ (c ∷ rest)), length-append e (c ∷ rest)) (omega arith)
+
+  whole-first : getD whole 0 0 ≡ getD n 0 0
+  unfolding whole
+  whole-first = List·getD-append n (t ∷ e ++ (c ∷ rest)) 0 0 (omega arith)
+
+  whole-north : take 8 whole ≡ n
+  unfolding whole
+  whole-north = take-at n (t ∷ e ++ (c ∷ rest)) 8 eight
+
+  whole-table : getD whole 8 0 ≡ t
+  unfolding whole
+  whole-table = ap (λ (i : ℕ). getD (n ++ (t ∷ e ++ (c ∷ rest))) i 0) (sym eight ∙ omega arith) ∙ getD-append-add n (t ∷ e ++ (c ∷ rest)) 0 0
+
+  past-table : drop 9 whole ≡ e ++ (c ∷ rest)
+  unfolding whole
+  past-table =
+      ap (drop 9) (sym (append-assoc n (t ∷ []) (e ++ (c ∷ rest))))
+      ∙ drop-at (n ++ (t ∷ [])) (e ++ (c ∷ rest)) 9 (length-append n (t ∷ []) ∙ rw eight)
+
+  whole-east : take 9 (drop 9 whole) ≡ e
+  whole-east = ap (take 9) past-table ∙ take-at e (c ∷ rest) 9 nine
+
+  whole-code : getD whole 18 0 ≡ c
+  whole-code = sym (getD-drop 9 whole 9 0) ∙ ap (λ (l : List ℕ). getD l 9 0) past-table ∙ getD-at e c rest 0 9 nine
+
+-- a place read from text whose parts are known
+parts-read : (s : List ℕ) (latitude : Latitude) (longitude : Longitude) (blanks north east : ℕ) → isUncompressed s ≡ true → fixedBytes ≤ length s
+    → readLatitude (take 8 s) ≡ lat.Read latitude blanks north → readLongitude (take 9 (drop 9 s)) blanks ≡ lon.Read longitude east
+    → readPosition s ≡ record { refusal = 0; place = placeOf s latitude longitude blanks; north = north; east = east }
+unfolding readPosition withLatitude withLongitude
+parts-read s latitude longitude blanks north east u l e f = rw (u, le-ltb (length s) fixedBytes l, e, f)
+
+numeric-digit : (s : List ℕ) (b : ℕ) → getD s 0 0 ≡ b → isDigit b ≡ true → isUncompressed s ≡ true
+unfolding isUncompressed isNumeric
+numeric-digit s b e d = rw (e, d)
+
+module _ (p : Place) (near : placeInRange p ≡ true) (comment : List ℕ) where
+  few : p .blanks ≤ 5
+  few = reach-few mostLatitude (natAbs (p .latitude .0)) (p .blanks) (latitude-near p near)
+
+  n : List ℕ
+  n = latitudeText (p .latitude .0) (p .blanks)
+
+  e : List ℕ
+  e = longitudeText (p .longitude .0)
+
+  eight : length n ≡ 8
+  unfolding n
+  eight = latitude-text-length (p .latitude .0) (p .blanks) (omega (arith, few))
+
+  nine : length e ≡ 9
+  unfolding e
+  nine = longitude-text-length (p .longitude .0)
+
+  s : List ℕ
+  s = whole n (p .table) e (p .code) comment eight nine
+
+  text-whole : positionText p ++ comment ≡ s
+  unfolding positionText whole s n e
+  text-whole = append-assoc n (p .table ∷ e ++ (p .code ∷ [])) comment ∙ ap {B = List ℕ} (λ l. n ++ (p .table ∷ l)) (append-assoc e (p .code ∷ []) comment)
+
+  north-read : readLatitude (take 8 s) ≡ lat.Read (record { 0 = cutAngle (p .blanks) (p .latitude .0) }) (p .blanks) (northOrSouth (p .latitude .0))
+  unfolding s n
+  north-read =
+      ap readLatitude (whole-north n (p .table) e (p .code) comment eight nine)
+      ∙ latitude-reads-cut (p .latitude .0) (p .blanks) few (reach-near mostLatitude (natAbs (p .latitude .0)) (p .blanks) (latitude-near p near))
+
+  east-read : readLongitude (take 9 (drop 9 s)) (p .blanks) ≡ lon.Read (record { 0 = cutAngle (p .blanks) (p .longitude .0) }) (eastOrWest (p .longitude .0))
+  unfolding s e
+  east-read =
+      ap (λ (l : List ℕ). readLongitude l (p .blanks)) (whole-east n (p .table) e (p .code) comment eight nine)
+      ∙ longitude-reads-cut (p .longitude .0) (p .blanks) few (reach-near mostLongitude (natAbs (p .longitude .0)) (p .blanks) (longitude-near p near))
+
+  starts : isUncompressed s ≡ true
+  unfolding s n
+  starts = numeric-digit s (getD n 0 0) (whole-first n (p .table) e (p .code) comment eight nine) (latitude-text-first (p .latitude .0) (p .blanks) few)
+
+  -- what is written, and a comment behind it, reads as the place cut to the width that its blanks leave
+  pub position-reads-cut : readPosition (positionText p ++ comment)
+      ≡ record { refusal = 0; place = cutPlace p; north = northOrSouth (p .latitude .0); east = eastOrWest (p .longitude .0) }
+  unfolding s
+  position-reads-cut =
+      rw text-whole
+      (parts-read s _ _ (p .blanks) (northOrSouth (p .latitude .0)) (eastOrWest (p .longitude .0)) starts (whole-long n (p .table) e (p .code) comment eight nine) north-read east-read
+      ∙ rw (whole-table n (p .table) e (p .code) comment eight nine, whole-code n (p .table) e (p .code) comment eight nine))
+
+  -- as the place itself, where both angles are multiples of that width
+  pub position-reads-back : natAbs (p .latitude .0) % widthOf (p .blanks) ≡ 0 → natAbs (p .longitude .0) % widthOf (p .blanks) ≡ 0
+      → readPosition (positionText p ++ comment) ≡ record { refusal = 0; place = p; north = northOrSouth (p .latitude .0); east = eastOrWest (p .longitude .0) }
+  position-reads-back h k = position-reads-cut ∙ rw (cut-whole (p .latitude .0) (p .blanks) h, cut-whole (p .longitude .0) (p .blanks) k)

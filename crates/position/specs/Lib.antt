@@ -1,0 +1,4 @@
+pub mod Reach
+pub mod Position
+pub mod Bounds
+pub mod Page

@@ -1,0 +1,78 @@
+-- An untimed uncompressed position, after its type byte (document 01, module 3): "8 bytes of latitude, table byte, 9 of
+-- longitude, code byte, comment." The comment is what follows those 19 bytes. Order of refusals: "Position: 7, 10, 8, 9."
+-- Assumes nothing.
+use Prim.Native.Nat.{ℕ}
+use mathlib.Core.Bool.{Bool, cond, _&&_, _||_}
+use mathlib.Core.List.{List, [], _∷_, _++_}
+use lib.Dec.{eqb, ltb}
+use lib.IntN.{pos, natAbs}
+use lib.ListN.{length, take, drop, getD}
+use Rattle.laws.specs.Bytes.{isDigit}
+use Rattle.lonlat.specs.Angle.{mostLatitude, mostLongitude}
+use Rattle.lonlat.specs.Latitude.{readLatitude, latitudeNumber, latitudeText}
+use Rattle.lonlat.specs.Longitude.{readLongitude, longitudeNumber, longitudeText}
+use Rattle.lonlat.specs.declared.Latitude.{Latitude}
+use Rattle.lonlat.specs.declared.LatitudeRead.{LatitudeRead}
+use Rattle.lonlat.specs.declared.LatitudeRead.the-variants as lat
+use Rattle.lonlat.specs.declared.LongitudeRead.{LongitudeRead}
+use Rattle.lonlat.specs.declared.LongitudeRead.the-variants as lon
+use Rattle.position.specs.declared.Place.{Place}
+use Rattle.position.specs.declared.PositionRead.{PositionRead}
+use Rattle.position.specs.Reach.{inReach}
+
+-- the bytes before the comment
+abbrev pub fixedBytes : ℕ
+fixedBytes = 19
+
+-- ---- read
+
+-- "a digit or one of b2 b3 b9 bc bd be, as `is_numeric` has it"
+unfoldable pub isNumeric : ℕ → Bool
+isNumeric b = isDigit b || (eqb b 0xb2 || (eqb b 0xb3 || (eqb b 0xb9 || (eqb b 0xbc || (eqb b 0xbd || eqb b 0xbe)))))
+
+-- "A position is uncompressed when its first byte (0 if none) is" one of those
+unfoldable pub isUncompressed : List ℕ → Bool
+isUncompressed s = isNumeric (getD s 0 0)
+
+-- nothing: all numbers 0
+abbrev pub noPlace : Place
+noPlace = record { latitude = record { 0 = pos 0 }; longitude = record { 0 = pos 0 }; blanks = 0; table = 0; code = 0 }
+
+abbrev pub refusedPosition : ℕ → PositionRead
+refusedPosition n = record { refusal = n; place = noPlace; north = 0; east = 0 }
+
+-- the place, with the letters of its angles as they stood
+unfoldable pub withLongitude : List ℕ → Latitude → ℕ → ℕ → LongitudeRead → PositionRead
+withLongitude s latitude blanks north (lon.Read longitude east) = record {
+  refusal = 0;
+  place = record { latitude = latitude; longitude = longitude; blanks = blanks; table = getD s 8 0; code = getD s 18 0 };
+  north = north;
+  east = east;
+}
+withLongitude s latitude blanks north lon.Refused = refusedPosition (longitudeNumber lon.Refused)
+withLongitude s latitude blanks north lon.OutOfRange = refusedPosition (longitudeNumber lon.OutOfRange)
+
+-- the latitude's blanks rule the longitude too
+unfoldable pub withLatitude : List ℕ → LatitudeRead → PositionRead
+withLatitude s (lat.Read latitude blanks north) = withLongitude s latitude blanks north (readLongitude (take 9 (drop 9 s)) blanks)
+withLatitude s lat.Refused = refusedPosition (latitudeNumber lat.Refused)
+
+-- 7, 10, 8, 9
+unfoldable pub readPosition : List ℕ → PositionRead
+readPosition s = cond (isUncompressed s) (cond (ltb (length s) fixedBytes) (refusedPosition 10) (withLatitude s (readLatitude (take 8 s)))) (refusedPosition 7)
+
+-- ---- written
+
+-- both angles and the blanks; of any kind of record that has a place
+unfoldable pub placeInRange : Place → Bool
+placeInRange p = inReach mostLatitude (natAbs (p .latitude .0)) (p .blanks) && inReach mostLongitude (natAbs (p .longitude .0)) (p .blanks)
+
+-- "a position symbol byte of 128 or more" is 15
+unfoldable pub symbolsInRange : Place → Bool
+symbolsInRange p = ltb (p .table) 128 && ltb (p .code) 128
+
+unfoldable pub positionRefusal : Place → ℕ
+positionRefusal p = cond (placeInRange p && symbolsInRange p) 0 15
+
+unfoldable pub positionText : Place → List ℕ
+positionText p = latitudeText (p .latitude .0) (p .blanks) ++ (p .table ∷ longitudeText (p .longitude .0) ++ (p .code ∷ []))

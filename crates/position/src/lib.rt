@@ -1,0 +1,394 @@
+// An untimed uncompressed position after its type byte: read and written; and of its angles the bounds in degrees and
+// the box for the page.
+ghost use mathlib.Core.Path.{_≡_};
+ghost use Prim.Native.Nat.{_≤_};
+ghost use lib.IntN.{pos, natAbs};
+ghost use mathlib.Core.Bool.{true};
+ghost use lib.ListN.{length, take, drop};
+ghost use Rattle.laws.specs.Bytes.{isDigit};
+ghost use Rattle.laws.specs.Wrote.{ends, wrote};
+ghost use Rattle.lonlat.specs.Angle.{mostLatitude, mostLongitude, widthOf};
+ghost use Rattle.lonlat.specs.Latitude.{latitudeText};
+ghost use Rattle.lonlat.specs.Longitude.{readLongitude, longitudeText};
+ghost use Rattle.position.specs.Reach.{inReach};
+ghost use Rattle.position.specs.Position.{fixedBytes, isNumeric, isUncompressed, refusedPosition, withLongitude, readPosition, placeInRange, symbolsInRange, positionRefusal, positionText};
+ghost use Rattle.position.specs.Bounds.{fromDmh, degreesOf, degreeWidth, rangeOf, boundsOf};
+ghost use Rattle.position.specs.Page.{boxOf};
+use lonlat::Latitude;
+use lonlat::LatitudeRead;
+use lonlat::Longitude;
+use lonlat::LongitudeRead;
+
+// Where something is: its angles, how many of their last digits are blank, and its symbol.
+pub struct Place {
+    pub latitude: Latitude,
+    pub longitude: Longitude,
+    pub blanks: u8,
+    pub table: u8,
+    pub code: u8,
+}
+
+// What a position reads as: the refusal's number or 0, the place, and the letters of its angles as they stood.
+pub struct PositionRead {
+    pub refusal: u8,
+    pub place: Place,
+    pub north: u8,
+    pub east: u8,
+}
+
+// A refusal: no place and no letters.
+fn refused_position(n: u8) -> PositionRead
+    ensures { λ r. ⌜ r ≡ refusedPosition n ⌝ }
+{
+    PositionRead {
+        refusal: n,
+        place: Place {
+            latitude: Latitude(0),
+            longitude: Longitude(0),
+            blanks: 0,
+            table: 0,
+            code: 0,
+        },
+        north: 0,
+        east: 0,
+    }
+}
+
+// Whether b is a digit.
+fn digit(b: u8) -> bool
+    ensures { λ r. ⌜ r ≡ isDigit b ⌝ }
+{
+    if b < b'0' {
+        return false;
+    }
+    b <= b'9'
+}
+
+// Whether b is numeric, taken as a character of Latin-1.
+fn numeric(b: u8) -> bool
+    ensures { λ r. ⌜ r ≡ isNumeric b ⌝ }
+{
+    if digit(b) {
+        return true;
+    }
+    if b == 0xb2 {
+        return true;
+    }
+    if b == 0xb3 {
+        return true;
+    }
+    if b == 0xb9 {
+        return true;
+    }
+    if b == 0xbc {
+        return true;
+    }
+    if b == 0xbd {
+        return true;
+    }
+    b == 0xbe
+}
+
+// Whether the first byte, 0 if there is none, starts an uncompressed position.
+fn uncompressed(s: &[u8]) -> bool
+    ensures { λ r. ⌜ r ≡ isUncompressed (now (s .entry)) ⌝ }
+{
+    if s.len() == 0 {
+        return false;
+    }
+    numeric(s[0])
+}
+
+// Goes on with the longitude.
+fn with_longitude(s: &[u8], latitude: Latitude, blanks: u8, north: u8) -> PositionRead
+    requires { ⌜ fixedBytes ≤ length (now s) ⌝ }
+    ensures { λ r. ⌜ r ≡ withLongitude (now (s .entry)) latitude blanks north (readLongitude (take 9 (drop 9 (now (s .entry)))) blanks) ⌝ }
+{
+    match lonlat::read_longitude(&s[9..18], blanks) {
+        LongitudeRead::Read { longitude, letter } => PositionRead {
+            refusal: 0,
+            place: Place {
+                latitude,
+                longitude,
+                blanks,
+                table: s[8],
+                code: s[18],
+            },
+            north,
+            east: letter,
+        },
+        LongitudeRead::Refused => refused_position(9),
+        LongitudeRead::OutOfRange => refused_position(15),
+    }
+}
+
+// Reads what follows `!` or `=`: 8 bytes of latitude, the table byte, 9 of longitude, the code byte; the comment is the rest,
+// from byte 19 on. Refuses 7, 10, 8, 9 in that order.
+pub fn read_position(s: &[u8]) -> PositionRead
+    ensures { λ r. ⌜ r ≡ readPosition (now (s .entry)) ⌝ }
+{
+    if !uncompressed(s) {
+        return refused_position(7);
+    }
+    if s.len() < 19 {
+        return refused_position(10);
+    }
+    match lonlat::read_latitude(&s[0..8]) {
+        LatitudeRead::Read {
+            latitude,
+            blanks,
+            letter,
+        } => with_longitude(s, latitude, blanks, letter),
+        LatitudeRead::Refused => refused_position(8),
+    }
+}
+
+// Whether an angle's size and its blanks are in range.
+fn in_reach(most: u32, size: u32, blanks: u8) -> bool
+    ensures { λ r. ⌜ r ≡ inReach most size blanks ⌝ }
+{
+    if most < size {
+        return false;
+    }
+    blanks <= 5
+}
+
+// Whether both angles and the blanks of a place are in range, whatever kind of record it is of.
+pub fn in_range(p: Place) -> bool
+    ensures { λ r. ⌜ r ≡ placeInRange p ⌝ }
+{
+    let latitude = p.latitude.0;
+    let north = lonlat::parts(latitude);
+    if !in_reach(540000, north.size, p.blanks) {
+        return false;
+    }
+    let longitude = p.longitude.0;
+    let east = lonlat::parts(longitude);
+    in_reach(1080000, east.size, p.blanks)
+}
+
+// Whether a position may have the symbol: both its bytes are below 128.
+pub fn symbols_in_range(p: Place) -> bool
+    ensures { λ r. ⌜ r ≡ symbolsInRange p ⌝ }
+{
+    if p.table < 128 {
+        return p.code < 128;
+    }
+    false
+}
+
+// The text of a latitude that is in range.
+fn latitude_bytes(l: Latitude, blanks: u8) -> [u8; 8]
+    requires { ⌜ inReach mostLatitude (natAbs (l .0)) blanks ≡ true ⌝ }
+    ensures { λ r. ⌜ r ≡ latitudeText (l .0) blanks ⌝ }
+{
+    let mut t = [0u8; 8];
+    lonlat::write_latitude(l, blanks, &mut t);
+    t
+}
+
+// The text of a longitude that is in range.
+fn longitude_bytes(l: Longitude) -> [u8; 9]
+    requires { ⌜ natAbs (l .0) ≤ mostLongitude ⌝ }
+    ensures { λ r. ⌜ r ≡ longitudeText (l .0) ⌝ }
+{
+    let mut t = [0u8; 9];
+    lonlat::write_longitude(l, &mut t);
+    t
+}
+
+// The 19 bytes of a place that is in range.
+fn position_bytes(p: Place) -> [u8; 19]
+    requires { ⌜ placeInRange p ≡ true ⌝ }
+    ensures { λ r. ⌜ r ≡ positionText p ⌝ }
+{
+    let latitude = p.latitude;
+    let longitude = p.longitude;
+    let n = latitude_bytes(latitude, p.blanks);
+    let e = longitude_bytes(longitude);
+    [
+        n[0],
+        n[1],
+        n[2],
+        n[3],
+        n[4],
+        n[5],
+        n[6],
+        n[7],
+        p.table,
+        e[0],
+        e[1],
+        e[2],
+        e[3],
+        e[4],
+        e[5],
+        e[6],
+        e[7],
+        e[8],
+        p.code,
+    ]
+}
+
+// Writes the 19 bytes before the comment. An angle, the blanks or a symbol byte out of range is 15, a buffer without room 16.
+pub fn write_position(p: Place, out: &mut [u8]) -> laws::Answer
+    ensures { λ r. ⌜ ends r (now (out .exit)) ≡ wrote (positionRefusal p) (positionText p) (now (out .entry)) ⌝ }
+{
+    if !in_range(p) {
+        return laws::refused(15);
+    }
+    if !symbols_in_range(p) {
+        return laws::refused(15);
+    }
+    let text = position_bytes(p);
+    laws::write(&text, out)
+}
+
+// The lower and upper bound of an angle, in degrees.
+#[repr(C)]
+pub struct Bounds {
+    pub lower: f64,
+    pub upper: f64,
+}
+
+// The bounds, or 15 and 0, 0.
+#[repr(C)]
+pub struct BoundsAnswer {
+    pub refusal: u8,
+    pub bounds: Bounds,
+}
+
+// Degrees, minutes and hundredths of a minute, in degrees.
+fn from_dmh(degrees: u32, minutes: u32, hundredths: u32) -> f64
+    ensures { λ r. ⌜ r ≡ fromDmh degrees minutes hundredths ⌝ }
+{
+    degrees as f64 + minutes as f64 / 60.0 + hundredths as f64 / 6000.0
+}
+
+// An angle's size in degrees.
+fn degrees(size: u32) -> f64
+    ensures { λ r. ⌜ r ≡ degreesOf size ⌝ }
+{
+    from_dmh(size / 6000, size / 100 % 60, size % 100)
+}
+
+// The width that the blanks leave, in degrees.
+fn degree_width(blanks: u8) -> f64
+    ensures { λ r. ⌜ r ≡ degreeWidth blanks ⌝ }
+{
+    match blanks {
+        0 => 1.0 / 6000.0,
+        1 => 1.0 / 600.0,
+        2 => 1.0 / 60.0,
+        3 => 1.0 / 6.0,
+        4 => 1.0,
+        _ => 10.0,
+    }
+}
+
+// Half the width to either side of the center.
+fn range(center: f64, blanks: u8) -> Bounds
+    ensures { λ r. ⌜ r ≡ rangeOf center blanks ⌝ }
+{
+    let width = degree_width(blanks);
+    Bounds {
+        lower: center - width / 2.0,
+        upper: center + width / 2.0,
+    }
+}
+
+// The bounds of an angle of at most that size.
+fn bounds_of(most: u32, angle: i32, blanks: u8) -> BoundsAnswer
+    ensures { λ r. ⌜ r ≡ boundsOf most angle blanks ⌝ }
+{
+    let sides = lonlat::parts(angle);
+    if !in_reach(most, sides.size, blanks) {
+        return BoundsAnswer {
+            refusal: 15,
+            bounds: Bounds {
+                lower: 0.0,
+                upper: 0.0,
+            },
+        };
+    }
+    let center = degrees(sides.size);
+    if sides.minus {
+        let turned = range(-center, blanks);
+        return BoundsAnswer {
+            refusal: 0,
+            bounds: turned,
+        };
+    }
+    let bounds = range(center, blanks);
+    BoundsAnswer { refusal: 0, bounds }
+}
+
+// The bounds between which a latitude lies whose last digits are blank, as many as blanks says.
+pub fn latitude_bounds(l: Latitude, blanks: u8) -> BoundsAnswer
+    ensures { λ r. ⌜ r ≡ boundsOf mostLatitude (l .0) blanks ⌝ }
+{
+    bounds_of(540000, l.0, blanks)
+}
+
+// The same of a longitude.
+pub fn longitude_bounds(l: Longitude, blanks: u8) -> BoundsAnswer
+    ensures { λ r. ⌜ r ≡ boundsOf mostLongitude (l .0) blanks ⌝ }
+{
+    bounds_of(1080000, l.0, blanks)
+}
+
+// The box for the page in half hundredths of a minute, or 15 and 0, 0.
+#[repr(C)]
+pub struct PageBox {
+    pub refusal: u8,
+    pub from: i32,
+    pub to: i32,
+}
+
+// The width that the blanks leave, in hundredths of a minute.
+fn width(blanks: u8) -> i32
+    ensures { λ r. ⌜ r ≡ pos (widthOf blanks) ⌝ }
+{
+    match blanks {
+        0 => 1,
+        1 => 10,
+        2 => 100,
+        3 => 1000,
+        4 => 6000,
+        _ => 60000,
+    }
+}
+
+// The box of an angle of at most that size, which is at most 180 degrees.
+fn box_of(most: u32, angle: i32, blanks: u8) -> PageBox
+    requires { ⌜ most ≤ mostLongitude ⌝ }
+    ensures { λ r. ⌜ r ≡ boxOf most angle blanks ⌝ }
+{
+    let sides = lonlat::parts(angle);
+    if !in_reach(most, sides.size, blanks) {
+        return PageBox {
+            refusal: 15,
+            from: 0,
+            to: 0,
+        };
+    }
+    let w = width(blanks);
+    PageBox {
+        refusal: 0,
+        from: 2 * angle - w,
+        to: 2 * angle + w,
+    }
+}
+
+// The box for the page of a latitude whose last digits are blank, as many as blanks says.
+pub fn latitude_box(l: Latitude, blanks: u8) -> PageBox
+    ensures { λ r. ⌜ r ≡ boxOf mostLatitude (l .0) blanks ⌝ }
+{
+    box_of(540000, l.0, blanks)
+}
+
+// The same of a longitude.
+pub fn longitude_box(l: Longitude, blanks: u8) -> PageBox
+    ensures { λ r. ⌜ r ≡ boxOf mostLongitude (l .0) blanks ⌝ }
+{
+    box_of(1080000, l.0, blanks)
+}
