@@ -1,0 +1,155 @@
+-- What a reader of headers answers: a refusal of its list with the blank header, or a header in range and a place within
+-- the input.
+-- Assumes nothing.
+use mathlib.Core.Path.{_≡_, refl}
+use mathlib.Core.Logic.{inl}
+use mathlib.Core.Bool.{Bool, true, false, cond}
+use mathlib.Core.List.{List, [], _∷_}
+use Prim.Native.Nat.{ℕ, zero, suc, _+_, _-_, _*_, _≤_}
+use native.Mathlib.Omega.{arith}
+use lib.Dec.{eqb, ltb}
+use borrow.Author.Tests.{eqb-true, eqb-false, le-leb}
+use lib.ListN.{length, take, drop, replicate, length-drop}
+use lib.Seq.{take-at, drop-at}
+use Rattle.laws.specs.Bytes.{colon, greater}
+use Rattle.laws.specs.Lists.{indexOf, padTo, zeros}
+use Rattle.laws.proofs.Places.{index-le}
+use Rattle.callsign.specs.declared.Callsign.{Callsign}
+use Rattle.callsign.specs.Text.{joined, made, blankCall, readText}
+use Rattle.callsign.specs.Address.{readAddress}
+use Rattle.callsign.specs.Range.{inRange}
+use Rattle.callsign.proofs.Theorems.{text-is-in-range, address-is-in-range}
+use Rattle.header.specs.declared.Hop.{Hop}
+use Rattle.header.specs.declared.HeaderRead.{HeaderRead}
+use Rattle.header.specs.Header.{Hops, blankHop, pathOf, hopsOf, headerOf, blankHeader, pathRead, refusedBy, accepted, unlessRefused}
+use Rattle.header.specs.Text.{fields, firstOf, othersOf, withPath, readRoute, readBefore, readTextHeader}
+use Rattle.header.specs.Frame.{startsWithPair, withPair, readSource, readFrameHeader}
+use Rattle.header.specs.Range.{everyHop, hopInRange, isBlank, pathInRange, headerInRange}
+use Rattle.header.proofs.Walks.{InText, InFrame, Sound, none, some, either-sound, blank-range, call-in-text, text-sound, carried-sound, address-in-frame, frame-sound}
+
+pub data Answered (ok : ℕ → Type 0) (s : List ℕ) : HeaderRead → Type 0 where
+  no : (n : ℕ) → ok n → Answered ok s (refusedBy n)
+  yes : (from to : Callsign) (l : List Hop) (body : ℕ) → inRange from ≡ true → inRange to ≡ true → length l ≤ 8 → everyHop hopInRange l ≡ true → body ≤ length s
+      → Answered ok s (accepted from to (pathOf l) body)
+
+module _ (ok : ℕ → Type 0) (s : List ℕ) where
+  either : (b : Bool) {x y : HeaderRead} → (b ≡ true → Answered ok s x) → (b ≡ false → Answered ok s y) → Answered ok s (cond b x y)
+  either true f g = f refl
+  either false f g = g refl
+
+  unless : (n : ℕ) {x : HeaderRead} → ((n ≡ 0 → ⊥) → ok n) → (n ≡ 0 → Answered ok s x) → Answered ok s (unlessRefused n x)
+  unfolding unlessRefused
+  unless n f g = either (eqb n 0) (λ e. g (eqb-true n 0 e)) (λ e. no n (f (eqb-false n 0 e)))
+
+-- ---- a line
+
+two-in-text : InText 2
+two-in-text = record { low = omega arith; high = omega arith }
+
+module _ (s : List ℕ) where
+  path-answered : (from to : Callsign) (body : ℕ) {w : Hops} → inRange from ≡ true → inRange to ≡ true → body ≤ length s → Sound InText 8 w → Answered InText s (withPath from to (pathRead w) body)
+  unfolding withPath pathRead
+  path-answered from to body a b m (none n p) = unless InText s n (λ z. p) (λ z. absurd (let q = p .low in omega arith))
+  path-answered from to body a b m (some l k q) = unless InText s 0 (λ z. absurd (z refl)) (λ z. yes from to l body a b k q m)
+
+  route-answered : (from : Callsign) (t : List ℕ) (body : ℕ) → inRange from ≡ true → body ≤ length s → Answered InText s (readRoute from t body)
+  unfolding readRoute
+  route-answered from t body a m =
+      let to = firstOf (fields t) in
+      unless InText s (readText to .refusal) (call-in-text to) (λ z.
+      path-answered from (readText to .call) body a (text-is-in-range to) m (carried-sound 8 (text-sound 8 (othersOf (fields t)))))
+
+  before-answered : (t : List ℕ) (body : ℕ) → body ≤ length s → Answered InText s (readBefore t body)
+  unfolding readBefore
+  before-answered t body m =
+      let from = take (indexOf greater t) t in
+      either InText s (eqb (indexOf greater t) (length t)) (λ e. no 2 two-in-text) (λ e.
+      unless InText s (readText from .refusal) (call-in-text from) (λ z. route-answered (readText from .call) (drop (suc (indexOf greater t)) t) body (text-is-in-range from) m))
+
+  pub text-answered : Answered InText s (readTextHeader s)
+  unfolding readTextHeader
+  text-answered =
+      let c = indexOf colon s in
+      either InText s (ltb 512 (length s)) (λ e. no 1 (record { low = omega arith; high = omega arith })) (λ e.
+      either InText s (eqb c (length s)) (λ f. no 2 two-in-text) (λ f.
+      let d = eqb-false c (length s) f in
+      before-answered (take c s) (c + 1) (omega (arith, index-le colon s))))
+
+-- ---- a frame
+
+two-in-frame : InFrame 2
+two-in-frame = record { low = omega arith; high = inl (omega arith) }
+
+-- where the pair stands, two bytes stand
+pair-within : (s : List ℕ) (at : ℕ) → startsWithPair (drop at s) ≡ true → at + 2 ≤ length s
+unfolding startsWithPair
+pair-within s at e = go (drop at s) (length-drop at s) e
+  where
+    go : (l : List ℕ) → length l ≡ length s - at → startsWithPair l ≡ true → at + 2 ≤ length s
+    go [] q f = absurd (mathlib.Core.Bool.false≢true f)
+    go (a ∷ []) q f = absurd (mathlib.Core.Bool.false≢true f)
+    go (a ∷ b ∷ l) q f = omega arith
+
+module _ (s : List ℕ) where
+  pair-answered : (from to : Callsign) {w : Hops} → inRange from ≡ true → inRange to ≡ true → Sound InFrame 8 w → Answered InFrame s (withPair from to (pathRead w) s)
+  unfolding withPair pathRead
+  pair-answered from to a b (none n p) = unless InFrame s n (λ z. p) (λ z. absurd (let q = p .low in omega arith))
+  pair-answered from to a b (some l k q) =
+      unless InFrame s 0 (λ z. absurd (z refl)) (λ z.
+      either InFrame s (startsWithPair (drop (14 + 7 * pathOf l .count) s))
+      (λ e. yes from to l (14 + 7 * pathOf l .count + 2) a b k q (pair-within s (14 + 7 * pathOf l .count) e)) (λ e. no 2 two-in-frame))
+
+  source-answered : (to : Callsign) → inRange to ≡ true → Answered InFrame s (readSource to s)
+  unfolding readSource everyHop
+  source-answered to b =
+      let from = take 7 (drop 7 s) in
+      either InFrame s (ltb (length s) 14) (λ e. no 2 two-in-frame) (λ e.
+      unless InFrame s (readAddress from .refusal) (address-in-frame from) (λ z.
+      pair-answered (readAddress from .call) to (address-is-in-range from) b
+      (either-sound InFrame 8 (readAddress from .last) (λ l. some [] (omega arith) refl) (λ l. frame-sound 8 (drop 14 s)))))
+
+  pub frame-answered : Answered InFrame s (readFrameHeader s)
+  unfolding readFrameHeader
+  frame-answered =
+      let to = take 7 s in
+      either InFrame s (ltb 512 (length s)) (λ e. no 1 (record { low = omega arith; high = inl (omega arith) })) (λ e.
+      either InFrame s (ltb (length s) 7) (λ f. no 2 two-in-frame) (λ f.
+      unless InFrame s (readAddress to .refusal) (address-in-frame to) (λ z.
+      either InFrame s (readAddress to .last) (λ g. no 2 two-in-frame) (λ g. source-answered (readAddress to .call) (address-is-in-range to)))))
+
+-- ---- what every such answer has
+
+blanks : (k : ℕ) → everyHop isBlank (replicate k blankHop) ≡ true
+unfolding everyHop isBlank blankHop blankCall made joined padTo zeros
+blanks zero = refl
+blanks (suc k) = blanks k
+
+pub path-range : (l : List Hop) → length l ≤ 8 → everyHop hopInRange l ≡ true → pathInRange (pathOf l) ≡ true
+unfolding pathInRange pathOf hopsOf padTo
+path-range l m q =
+    rw (le-leb (length l) 8 m, take-at l (replicate (8 - length l) blankHop) (length l) refl, q, drop-at l (replicate (8 - length l) blankHop) (length l) refl) (blanks (8 - length l))
+
+header-range : (from to : Callsign) (l : List Hop) → inRange from ≡ true → inRange to ≡ true → length l ≤ 8 → everyHop hopInRange l ≡ true → headerInRange (headerOf from to (pathOf l)) ≡ true
+unfolding headerInRange headerOf
+header-range from to l a b m q = rw (a, b) (path-range l m q)
+
+module _ (ok : ℕ → Type 0) (s : List ℕ) where
+  pub answered-range : {r : HeaderRead} → Answered ok s r → headerInRange (r .header) ≡ true
+  unfolding refusedBy blankHeader accepted everyHop
+  answered-range (no n p) = header-range blankCall blankCall [] blank-range blank-range (omega arith) refl
+  answered-range (yes from to l body a b m q k) = header-range from to l a b m q
+
+  pub answered-body : {r : HeaderRead} → Answered ok s r → r .body ≤ length s
+  unfolding refusedBy accepted
+  answered-body (no n p) = omega arith
+  answered-body (yes from to l body a b m q k) = k
+
+  pub answered-number : {r : HeaderRead} → Answered ok s r → (r .refusal ≡ 0 → ⊥) → ok (r .refusal)
+  unfolding refusedBy accepted
+  answered-number (no n p) z = p
+  answered-number (yes from to l body a b m q k) z = absurd (z refl)
+
+  pub answered-blank : {r : HeaderRead} → Answered ok s r → (r .refusal ≡ 0 → ⊥) → r ≡ refusedBy (r .refusal)
+  unfolding refusedBy accepted
+  answered-blank (no n p) z = refl
+  answered-blank (yes from to l body a b m q k) z = absurd (z refl)

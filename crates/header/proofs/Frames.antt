@@ -1,0 +1,134 @@
+-- The header of a frame, place by place: destination, source, hops, and the control pair behind the addresses.
+-- Assumes nothing.
+use mathlib.Core.Path.{_≡_, refl, sym, ap, _∙_}
+use mathlib.Core.Bool.{true, false}
+use mathlib.Core.List.{List, [], _∷_}
+use Prim.Native.Nat.{ℕ, _+_, _-_, _*_, _<_, _≤_}
+use native.Mathlib.Omega.{arith}
+use borrow.Author.Tests.{eq-eqb, ne-eqb, lt-ltb, le-ltb}
+use borrow.Rule.Slice.PartAt.{part-to-end}
+use lib.ListN.{length, getD, take, drop, length-drop}
+use lib.Seq.{length-take-le}
+use Rattle.laws.proofs.Lists.{next}
+use Rattle.callsign.specs.declared.Callsign.{Callsign}
+use Rattle.callsign.specs.declared.AddressRead.{AddressRead}
+use Rattle.callsign.specs.Address.{readAddress}
+use Rattle.header.specs.declared.PathRead.{PathRead}
+use Rattle.header.specs.declared.HeaderRead.{HeaderRead}
+use Rattle.header.specs.Header.{Hops, refused, pathOf, pathRead, headerOf, refusedBy, accepted, unlessRefused}
+use Rattle.header.specs.Frame.{control, protocol, startsWithPair, frameHops, withPair, readSource, readFrameHeader}
+use Rattle.header.proofs.Walks.{InFrame, Sound, none, some, frame-sound}
+
+-- ---- the two bytes behind the addresses
+
+starts-short : (l : List ℕ) → length l < 2 → startsWithPair l ≡ false
+unfolding startsWithPair
+starts-short [] h = refl
+starts-short (a ∷ []) h = refl
+starts-short (a ∷ b ∷ l) h = absurd (omega arith)
+
+module _ (s : List ℕ) (at : ℕ) where
+  pub pair-short : length s < at + 2 → startsWithPair (drop at s) ≡ false
+  pair-short h = starts-short (drop at s) (simp length-drop (omega arith))
+
+  module _ (long : at + 2 ≤ length s) where
+    two : drop at s ≡ getD s at 0 ∷ getD s (at + 1) 0 ∷ drop (at + 1 + 1) s
+    two = next 0 s at (omega arith) ∙ ap {B = List ℕ} (λ l. getD s at 0 ∷ l) (next 0 s (at + 1) (omega arith))
+
+    pub pair-first : (getD s at 0 ≡ control → ⊥) → startsWithPair (drop at s) ≡ false
+    unfolding startsWithPair
+    pair-first e = rw (two, ne-eqb (getD s at 0) control e)
+
+    pub pair-second : getD s at 0 ≡ control → (getD s (at + 1) 0 ≡ protocol → ⊥) → startsWithPair (drop at s) ≡ false
+    unfolding startsWithPair
+    pair-second p e = rw (two, eq-eqb (getD s at 0) control p, ne-eqb (getD s (at + 1) 0) protocol e)
+
+    pub pair-both : getD s at 0 ≡ control → getD s (at + 1) 0 ≡ protocol → startsWithPair (drop at s) ≡ true
+    unfolding startsWithPair
+    pair-both p e = rw (two, eq-eqb (getD s at 0) control p, eq-eqb (getD s (at + 1) 0) protocol e)
+
+module _ (from to : Callsign) (p : PathRead) (s : List ℕ) (r : HeaderRead) where
+  pub path-refused : (p .refusal ≡ 0 → ⊥) → r ≡ refusedBy (p .refusal) → r ≡ withPair from to p s
+  unfolding withPair unlessRefused
+  path-refused z w = rw (ne-eqb (p .refusal) 0 z) w
+
+  module _ (z : p .refusal ≡ 0) where
+    wrong : startsWithPair (drop (14 + 7 * p .path .count) s) ≡ false → r ≡ refusedBy 2 → r ≡ withPair from to p s
+    unfolding withPair unlessRefused
+    wrong e w = rw (eq-eqb (p .refusal) 0 z, e) w
+
+    pub no-pair : length s < 14 + 7 * p .path .count + 2 → r ≡ refusedBy 2 → r ≡ withPair from to p s
+    no-pair h w = wrong (pair-short s (14 + 7 * p .path .count) h) w
+
+    module _ (h : 14 + 7 * p .path .count + 2 ≤ length s) where
+      pub no-control : (getD s (14 + 7 * p .path .count) 0 ≡ control → ⊥) → r ≡ refusedBy 2 → r ≡ withPair from to p s
+      no-control e w = wrong (pair-first s (14 + 7 * p .path .count) h e) w
+
+      module _ (c : getD s (14 + 7 * p .path .count) 0 ≡ control) where
+        pub no-protocol : (getD s (14 + 7 * p .path .count + 1) 0 ≡ protocol → ⊥) → r ≡ refusedBy 2 → r ≡ withPair from to p s
+        no-protocol e w = wrong (pair-second s (14 + 7 * p .path .count) h c e) w
+
+pub pair-there : (from to : Callsign) (p : PathRead) (s : List ℕ) → p .refusal ≡ 0 → 14 + 7 * p .path .count + 2 ≤ length s
+    → getD s (14 + 7 * p .path .count) 0 ≡ control → getD s (14 + 7 * p .path .count + 1) 0 ≡ protocol
+    → record { refusal = 0; header = record { from = from; to = to; path = p .path }; body = 14 + 7 * p .path .count + 2 } ≡ withPair from to p s
+unfolding withPair unlessRefused accepted headerOf
+pair-there from to p s z h c e = rw (eq-eqb (p .refusal) 0 z, pair-both s (14 + 7 * p .path .count) h c e)
+
+-- ---- how many hops a walk can give
+
+sound-count : (k : ℕ) {w : Hops} → Sound InFrame k w → pathRead w .path .count ≤ k
+unfolding pathRead pathOf
+sound-count k (none n p) = omega arith
+sound-count k (some l m q) = m
+
+pub walk-count : (p : PathRead) (s : List ℕ) → p ≡ pathRead (frameHops 8 s) → p .path .count ≤ 8
+walk-count p s e = rw e (sound-count 8 (frame-sound 8 s))
+
+pub none-count : (p : PathRead) (n : ℕ) → p ≡ pathRead (refused n) → p .path .count ≤ 8
+unfolding pathRead pathOf
+none-count p n e = rw e (omega arith)
+
+-- ---- source and hops
+
+module _ (to : Callsign) (s : List ℕ) (r : HeaderRead) where
+  pub no-source : length s < 14 → r ≡ refusedBy 2 → r ≡ readSource to s
+  unfolding readSource
+  no-source h w = rw (lt-ltb (length s) 14 h) w
+
+  module _ (h : 14 ≤ length s) (from : AddressRead) (q : from ≡ readAddress (take 7 (drop 7 s))) where
+    pub source-refused : (from .refusal ≡ 0 → ⊥) → r ≡ refusedBy (from .refusal) → r ≡ readSource to s
+    unfolding readSource unlessRefused
+    source-refused z w = rw (le-ltb (length s) 14 h, ← q, ne-eqb (from .refusal) 0 z) w
+
+    module _ (z : from .refusal ≡ 0) (p : PathRead) (w : r ≡ withPair (from .call) to p s) where
+      pub source-alone : from .last ≡ true → p ≡ pathRead (refused 0) → r ≡ readSource to s
+      unfolding readSource unlessRefused pathRead
+      source-alone l e = rw (le-ltb (length s) 14 h, ← q, eq-eqb (from .refusal) 0 z, l) (rw e at w)
+
+      pub source-hops : from .last ≡ false → p ≡ pathRead (frameHops 8 (take (length s - 14) (drop 14 s))) → r ≡ readSource to s
+      unfolding readSource unlessRefused
+      source-hops l e = rw (le-ltb (length s) 14 h, ← q, eq-eqb (from .refusal) 0 z, l, ← part-to-end s 14) (rw e at w)
+
+-- ---- the frame
+
+pub seven-front : (s : List ℕ) → 7 ≤ length s → 7 ≡ length (take 7 s)
+seven-front s h = sym (length-take-le 7 s h)
+
+module _ (s : List ℕ) (r : HeaderRead) (m : length s ≤ 512) where
+  pub no-destination : length s < 7 → r ≡ refusedBy 2 → r ≡ readFrameHeader s
+  unfolding readFrameHeader
+  no-destination h w = rw (le-ltb 512 (length s) m, lt-ltb (length s) 7 h) w
+
+  module _ (h : 7 ≤ length s) (to : AddressRead) (q : to ≡ readAddress (take 7 s)) where
+    pub destination-refused : (to .refusal ≡ 0 → ⊥) → r ≡ refusedBy (to .refusal) → r ≡ readFrameHeader s
+    unfolding readFrameHeader unlessRefused
+    destination-refused z w = rw (le-ltb 512 (length s) m, le-ltb (length s) 7 h, ← q, ne-eqb (to .refusal) 0 z) w
+
+    module _ (z : to .refusal ≡ 0) where
+      pub destination-last : to .last ≡ true → r ≡ refusedBy 2 → r ≡ readFrameHeader s
+      unfolding readFrameHeader unlessRefused
+      destination-last l w = rw (le-ltb 512 (length s) m, le-ltb (length s) 7 h, ← q, eq-eqb (to .refusal) 0 z, l) w
+
+      pub destination-read : to .last ≡ false → r ≡ readSource (to .call) s → r ≡ readFrameHeader s
+      unfolding readFrameHeader unlessRefused
+      destination-read l w = rw (le-ltb 512 (length s) m, le-ltb (length s) 7 h, ← q, eq-eqb (to .refusal) 0 z, l) w

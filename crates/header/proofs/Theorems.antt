@@ -1,0 +1,100 @@
+-- What the definitions of a header amount to: what is read is in range, refusals are few and blank, stars carry over, and a
+-- frame that was written reads back.
+-- Assumes nothing.
+use mathlib.Core.Path.{_≡_, refl, _∙_}
+use mathlib.Core.Logic.{_⊎_}
+use mathlib.Core.Bool.{Bool, true, false}
+use mathlib.Core.List.{List, [], _∷_, _++_, map}
+use Prim.Native.Nat.{ℕ, _≤_}
+use lib.ListN.{length}
+use Rattle.laws.specs.Bytes.{within, star, comma}
+use Rattle.laws.specs.Lists.{indexOf, padTo}
+use Rattle.callsign.specs.Utf8.{after, characters, utf8}
+use Rattle.callsign.specs.Text.{joined, made, isZero, callAccepted, parted, readUnstarred, readText}
+use Rattle.callsign.specs.Range.{callPart, ssidPart, textOf, withStar}
+use Rattle.callsign.proofs.AddressBack.{inAddress}
+use Rattle.header.specs.declared.Hop.{Hop}
+use Rattle.header.specs.declared.Header.{Header}
+use Rattle.header.specs.Header.{these, before, pathOf, hopsOf, refusedBy, accepted}
+use Rattle.header.specs.Text.{onFirst, fields, isQ, hopOf, readHop, hopThen, textHops, anyHeard, carried, carriedBack, readTextHeader, hopsText, headerText}
+use Rattle.header.specs.Frame.{readFrameHeader, headerFrame}
+use Rattle.header.specs.Range.{headerInRange, frameRefusal}
+use Rattle.header.proofs.Stars.{starredLast, eachText, written-stars, carried-starred, carried-twice}
+use Rattle.header.proofs.Bounds as bounds
+use Rattle.header.proofs.Sent as sent
+use Rattle.header.proofs.Walks.{InText, InFrame}
+use Rattle.header.proofs.Answers.{text-answered, frame-answered, answered-range, answered-body, answered-number, answered-blank}
+use Rattle.header.proofs.FrameBack.{inFrame, frame-back}
+
+-- ---- what is read
+
+-- of any line and any frame, accepted or not
+pub text-is-in-range : (s : List ℕ) → headerInRange (readTextHeader s .header) ≡ true
+text-is-in-range s = answered-range InText s (text-answered s)
+
+pub frame-is-in-range : (s : List ℕ) → headerInRange (readFrameHeader s .header) ≡ true
+frame-is-in-range s = answered-range InFrame s (frame-answered s)
+
+-- the body starts within the input, or just behind it
+pub text-body-within : (s : List ℕ) → readTextHeader s .body ≤ length s
+text-body-within s = answered-body InText s (text-answered s)
+
+pub frame-body-within : (s : List ℕ) → readFrameHeader s .body ≤ length s
+frame-body-within s = answered-body InFrame s (frame-answered s)
+
+-- ---- refusals
+
+-- a line is refused with 1 to 6
+pub text-numbers : (s : List ℕ) → (readTextHeader s .refusal ≡ 0 → ⊥) → readTextHeader s .refusal ≤ 6
+text-numbers s z = answered-number InText s (text-answered s) z .high
+
+-- a frame is refused with 1, 2, 3 or 5
+pub frame-numbers : (s : List ℕ) → (readFrameHeader s .refusal ≡ 0 → ⊥) → (readFrameHeader s .refusal ≤ 3) ⊎ (readFrameHeader s .refusal ≡ 5)
+frame-numbers s z = answered-number InFrame s (frame-answered s) z .high
+
+-- "A refused decode returns the blank record"
+pub text-refused-blank : (s : List ℕ) → (readTextHeader s .refusal ≡ 0 → ⊥) → readTextHeader s ≡ refusedBy (readTextHeader s .refusal)
+text-refused-blank s = answered-blank InText s (text-answered s)
+
+pub frame-refused-blank : (s : List ℕ) → (readFrameHeader s .refusal ≡ 0 → ⊥) → readFrameHeader s ≡ refusedBy (readFrameHeader s .refusal)
+frame-refused-blank s = answered-blank InFrame s (frame-answered s)
+
+-- ---- how long a written header is
+
+pub text-at-most-178 : (h : Header) → headerInRange h ≡ true → length (headerText h) ≤ 178
+text-at-most-178 = bounds.text-bound
+
+pub frame-at-most-72 : (h : Header) → frameRefusal h ≡ 0 → length (headerFrame h) ≤ 72
+frame-at-most-72 = sent.frame-bound
+
+-- ---- stars
+
+-- a text's hops are written with one star, and carrying it back gives the same hops heard
+pub stars-are-kept : (l : List Hop) → (hopsText (carried l) ≡ eachText (starredLast (carried l))) × (carried (starredLast (carried l)) ≡ carried l)
+stars-are-kept l = (written-stars (carried l), carried-starred (carried l) ∙ carried-twice l)
+
+-- ---- frames
+
+-- a header that was written reads back from any frame that starts with it: calls raised, SSIDs as numbers, each hop heard as it was
+pub frame-reads-back : (h : Header) (body : List ℕ) → length (h .path .hops) ≡ 8 → frameRefusal h ≡ 0 → length (headerFrame h ++ body) ≤ 512
+    → readFrameHeader (headerFrame h ++ body) ≡ accepted (inAddress (h .from)) (inAddress (h .to)) (pathOf (map inFrame (hopsOf (h .path)))) (length (headerFrame h))
+frame-reads-back = frame-back
+
+-- ---- P11: hops A,B*,C: A and B heard, C not; written A,B*,C
+
+abbrev hop : ℕ → Bool → Hop
+hop letter heard = record { call = made (letter ∷ []) []; heard = heard }
+
+abbrev pub P11-text : List ℕ
+P11-text = 65 ∷ comma ∷ 66 ∷ star ∷ comma ∷ 67 ∷ []
+
+abbrev pub P11-hops : List Hop
+P11-hops = hop 65 true ∷ hop 66 true ∷ hop 67 false ∷ []
+
+pub P11-read : carriedBack (textHops 8 (fields P11-text)) ≡ these P11-hops
+unfolding fields onFirst textHops hopThen before readHop isQ hopOf readText readUnstarred parted callAccepted indexOf utf8 characters after within isZero made joined padTo carriedBack carried anyHeard
+P11-read = refl
+
+pub P11-written : hopsText P11-hops ≡ comma ∷ P11-text
+unfolding hopsText anyHeard textOf callPart ssidPart withStar made joined padTo
+P11-written = refl

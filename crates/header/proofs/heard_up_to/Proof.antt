@@ -1,0 +1,59 @@
+-- The last heard of the hops so far. Assumes nothing.
+use Prim.Native.Nat.{_≤_, _-_}
+use mathlib.Core.Path.{_≡_, refl}
+use native.Mathlib.Omega.{arith}
+use lib.ListN.{take}
+use Rattle.header.specs.Written.{heardUpTo}
+use Rattle.header.proofs.Stars.{last-moves, last-stays, last-found}
+use Rattle.header.proofs.heard_up_to.Statement.{statement}
+use Rattle.header.proofs.heard_up_to.Tie as tie
+
+abbrev Inv-loop : tie.InvT-loop
+Inv-loop n hops last₀ i₀ last i = (i ≤ n) × (last ≡ heardUpTo (take i hops))
+
+abbrev μ-loop : tie.MeasureT-loop
+μ-loop n hops last₀ i₀ last i = n - i
+
+loop-holds : tie.Need-loop-holds Inv-loop μ-loop
+unfolding heardUpTo
+loop-holds c = (omega arith, refl)
+
+mul-h : tie.Need-mul-h Inv-loop μ-loop
+mul-h c = omega arith
+
+array-copy-out-h : tie.Need-array-copy-out-h Inv-loop μ-loop
+array-copy-out-h c = omega arith
+
+add-i : tie.Need-add-i Inv-loop μ-loop
+add-i c = omega arith
+
+loop-less : tie.Need-loop-less Inv-loop μ-loop
+loop-less c = omega arith
+
+loop-again : tie.Need-loop-again Inv-loop μ-loop
+loop-again c = (omega arith, search last-moves)
+
+loop-less-2 : tie.Need-loop-less-2 Inv-loop μ-loop
+loop-less-2 c = omega arith
+
+loop-again-2 : tie.Need-loop-again-2 Inv-loop μ-loop
+loop-again-2 c = (omega arith, search last-stays)
+
+returns : tie.Need-returns Inv-loop μ-loop
+returns c = search last-found
+
+pub heard-up-to-spec : {M : Type 1} → statement M
+heard-up-to-spec =
+    tie.close
+    (tie.spec
+    Inv-loop
+    μ-loop
+    loop-holds
+    mul-h
+    array-copy-out-h
+    add-i
+    loop-less
+    loop-again
+    loop-less-2
+    loop-again-2
+    returns)

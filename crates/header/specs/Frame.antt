@@ -1,0 +1,111 @@
+-- The header of an AX.25 frame. Document 01, order: "1; destination's 7 bytes present (2), readable (3), not last (2); source
+-- the same without the last test; each hop 5, 2, 3; control pair; body." Modules, 5: "the walk ends at the first address
+-- whose low bit is set; then exactly the two bytes 03 f0 must follow."
+-- Assumes nothing.
+use Prim.Native.Nat.{ℕ, zero, suc, _+_, _*_}
+use mathlib.Core.Bool.{Bool, true, false, cond, _&&_}
+use mathlib.Core.List.{List, [], _∷_, _++_}
+use lib.ListN.{length, take, drop}
+use lib.Dec.{eqb, ltb}
+use Rattle.callsign.specs.declared.Callsign.{Callsign}
+use Rattle.callsign.specs.declared.AddressRead.{AddressRead}
+use Rattle.callsign.specs.declared.AddressWritten.{AddressWritten}
+use Rattle.callsign.specs.declared.Field.the-variants.{Destination, Source, Hop as HopField}
+use Rattle.callsign.specs.Address.{readAddress}
+use Rattle.callsign.specs.Packed.{writeAddress}
+use Rattle.header.specs.declared.Hop.{Hop}
+use Rattle.header.specs.declared.Header.{Header}
+use Rattle.header.specs.declared.PathRead.{PathRead}
+use Rattle.header.specs.declared.HeaderRead.{HeaderRead}
+use Rattle.header.specs.Header.{Hops, refused, these, before, hopsOf, pathRead, refusedBy, accepted, unlessRefused}
+
+-- ---- the control and protocol bytes: UI, no layer 3
+
+abbrev pub control : ℕ
+control = 0x03
+
+abbrev pub protocol : ℕ
+protocol = 0xf0
+
+abbrev pub pair : List ℕ
+pair = control ∷ protocol ∷ []
+
+unfoldable pub startsWithPair : List ℕ → Bool
+startsWithPair [] = false
+startsWithPair (a ∷ []) = false
+startsWithPair (a ∷ b ∷ l) = eqb a control && eqb b protocol
+
+-- ---- the hops
+
+-- "Frames keep each heard bit as it is."
+unfoldable pub addressHop : AddressRead → Hop
+addressHop a = record { call = a .call; heard = a .heard }
+
+-- "ends at the first address whose low bit is set"
+unfoldable pub addressThen : AddressRead → Hops → Hops
+addressThen a later =
+    cond (eqb (a .refusal) 0)
+    (before (addressHop a) (cond (a .last) (these []) later))
+    (refused (a .refusal))
+
+-- the addresses at the front of s, of which so many more may come: 5, 2, 3
+unfoldable pub frameHops : ℕ → List ℕ → Hops
+frameHops zero s = refused 5
+frameHops (suc k) s =
+    cond (ltb (length s) 7) (refused 2)
+    (addressThen (readAddress (take 7 s)) (frameHops k (drop 7 s)))
+
+-- ---- the header read
+
+-- the addresses, seven bytes each, and behind them the pair
+unfoldable pub withPair : Callsign → Callsign → PathRead → List ℕ → HeaderRead
+withPair from to p s =
+    let at = 14 + 7 * p .path .count in
+    unlessRefused (p .refusal)
+    (cond (startsWithPair (drop at s)) (accepted from to (p .path) (at + 2)) (refusedBy 2))
+
+-- source and hops of the frame s, after its destination
+unfoldable pub readSource : Callsign → List ℕ → HeaderRead
+readSource to s =
+    let from = readAddress (take 7 (drop 7 s)) in
+    cond (ltb (length s) 14) (refusedBy 2)
+    (unlessRefused (from .refusal)
+    (withPair (from .call) to (pathRead (cond (from .last) (these []) (frameHops 8 (drop 14 s)))) s))
+
+unfoldable pub readFrameHeader : List ℕ → HeaderRead
+readFrameHeader s =
+    let to = readAddress (take 7 s) in
+    cond (ltb 512 (length s)) (refusedBy 1)
+    (cond (ltb (length s) 7) (refusedBy 2)
+    (unlessRefused (to .refusal)
+    (cond (to .last) (refusedBy 2)
+    (readSource (to .call) s))))
+
+-- ---- the header written
+
+unfoldable pub isNone : List Hop → Bool
+isNone [] = true
+isNone (h ∷ l) = false
+
+-- the low bit of the last one is set
+unfoldable pub hopAddresses : List Hop → List AddressWritten
+hopAddresses [] = []
+hopAddresses (h ∷ l) = writeAddress (h .call) (HopField (h .heard)) (isNone l) ∷ hopAddresses l
+
+-- "destination, source, hops in order"; without hops the source is the last
+unfoldable pub addresses : Header → List AddressWritten
+addresses h =
+    writeAddress (h .to) Destination false
+    ∷ writeAddress (h .from) Source (eqb (h .path .count) 0)
+    ∷ hopAddresses (hopsOf (h .path))
+
+unfoldable pub firstRefusal : List AddressWritten → ℕ
+firstRefusal [] = 0
+firstRefusal (a ∷ l) = cond (eqb (a .refusal) 0) (firstRefusal l) (a .refusal)
+
+unfoldable pub joined : List AddressWritten → List ℕ
+joined [] = []
+joined (a ∷ l) = a .bytes ++ joined l
+
+unfoldable pub headerFrame : Header → List ℕ
+headerFrame h = joined (addresses h) ++ pair

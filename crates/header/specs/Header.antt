@@ -1,0 +1,63 @@
+-- A header (source, destination and hops), and what a reader answers. Document 01: "an array of 8 hops"; "A refused decode
+-- returns the blank record .. all lengths and numbers 0".
+-- Assumes nothing.
+use Prim.Native.Nat.{ℕ}
+use mathlib.Core.Bool.{false, cond}
+use mathlib.Core.List.{List, [], _∷_}
+use lib.ListN.{length, take}
+use lib.Dec.{eqb}
+use Rattle.laws.specs.Lists.{padTo}
+use Rattle.callsign.specs.declared.Callsign.{Callsign}
+use Rattle.callsign.specs.Text.{blankCall}
+use Rattle.header.specs.declared.Hop.{Hop}
+use Rattle.header.specs.declared.Path.{Path}
+use Rattle.header.specs.declared.Header.{Header}
+use Rattle.header.specs.declared.PathRead.{PathRead}
+use Rattle.header.specs.declared.HeaderRead.{HeaderRead}
+
+-- ---- the record
+
+unfoldable pub blankHop : Hop
+blankHop = record { call = blankCall; heard = false }
+
+-- hops in the array of eight, the others blank
+unfoldable pub pathOf : List Hop → Path
+pathOf hops = record { hops = padTo 8 blankHop hops; count = length hops }
+
+-- the hops that count
+unfoldable pub hopsOf : Path → List Hop
+hopsOf p = take (p .count) (p .hops)
+
+unfoldable pub headerOf : Callsign → Callsign → Path → Header
+headerOf from to path = record { from = from; to = to; path = path }
+
+unfoldable pub blankHeader : Header
+blankHeader = headerOf blankCall blankCall (pathOf [])
+
+-- ---- what reading gives
+
+unfoldable pub refusedBy : ℕ → HeaderRead
+refusedBy n = record { refusal = n; header = blankHeader; body = 0 }
+
+unfoldable pub accepted : Callsign → Callsign → Path → ℕ → HeaderRead
+accepted from to path body = record { refusal = 0; header = headerOf from to path; body = body }
+
+-- a part's refusal is the header's; without one, what follows
+unfoldable pub unlessRefused : ℕ → HeaderRead → HeaderRead
+unlessRefused n next = cond (eqb n 0) next (refusedBy n)
+
+-- ---- hops one after the other
+
+-- the first refusal, or all hops
+pub data Hops : Type 0 where
+  refused : ℕ → Hops
+  these : List Hop → Hops
+
+unfoldable pub before : Hop → Hops → Hops
+before h (refused n) = refused n
+before h (these l) = these (h ∷ l)
+
+-- the same as a number and a path
+unfoldable pub pathRead : Hops → PathRead
+pathRead (refused n) = record { refusal = n; path = pathOf [] }
+pathRead (these l) = record { refusal = 0; path = pathOf l }

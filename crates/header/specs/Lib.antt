@@ -1,0 +1,5 @@
+pub mod Header
+pub mod Text
+pub mod Frame
+pub mod Range
+pub mod Written

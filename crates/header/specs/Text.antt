@@ -1,0 +1,120 @@
+-- The header of a line of text. Document 01, order: "1; `:`; `>`; source; destination; hops from the left; body. A hop: 5, 6,
+-- 4, 3." Modules, 5: "In text a hop is heard if it or a later hop is starred; writing stars the last heard one only."
+-- Assumes nothing.
+use Prim.Native.Nat.{ℕ, zero, suc, _+_}
+use mathlib.Core.Bool.{Bool, false, not, cond, _&&_, _||_}
+use mathlib.Core.List.{List, [], _∷_, _++_}
+use lib.ListN.{length, take, drop, getD}
+use lib.Dec.{eqb, ltb}
+use Rattle.laws.specs.Bytes.{comma, colon, greater, capitalA, smallQ}
+use Rattle.laws.specs.Lists.{indexOf}
+use Rattle.callsign.specs.declared.Callsign.{Callsign}
+use Rattle.callsign.specs.declared.CallRead.{CallRead}
+use Rattle.callsign.specs.Text.{readText}
+use Rattle.callsign.specs.Range.{textOf, withStar}
+use Rattle.header.specs.declared.Hop.{Hop}
+use Rattle.header.specs.declared.HopRead.{HopRead}
+use Rattle.header.specs.declared.Header.{Header}
+use Rattle.header.specs.declared.PathRead.{PathRead}
+use Rattle.header.specs.declared.HeaderRead.{HeaderRead}
+use Rattle.header.specs.Header.{Hops, refused, these, before, blankHop, hopsOf, pathRead, refusedBy, accepted, unlessRefused}
+
+-- ---- the parts between commas
+
+unfoldable pub onFirst : ℕ → List (List ℕ) → List (List ℕ)
+onFirst x [] = []
+onFirst x (f ∷ fs) = (x ∷ f) ∷ fs
+
+-- at least one part; empty ones are parts
+unfoldable pub fields : List ℕ → List (List ℕ)
+fields [] = [] ∷ []
+fields (x ∷ l) = cond (eqb x comma) ([] ∷ fields l) (onFirst x (fields l))
+
+unfoldable pub firstOf : List (List ℕ) → List ℕ
+firstOf [] = []
+firstOf (f ∷ fs) = f
+
+unfoldable pub othersOf : List (List ℕ) → List (List ℕ)
+othersOf [] = []
+othersOf (f ∷ fs) = fs
+
+-- ---- hops
+
+-- 6: "a textual hop of three bytes that starts `qA`"
+unfoldable pub isQ : List ℕ → Bool
+isQ t = eqb (length t) 3 && (eqb (getD t 0 0) smallQ && eqb (getD t 1 0) capitalA)
+
+unfoldable pub hopRefused : ℕ → HopRead
+hopRefused n = record { refusal = n; hop = blankHop }
+
+-- a hop by its callsign, 4 and 3; its star
+unfoldable pub hopOf : CallRead → HopRead
+hopOf c = record { refusal = c .refusal; hop = record { call = c .call; heard = c .starred } }
+
+unfoldable pub readHop : List ℕ → HopRead
+readHop t = cond (isQ t) (hopRefused 6) (hopOf (readText t))
+
+unfoldable pub hopThen : HopRead → Hops → Hops
+hopThen h later = cond (eqb (h .refusal) 0) (before (h .hop) later) (refused (h .refusal))
+
+-- the hops of the parts, of which so many more may come; 5: "a ninth hop"
+unfoldable pub textHops : ℕ → List (List ℕ) → Hops
+textHops k [] = these []
+textHops zero (t ∷ ts) = refused 5
+textHops (suc k) (t ∷ ts) = hopThen (readHop t) (textHops k ts)
+
+-- ---- stars
+
+unfoldable pub anyHeard : List Hop → Bool
+anyHeard [] = false
+anyHeard (h ∷ l) = h .heard || anyHeard l
+
+-- "heard if it or a later hop is starred"
+unfoldable pub carried : List Hop → List Hop
+carried [] = []
+carried (h ∷ l) = record { call = h .call; heard = h .heard || anyHeard l } ∷ carried l
+
+unfoldable pub carriedBack : Hops → Hops
+carriedBack (refused n) = refused n
+carriedBack (these l) = these (carried l)
+
+-- ---- the header read
+
+unfoldable pub withPath : Callsign → Callsign → PathRead → ℕ → HeaderRead
+withPath from to p body = unlessRefused (p .refusal) (accepted from to (p .path) body)
+
+-- destination and hops, between commas, and the hops' stars
+unfoldable pub readRoute : Callsign → List ℕ → ℕ → HeaderRead
+readRoute from t body =
+    let to = readText (firstOf (fields t)) in
+    unlessRefused (to .refusal)
+    (withPath from (to .call) (pathRead (carriedBack (textHops 8 (othersOf (fields t))))) body)
+
+-- what stands before `:`: source, `>`, and the route
+unfoldable pub readBefore : List ℕ → ℕ → HeaderRead
+readBefore t body =
+    let g = indexOf greater t in
+    let from = readText (take g t) in
+    cond (eqb g (length t)) (refusedBy 2)
+    (unlessRefused (from .refusal) (readRoute (from .call) (drop (suc g) t) body))
+
+unfoldable pub readTextHeader : List ℕ → HeaderRead
+readTextHeader s =
+    let c = indexOf colon s in
+    cond (ltb 512 (length s)) (refusedBy 1)
+    (cond (eqb c (length s)) (refusedBy 2)
+    (readBefore (take c s) (c + 1)))
+
+-- ---- the header written
+
+-- each hop after a comma; "the last heard one only" is starred
+unfoldable pub hopsText : List Hop → List ℕ
+hopsText [] = []
+hopsText (h ∷ l) = comma ∷ (withStar (textOf (h .call)) (h .heard && not (anyHeard l)) ++ hopsText l)
+
+-- all but the colon
+unfoldable pub routeText : Header → List ℕ
+routeText h = textOf (h .from) ++ greater ∷ (textOf (h .to) ++ hopsText (hopsOf (h .path)))
+
+unfoldable pub headerText : Header → List ℕ
+headerText h = routeText h ++ colon ∷ []

@@ -1,0 +1,629 @@
+// The header of a packet: source, destination, up to eight hops, and where the body starts; of a line of text and of an
+// AX.25 frame, read and written.
+ghost use mathlib.Core.Path.{_≡_};
+ghost use mathlib.Core.Bool.{true, _||_};
+ghost use mathlib.Core.List.{[], _∷_, _++_};
+ghost use Prim.Native.Nat.{_+_, _≤_};
+ghost use lib.ListN.{length, take, drop};
+ghost use Rattle.laws.specs.Wrote.{ends, wrote};
+ghost use Rattle.callsign.specs.Range.{inRange, textOf, withStar};
+ghost use Rattle.callsign.specs.Packed.{writeAddress};
+ghost use Rattle.header.specs.Header.{blankHop, blankHeader, refusedBy, pathRead, refused};
+ghost use Rattle.header.specs.Text.{fields, isQ, readHop, textHops, carried, carriedBack, withPath, readRoute, readBefore, readTextHeader, hopsText, routeText, headerText};
+ghost use Rattle.header.specs.Frame.{frameHops, withPair, readSource, readFrameHeader, hopAddresses, addresses, headerFrame};
+ghost use Rattle.header.specs.Range.{everyHop, hopInRange, isBlank, pathInRange, headerInRange, textRefusal, frameRefusal};
+ghost use Rattle.header.specs.Written.{filled, added, placed, addedAll, heardUpTo};
+use callsign::Callsign;
+use callsign::Field;
+
+// A hop that a packet goes through, and whether it was heard from there.
+#[repr(C)]
+pub struct Hop {
+    pub call: Callsign,
+    pub heard: bool,
+}
+
+// The hops in their order; those beyond `count` are blank.
+#[repr(C)]
+pub struct Path {
+    pub hops: [Hop; 8],
+    pub count: usize,
+}
+
+// Source, destination and path.
+pub struct Header {
+    pub from: Callsign,
+    pub to: Callsign,
+    pub path: Path,
+}
+
+// What reading gives: the refusal's number or 0, the header, and the place of the first body byte. At a refusal the header is
+// blank and the place 0.
+pub struct HeaderRead {
+    pub refusal: u8,
+    pub header: Header,
+    pub body: usize,
+}
+
+// One hop read, or the refusal's number and a blank hop.
+struct HopRead {
+    refusal: u8,
+    hop: Hop,
+}
+
+// Hops read, or the refusal's number and no hops.
+struct PathRead {
+    refusal: u8,
+    path: Path,
+}
+
+// ---- nothing, and refusals
+
+fn blank_hop() -> Hop
+    ensures { λ r. ⌜ r ≡ blankHop ⌝ }
+{
+    let call = callsign::blank();
+    Hop { call, heard: false }
+}
+
+// The header with nothing in it.
+pub fn blank() -> Header
+    ensures { λ r. ⌜ r ≡ blankHeader ⌝ }
+{
+    let call = callsign::blank();
+    let hop = blank_hop();
+    let hops = [hop; 8];
+    let path = Path { hops, count: 0 };
+    Header {
+        from: call,
+        to: call,
+        path,
+    }
+}
+
+fn refused(n: u8) -> HeaderRead
+    ensures { λ r. ⌜ r ≡ refusedBy n ⌝ }
+{
+    let header = blank();
+    HeaderRead {
+        refusal: n,
+        header,
+        body: 0,
+    }
+}
+
+// No hops, by a refusal (or by 0, where there are none).
+fn no_path(n: u8) -> PathRead
+    ensures { λ r. ⌜ r ≡ pathRead (refused n) ⌝ }
+{
+    let hop = blank_hop();
+    let hops = [hop; 8];
+    let path = Path { hops, count: 0 };
+    PathRead { refusal: n, path }
+}
+
+// ---- a line of text read
+
+// Three bytes that start `qA`.
+fn is_q(t: &[u8]) -> bool
+    ensures { λ r. ⌜ r ≡ isQ (now (t .entry)) ⌝ }
+{
+    if t.len() == 3 {
+        if t[0] == b'q' {
+            return t[1] == b'A';
+        }
+    }
+    false
+}
+
+fn read_hop(t: &[u8]) -> HopRead
+    ensures { λ r. ⌜ r ≡ readHop (now (t .entry)) ⌝ }
+{
+    if is_q(t) {
+        let hop = blank_hop();
+        return HopRead { refusal: 6, hop };
+    }
+    let c = callsign::read_text(t);
+    let call = c.call;
+    let hop = Hop {
+        call,
+        heard: c.starred,
+    };
+    HopRead {
+        refusal: c.refusal,
+        hop,
+    }
+}
+
+fn either(a: bool, b: bool) -> bool
+    ensures { λ r. ⌜ r ≡ (a || b) ⌝ }
+{
+    if a { true } else { b }
+}
+
+// The first n hops heard where they or a later one of them are starred.
+fn carry(hops: [Hop; 8], n: usize) -> [Hop; 8]
+    requires { ⌜ n ≤ 8 ⌝ }
+    ensures { λ r. ⌜ r ≡ carried (take n hops) ++ drop n hops ⌝ }
+{
+    let mut out = hops;
+    let mut later = false;
+    let mut i = n;
+    while 0 < i {
+        i = i - 1;
+        let h = out[i];
+        let call = h.call;
+        later = either(h.heard, later);
+        out[i] = Hop { call, heard: later };
+    }
+    out
+}
+
+// The hops of a text, with commas between them.
+fn read_hops(s: &[u8]) -> PathRead
+    ensures { λ r. ⌜ r ≡ pathRead (carriedBack (textHops 8 (fields (now (s .entry))))) ⌝ }
+{
+    let none = blank_hop();
+    let mut hops = [none; 8];
+    let mut n: usize = 0;
+    let mut t = s;
+    loop {
+        if n == 8 {
+            return no_path(5);
+        }
+        let e = laws::find(t, b',');
+        let h = read_hop(&t[..e]);
+        if h.refusal != 0 {
+            return no_path(h.refusal);
+        }
+        let hop = h.hop;
+        hops[n] = hop;
+        n += 1;
+        if e == t.len() {
+            let heard = carry(hops, n);
+            let path = Path {
+                hops: heard,
+                count: n,
+            };
+            return PathRead { refusal: 0, path };
+        }
+        t = &t[e + 1..];
+    }
+}
+
+fn with_path(from: Callsign, to: Callsign, p: PathRead, body: usize) -> HeaderRead
+    ensures { λ r. ⌜ r ≡ withPath from to p body ⌝ }
+{
+    if p.refusal != 0 {
+        return refused(p.refusal);
+    }
+    let path = p.path;
+    let header = Header { from, to, path };
+    HeaderRead {
+        refusal: 0,
+        header,
+        body,
+    }
+}
+
+// Destination and hops: what stands between `>` and `:`.
+fn read_route(from: Callsign, t: &[u8], body: usize) -> HeaderRead
+    ensures { λ r. ⌜ r ≡ readRoute from (now (t .entry)) body ⌝ }
+{
+    let d = laws::find(t, b',');
+    let to = callsign::read_text(&t[..d]);
+    if to.refusal != 0 {
+        return refused(to.refusal);
+    }
+    let destination = to.call;
+    if d == t.len() {
+        return with_path(from, destination, no_path(0), body);
+    }
+    with_path(from, destination, read_hops(&t[d + 1..]), body)
+}
+
+// What stands before `:`.
+fn read_before(t: &[u8], body: usize) -> HeaderRead
+    ensures { λ r. ⌜ r ≡ readBefore (now (t .entry)) body ⌝ }
+{
+    let g = laws::find(t, b'>');
+    if g == t.len() {
+        return refused(2);
+    }
+    let from = callsign::read_text(&t[..g]);
+    if from.refusal != 0 {
+        return refused(from.refusal);
+    }
+    let source = from.call;
+    read_route(source, &t[g + 1..], body)
+}
+
+// Reads the header of a line: refused with 1 to 6, as document 01 orders them; hops before a starred one are heard.
+pub fn read_text(s: &[u8]) -> HeaderRead
+    ensures { λ r. ⌜ r ≡ readTextHeader (now (s .entry)) ⌝ }
+{
+    if 512 < s.len() {
+        return refused(1);
+    }
+    let c = laws::find(s, b':');
+    if c == s.len() {
+        return refused(2);
+    }
+    read_before(&s[..c], c + 1)
+}
+
+// ---- a frame read
+
+// The hops' addresses at the front of s, up to the first whose low bit is set.
+fn walk(s: &[u8]) -> PathRead
+    ensures { λ r. ⌜ r ≡ pathRead (frameHops 8 (now (s .entry))) ⌝ }
+{
+    let none = blank_hop();
+    let mut hops = [none; 8];
+    let mut count: usize = 0;
+    let mut at: usize = 0;
+    let mut refusal: u8 = 0;
+    'hops: loop {
+        if count == 8 {
+            refusal = 5;
+            break 'hops;
+        }
+        if s.len() - at < 7 {
+            refusal = 2;
+            break 'hops;
+        }
+        let mut call = [0u8; 6];
+        let mut n: usize = 0;
+        let mut space = false;
+        let mut i: usize = 0;
+        while i < 6 {
+            let d = s[at + i];
+            i += 1;
+            if callsign::last(d) {
+                refusal = 3;
+                break 'hops;
+            }
+            let c = d >> 1;
+            if c == b' ' {
+                space = true;
+            } else {
+                if space {
+                    refusal = 3;
+                    break 'hops;
+                }
+                if !callsign::letter_or_digit(c) {
+                    refusal = 3;
+                    break 'hops;
+                }
+                call[n] = callsign::capital(c);
+                n += 1;
+            }
+        }
+        let seventh = s[at + 6];
+        let made = callsign::address_call(call, n, seventh);
+        hops[count] = Hop {
+            call: made,
+            heard: callsign::heard(seventh),
+        };
+        count += 1;
+        at += 7;
+        if callsign::last(seventh) {
+            break 'hops;
+        }
+    }
+    if refusal != 0 {
+        return no_path(refusal);
+    }
+    let path = Path { hops, count };
+    PathRead { refusal: 0, path }
+}
+
+// The header of a source, a destination and a path, if the control and protocol bytes follow the addresses in s.
+fn with_pair(from: Callsign, to: Callsign, p: PathRead, s: &[u8]) -> HeaderRead
+    requires { ⌜ p .path .count ≤ 8 ⌝ }
+    ensures { λ r. ⌜ r ≡ withPair from to p (now (s .entry)) ⌝ }
+{
+    if p.refusal != 0 {
+        return refused(p.refusal);
+    }
+    let path = p.path;
+    let at = 14 + 7 * path.count;
+    if s.len() < at + 2 {
+        return refused(2);
+    }
+    let pair = b"\x03\xf0";
+    if s[at] != pair[0] {
+        return refused(2);
+    }
+    if s[at + 1] != pair[1] {
+        return refused(2);
+    }
+    let header = Header { from, to, path };
+    HeaderRead {
+        refusal: 0,
+        header,
+        body: at + 2,
+    }
+}
+
+// Source and hops of a frame whose destination is read.
+fn read_source(to: Callsign, s: &[u8]) -> HeaderRead
+    ensures { λ r. ⌜ r ≡ readSource to (now (s .entry)) ⌝ }
+{
+    if s.len() < 14 {
+        return refused(2);
+    }
+    let from = callsign::read_address(&s[7..14]);
+    if from.refusal != 0 {
+        return refused(from.refusal);
+    }
+    let source = from.call;
+    if from.last {
+        return with_pair(source, to, no_path(0), s);
+    }
+    with_pair(source, to, walk(&s[14..]), s)
+}
+
+// Reads the header of a frame: refused with 1, 2, 3 or 5, as document 01 orders them; each hop's heard bit as it is.
+pub fn read_frame(s: &[u8]) -> HeaderRead
+    ensures { λ r. ⌜ r ≡ readFrameHeader (now (s .entry)) ⌝ }
+{
+    if 512 < s.len() {
+        return refused(1);
+    }
+    if s.len() < 7 {
+        return refused(2);
+    }
+    let to = callsign::read_address(&s[..7]);
+    if to.refusal != 0 {
+        return refused(to.refusal);
+    }
+    if to.last {
+        return refused(2);
+    }
+    let destination = to.call;
+    read_source(destination, s)
+}
+
+// ---- the range
+
+// A hop with nothing in it. A callsign in range whose lengths are 0 is all zero.
+fn is_blank(h: Hop) -> bool
+    ensures { λ r. ⌜ r ≡ isBlank h ⌝ }
+{
+    let call = h.call;
+    if call.call_len != 0 {
+        return false;
+    }
+    if call.ssid_len != 0 {
+        return false;
+    }
+    if h.heard {
+        return false;
+    }
+    callsign::in_range(call)
+}
+
+// Whether the callsigns of the first n hops are in range.
+fn calls_in_range(hops: [Hop; 8], n: usize) -> bool
+    requires { ⌜ n ≤ 8 ⌝ }
+    ensures { λ r. ⌜ r ≡ everyHop hopInRange (take n hops) ⌝ }
+{
+    let mut i: usize = 0;
+    while i < n {
+        let h = hops[i];
+        let call = h.call;
+        if !callsign::in_range(call) {
+            return false;
+        }
+        i += 1;
+    }
+    true
+}
+
+// Whether the hops from n on are blank.
+fn spare_blank(hops: [Hop; 8], n: usize) -> bool
+    requires { ⌜ n ≤ 8 ⌝ }
+    ensures { λ r. ⌜ r ≡ everyHop isBlank (drop n hops) ⌝ }
+{
+    let mut i = n;
+    while i < 8 {
+        let h = hops[i];
+        if !is_blank(h) {
+            return false;
+        }
+        i += 1;
+    }
+    true
+}
+
+fn path_in_range(p: Path) -> bool
+    ensures { λ r. ⌜ r ≡ pathInRange p ⌝ }
+{
+    let n = p.count;
+    if 8 < n {
+        return false;
+    }
+    let hops = p.hops;
+    if calls_in_range(hops, n) {
+        spare_blank(hops, n)
+    } else {
+        false
+    }
+}
+
+// Whether a header is in range: at most eight hops, every callsign in range, the spare hops blank.
+pub fn in_range(h: Header) -> bool
+    ensures { λ r. ⌜ r ≡ headerInRange h ⌝ }
+{
+    let from = h.from;
+    if !callsign::in_range(from) {
+        return false;
+    }
+    let to = h.to;
+    if !callsign::in_range(to) {
+        return false;
+    }
+    let path = h.path;
+    path_in_range(path)
+}
+
+// ---- a line of text written
+
+// The number of hops up to the last of the first n that was heard; 0 where none was.
+fn heard_up_to(hops: [Hop; 8], n: usize) -> usize
+    requires { ⌜ n ≤ 8 ⌝ }
+    ensures { λ r. ⌜ r ≡ heardUpTo (take n hops) ⌝ }
+{
+    let mut last: usize = 0;
+    let mut i: usize = 0;
+    while i < n {
+        let h = hops[i];
+        i += 1;
+        if h.heard {
+            last = i;
+        }
+    }
+    last
+}
+
+// Puts a callsign at a place of the text, and answers the place behind it.
+fn put_call(c: Callsign, starred: bool, text: &mut [u8], at: usize) -> usize
+    requires { ⌜ (inRange c ≡ true) × (at + length (withStar (textOf c) starred) ≤ length (now text)) ⌝ }
+    ensures { λ r. ⌜ filled (now (text .exit)) r ≡ added (filled (now (text .entry)) at) (withStar (textOf c) starred) ⌝ }
+{
+    let w = callsign::write_text(c, starred, &mut text[at..]);
+    at + w.reported
+}
+
+// Puts each of the first n hops after a comma, with a star after the last that was heard.
+fn put_hops(hops: [Hop; 8], n: usize, text: &mut [u8], from: usize) -> usize
+    requires { ⌜ (n ≤ 8) × (everyHop hopInRange (take n hops) ≡ true) × (from + 144 ≤ length (now text)) ⌝ }
+    ensures { λ r. ⌜ filled (now (text .exit)) r ≡ added (filled (now (text .entry)) from) (hopsText (take n hops)) ⌝ }
+{
+    let last = heard_up_to(hops, n);
+    let mut at = from;
+    let mut i: usize = 0;
+    while i < n {
+        let h = hops[i];
+        let call = h.call;
+        i += 1;
+        text[at] = b',';
+        at = put_call(call, i == last, text, at + 1);
+    }
+    at
+}
+
+// Puts all of a header but its colon at the front of the text.
+fn put_route(h: Header, text: &mut [u8]) -> usize
+    requires { ⌜ (headerInRange h ≡ true) × (177 ≤ length (now text)) ⌝ }
+    ensures { λ r. ⌜ filled (now (text .exit)) r ≡ added (filled (now (text .entry)) 0) (routeText h) ⌝ }
+{
+    let from = h.from;
+    let to = h.to;
+    let path = h.path;
+    let hops = path.hops;
+    let n = path.count;
+    let g = put_call(from, false, text, 0);
+    text[g] = b'>';
+    let d = put_call(to, false, text, g + 1);
+    put_hops(hops, n, text, d)
+}
+
+// Writes a header as text, with its colon; refused with 15 or 16.
+pub fn write_text(h: Header, out: &mut [u8]) -> laws::Answer
+    ensures { λ r. ⌜ ends r (now (out .exit)) ≡ wrote (textRefusal h) (headerText h) (now (out .entry)) ⌝ }
+{
+    if !in_range(h) {
+        return laws::refused(15);
+    }
+    let mut text = [0u8; 177];
+    let n = put_route(h, &mut text);
+    laws::write_two(178, &text[..n], b":", out)
+}
+
+// ---- a frame written
+
+// The refusal's number or 0, and the place behind what is put.
+struct Put {
+    refusal: u8,
+    at: usize,
+}
+
+// Puts a callsign's address at a place of the bytes.
+fn put_address(c: Callsign, field: Field, last: bool, bytes: &mut [u8], at: usize) -> Put
+    requires { ⌜ at + 7 ≤ length (now bytes) ⌝ }
+    ensures { λ r. ⌜ placed (r .refusal) (now (bytes .exit)) (r .at) ≡ addedAll (filled (now (bytes .entry)) at) (writeAddress c field last ∷ []) ⌝ }
+{
+    let a = callsign::write_address(c, field, last);
+    if a.refusal != 0 {
+        return Put {
+            refusal: a.refusal,
+            at,
+        };
+    }
+    let seven = a.bytes;
+    laws::write(&seven, &mut bytes[at..]);
+    Put {
+        refusal: 0,
+        at: at + 7,
+    }
+}
+
+// Puts the addresses of the first n hops, the last of them marked.
+fn put_hop_addresses(hops: [Hop; 8], n: usize, bytes: &mut [u8], from: usize) -> Put
+    requires { ⌜ (n ≤ 8) × (from + 56 ≤ length (now bytes)) ⌝ }
+    ensures { λ r. ⌜ placed (r .refusal) (now (bytes .exit)) (r .at) ≡ addedAll (filled (now (bytes .entry)) from) (hopAddresses (take n hops)) ⌝ }
+{
+    let mut at = from;
+    let mut i: usize = 0;
+    while i < n {
+        let h = hops[i];
+        let call = h.call;
+        let field = Field::Hop(h.heard);
+        i += 1;
+        let p = put_address(call, field, i == n, bytes, at);
+        if p.refusal != 0 {
+            return p;
+        }
+        at = p.at;
+    }
+    Put { refusal: 0, at }
+}
+
+// Puts all addresses of a header: destination, source, hops.
+fn put_addresses(h: Header, bytes: &mut [u8]) -> Put
+    requires { ⌜ (h .path .count ≤ 8) × (70 ≤ length (now bytes)) ⌝ }
+    ensures { λ r. ⌜ placed (r .refusal) (now (bytes .exit)) (r .at) ≡ addedAll (filled (now (bytes .entry)) 0) (addresses h) ⌝ }
+{
+    let path = h.path;
+    let hops = path.hops;
+    let n = path.count;
+    let to = h.to;
+    let d = put_address(to, Field::Destination, false, bytes, 0);
+    if d.refusal != 0 {
+        return d;
+    }
+    let from = h.from;
+    let f = put_address(from, Field::Source, n == 0, bytes, d.at);
+    if f.refusal != 0 {
+        return f;
+    }
+    put_hop_addresses(hops, n, bytes, f.at)
+}
+
+// Writes the header of a frame, addresses and control pair; refused with 15, 13 or 16.
+pub fn write_frame(h: Header, out: &mut [u8]) -> laws::Answer
+    ensures { λ r. ⌜ ends r (now (out .exit)) ≡ wrote (frameRefusal h) (headerFrame h) (now (out .entry)) ⌝ }
+{
+    if !in_range(h) {
+        return laws::refused(15);
+    }
+    let mut bytes = [0u8; 70];
+    let p = put_addresses(h, &mut bytes);
+    if p.refusal != 0 {
+        return laws::refused(p.refusal);
+    }
+    let n = p.at;
+    laws::write_two(72, &bytes[..n], b"\x03\xf0", out)
+}
