@@ -1,0 +1,14 @@
+pub mod Each
+pub mod Hits
+pub mod Spans
+pub mod Stored
+pub mod Count
+pub mod MotionMost
+pub mod LongitudeMost
+pub mod Answers
+pub mod Sides
+pub mod Order
+pub mod Skip
+pub mod Theorems
+pub mod Given
+pub mod Unique

@@ -1,0 +1,99 @@
+-- `third_motion`: the course leaves one third byte, with or without 400. Assumes nothing.
+use mathlib.Core.Path.{_≡_, sym, ap, _∙_}
+use mathlib.Core.Logic.{⊎-elim}
+use Prim.Native.Nat.{ℕ, _+_, _-_, _*_, _%_, _≤_, _<_}
+use native.Mathlib.Omega.{arith}
+use Rattle.mic_e.specs.Motion.{mostCourse, degrees}
+use Rattle.mic_e.proofs.MotionFacts.{Moves}
+use Rattle.mic_e.proofs.Turn.{lessIf-split}
+use Rattle.fields.specs.Each.{cell}
+use Rattle.fields.specs.Search.{hits, fieldsOf, thirdAt}
+use Rattle.fields.specs.declared.Target.the-variants.{Moving}
+use Rattle.fields.specs.declared.Third.{Third}
+use Rattle.fields.specs.declared.Third.the-variants.{Nowhere}
+use Rattle.fields.proofs.Each.{cell-none}
+use Rattle.fields.proofs.Hits.{motion-hit, third-at}
+use borrow.Author.Needs.{needs}
+use Rattle.fields.proofs.third_motion.Statement.{statement}
+use Rattle.fields.proofs.third_motion.Tie as tie
+
+module _ (s t a b : ℕ) where
+  nowhere : ((c : ℕ) → c < 256 → Moves s t a b c → ⊥) → fieldsOf a b Nowhere ≡ cell (hits (Moving s t)) a b
+  unfolding fieldsOf
+  nowhere h = sym (cell-none _ a b (λ c l e. h c l (motion-hit s t a b c e)))
+
+  low : b < 28 → fieldsOf a b Nowhere ≡ cell (hits (Moving s t)) a b
+  low k = nowhere (λ c l h. omega arith)
+
+  turned : mostCourse < t → fieldsOf a b Nowhere ≡ cell (hits (Moving s t)) a b
+  turned k = nowhere (λ c l h. omega arith)
+
+  plain : (r : Third) → t ≤ mostCourse → 100 * ((b - 28) % 10) ≤ t → r ≡ thirdAt (hits (Moving s t)) a b (t - 100 * ((b - 28) % 10)) → fieldsOf a b r ≡ cell (hits (Moving s t)) a b
+  unfolding degrees
+  plain r m k e =
+      ap (fieldsOf a b) e
+      ∙ third-at _ a b _ (λ c l q. let h = motion-hit s t a b c q in ⊎-elim (λ u. omega arith) (λ u. omega arith) (lessIf-split 400 (100 * ((b - 28) % 10) + (c - 28))))
+
+  far : t < 100 * ((b - 28) % 10) → t + 400 < 100 * ((b - 28) % 10) → fieldsOf a b Nowhere ≡ cell (hits (Moving s t)) a b
+  unfolding degrees
+  far k n = nowhere (λ c l h. ⊎-elim (λ u. omega arith) (λ u. omega arith) (lessIf-split 400 (100 * ((b - 28) % 10) + (c - 28))))
+
+  round : (r : Third) → t < 100 * ((b - 28) % 10) → 100 * ((b - 28) % 10) ≤ t + 400
+      → r ≡ thirdAt (hits (Moving s t)) a b (t + 400 - 100 * ((b - 28) % 10)) → fieldsOf a b r ≡ cell (hits (Moving s t)) a b
+  unfolding degrees
+  round r k n e =
+      ap (fieldsOf a b) e
+      ∙ third-at _ a b _ (λ c l q. let h = motion-hit s t a b c q in ⊎-elim (λ u. omega arith) (λ u. omega arith) (lessIf-split 400 (100 * ((b - 28) % 10) + (c - 28))))
+
+returns : tie.Need-returns
+returns c = search low
+
+returns-2 : tie.Need-returns-2
+returns-2 c = search turned
+
+sub-e : tie.Need-sub-e
+sub-e c = search needs
+
+mul-e : tie.Need-mul-e
+mul-e c = search needs
+
+motion-at-requires : tie.Need-motion-at-requires
+motion-at-requires c κs = search needs
+
+returns-3 : tie.Need-returns-3
+returns-3 c = search plain
+
+add-if4 : tie.Need-add-if4
+add-if4 c = search needs
+
+returns-4 : tie.Need-returns-4
+returns-4 c = search far
+
+add-motion-at : tie.Need-add-motion-at
+add-motion-at c = search needs
+
+sub-motion-at : tie.Need-sub-motion-at
+sub-motion-at c = search needs
+
+motion-at-requires-2 : tie.Need-motion-at-requires-2
+motion-at-requires-2 c κs = search needs
+
+returns-5 : tie.Need-returns-5
+returns-5 c = search round
+
+pub third-motion-spec : {M : Type 1} → statement M
+third-motion-spec =
+    tie.close
+    (tie.spec
+    returns
+    returns-2
+    sub-e
+    mul-e
+    motion-at-requires
+    returns-3
+    add-if4
+    returns-4
+    add-motion-at
+    sub-motion-at
+    motion-at-requires-2
+    returns-5)

@@ -1,0 +1,11 @@
+pub mod Turn
+pub mod Tests
+pub mod Answers
+pub mod Range
+pub mod MotionFacts
+pub mod LongitudeFacts
+pub mod CharacterFacts
+pub mod DestinationFacts
+pub mod Theorems
+pub mod Cases
+pub mod Unique

@@ -1,0 +1,181 @@
+-- What is written reads back: speed and course, longitude under the writer's offset and side, the information, and the
+-- whole Mic-E part of a record. And what is read is in range.
+-- Assumes nothing.
+use mathlib.Core.Path.{_≡_, refl, ap, _∙_}
+use mathlib.Core.Bool.{Bool, true, false, cond, not}
+use mathlib.Core.List.{List, _++_}
+use Prim.Native.Nat.{ℕ, _/_, _%_, _≤_, _<_}
+use native.Mathlib.Omega.{arith}
+use borrow.Author.Tests.{le-ltb, lt-leb}
+use lib.IntN.{ℤ, natAbs}
+use lib.Dec.{eqb, ltb}
+use lib.ListN.{length, getD, drop}
+use Rattle.lonlat.specs.Angle.{mostLatitude, mostLongitude, widthOf, isMinus}
+use Rattle.lonlat.specs.Latitude.{latitudeRefusal, readLatitude}
+use Rattle.lonlat.specs.declared.LatitudeRead.{LatitudeRead}
+use Rattle.lonlat.specs.declared.LatitudeRead.the-variants.{Read as Latitude-read, Refused as Latitude-refused}
+use Rattle.lonlat.specs.declared.Latitude.{Latitude}
+use Rattle.lonlat.specs.declared.Longitude.{Longitude}
+use Rattle.lonlat.proofs.Angle.{rejoined, size-signed}
+use Rattle.lonlat.proofs.Theorems.{read-latitude-found}
+use Rattle.mic_e.specs.Motion.{mostSpeed, mostCourse, readMotion, motionField}
+use Rattle.mic_e.specs.Longitude.{readLongitude, longitudeOut, hundredOf, hundredFor, longitudeField}
+use Rattle.mic_e.specs.Destination.{readDestination, areCharacters, textIn, destinationWith, destinationBytes, destinationRefusal, writeDestination}
+use Rattle.mic_e.specs.Information.{readInformation, informationOf, informationOut, informationBytes}
+use Rattle.mic_e.specs.declared.Speed.{Speed}
+use Rattle.mic_e.specs.declared.Course.{Course}
+use Rattle.mic_e.specs.declared.Destination.{Destination}
+use Rattle.mic_e.specs.declared.DestinationRead.{DestinationRead}
+use Rattle.mic_e.specs.declared.DestinationRead.the-variants.{Read as Destination-read, Refused as Destination-refused}
+use Rattle.mic_e.specs.declared.DestinationWritten.{DestinationWritten}
+use Rattle.mic_e.specs.declared.Message.{Message}
+use Rattle.mic_e.specs.declared.Information.{Information}
+use Rattle.mic_e.specs.declared.InformationRead.the-variants.{Read as Information-read, Refused as Information-refused}
+use Rattle.mic_e.specs.declared.LongitudeField.{LongitudeField}
+use Rattle.mic_e.specs.declared.LongitudeField.the-variants.{Read as Longitude-read, Refused as Longitude-refused}
+use Rattle.mic_e.specs.declared.Motion.{Motion}
+use Rattle.mic_e.specs.declared.Motion.the-variants.{Read as Motion-read, Refused as Motion-refused}
+use Rattle.mic_e.proofs.Range.{in-longitude, in-speed, in-course}
+use Rattle.mic_e.proofs.MotionFacts.{reads-moves, moves-reads, written-moves}
+use Rattle.mic_e.proofs.LongitudeFacts.{reads-lies, lies-reads, written-lies}
+use Rattle.mic_e.proofs.DestinationFacts.{destination-reads-back}
+
+-- speed and course as written read as the same
+pub motion-reads-back : (s t : ℕ) → s ≤ mostSpeed → t ≤ mostCourse
+    → readMotion (motionField s t .first) (motionField s t .second) (motionField s t .third) ≡ Motion-read (record { 0 = s }) (record { 0 = t })
+motion-reads-back s t hs ht = moves-reads s t _ _ _ (written-moves s t hs ht)
+
+-- longitude short of 180 degrees, as written, with the writer's offset and side, reads as the same
+pub longitude-reads-back : (z : ℤ) → natAbs z < mostLongitude
+    → readLongitude (hundredOf z) (isMinus z) (longitudeField (natAbs z) .first) (longitudeField (natAbs z) .second) (longitudeField (natAbs z) .third)
+    ≡ Longitude-read (record { 0 = z })
+unfolding hundredOf
+longitude-reads-back z h =
+    lies-reads (hundredFor (natAbs z / 6000)) (isMinus z) _ _ _ (natAbs z) (written-lies (natAbs z) h)
+    ∙ ap (λ (x : ℤ). Longitude-read (record { 0 = x })) (rejoined z)
+
+-- the information as written, with the writer's offset and side, reads as the same, whatever comment follows
+pub information-reads-back : (i : Information) (comment : List ℕ) → informationOut i ≡ false
+    → readInformation (informationBytes i ++ comment) (hundredOf (i .longitude .0)) (isMinus (i .longitude .0)) ≡ Information-read i
+unfolding readInformation informationBytes informationOf
+information-reads-back i comment h =
+    let room : 8 ≤ length (informationBytes i ++ comment) = omega arith in
+    rw (le-ltb (length (informationBytes i ++ comment)) 8 room, longitude-reads-back (i .longitude .0) (in-longitude i h), motion-reads-back (i .speed .0) (i .course .0) (in-speed i h) (in-course i h))
+
+-- and the comment is the rest
+pub comment-comes-back : (i : Information) (comment : List ℕ) → drop 8 (informationBytes i ++ comment) ≡ comment
+unfolding informationBytes
+comment-comes-back i comment = refl
+
+-- ---- the whole: destination and information as written, read by themselves
+
+-- what the destination of a record says
+unfoldable pub destinationFor : ℤ → ℕ → Message → ℤ → Destination
+destinationFor latitude blanks message longitude =
+    record {
+      latitude = record { 0 = latitude };
+      blanks = blanks;
+      north = not (isMinus latitude);
+      message = message;
+      hundred = hundredOf longitude;
+      west = isMinus longitude;
+    }
+
+-- what is in range is written
+pub destination-written : (latitude : ℤ) (blanks : ℕ) (message : Message) (longitude : ℤ)
+    → natAbs latitude ≤ mostLatitude → blanks ≤ 5 → natAbs longitude < mostLongitude
+    → writeDestination latitude blanks message longitude ≡ record { refusal = 0; bytes = destinationBytes latitude blanks message longitude }
+unfolding writeDestination destinationRefusal longitudeOut latitudeRefusal
+destination-written latitude blanks message longitude near few short =
+    rw (lt-leb mostLongitude (natAbs longitude) short, le-ltb mostLatitude (natAbs latitude) near, le-ltb 5 blanks few)
+
+module _ (latitude : ℤ) (blanks : ℕ) (message : Message) (i : Information) (comment : List ℕ) where
+  abbrev call : List ℕ
+  call = writeDestination latitude blanks message (i .longitude .0) .bytes
+
+  pub record ReadsBack : Type 0 where
+    pub accepted : writeDestination latitude blanks message (i .longitude .0) .refusal ≡ 0
+    pub destination : readDestination call ≡ Destination-read (destinationFor latitude blanks message (i .longitude .0))
+    pub information : readInformation (informationBytes i ++ comment) (hundredOf (i .longitude .0)) (isMinus (i .longitude .0)) ≡ Information-read i
+    pub rest : drop 8 (informationBytes i ++ comment) ≡ comment
+
+  -- "A Mic-E body and destination as written, read by themselves, give back the Mic-E part of the record and the comment
+  -- bytes, if latitude is a multiple of the width its blanks leave."
+  pub report-reads-back : natAbs latitude ≤ mostLatitude → blanks ≤ 5 → natAbs latitude % widthOf blanks ≡ 0 → informationOut i ≡ false → ReadsBack
+  unfolding destinationFor
+  report-reads-back near few width inside =
+      let w = destination-written latitude blanks message (i .longitude .0) near few (in-longitude i inside) in
+      record {
+        accepted = ap (λ (x : DestinationWritten). x .refusal) w;
+        destination =
+            ap (λ (x : DestinationWritten). readDestination (x .bytes)) w
+            ∙ destination-reads-back latitude blanks message (i .longitude .0) near few width;
+        information = information-reads-back i comment inside;
+        rest = comment-comes-back i comment;
+      }
+
+-- ---- what is read is in range
+
+pub record InformationFound (i : Information) : Type 0 where
+  pub near : natAbs (i .longitude .0) ≤ mostLongitude
+  pub slow : i .speed .0 ≤ mostSpeed
+  pub turned : i .course .0 ≤ mostCourse
+
+informed : (i : Information) (code table : ℕ) (l : LongitudeField) (m : Motion)
+    → ((x : Longitude) → l ≡ Longitude-read x → natAbs (x .0) ≤ mostLongitude)
+    → ((v : Speed) (d : Course) → m ≡ Motion-read v d → (v .0 ≤ mostSpeed) × (d .0 ≤ mostCourse))
+    → informationOf code table l m ≡ Information-read i → InformationFound i
+unfolding informationOf
+informed i code table (Longitude-read x) (Motion-read v d) near range e =
+    let r : record { longitude = x; speed = v; course = d; code = code; table = table } ≡ i = cc in
+    rw (← r) (record { near = near x refl; slow = range v d refl .0; turned = range v d refl .1 })
+informed i code table (Longitude-read x) Motion-refused near range e = absurd (let z : _≡_ {A = ℕ} 0 1 = cc in omega arith)
+informed i code table Longitude-refused m near range e = absurd (let z : _≡_ {A = ℕ} 0 1 = cc in omega arith)
+
+module _ (s : List ℕ) (hundred west : Bool) (i : Information) where
+  near-read : (x : Longitude) → readLongitude hundred west (getD s 0 0) (getD s 1 0) (getD s 2 0) ≡ Longitude-read x → natAbs (x .0) ≤ mostLongitude
+  near-read x e =
+      let h = reads-lies hundred west _ _ _ x e in
+      rw (h .1, size-signed) (h .0 .size-to)
+
+  range-read : (v : Speed) (d : Course) → readMotion (getD s 3 0) (getD s 4 0) (getD s 5 0) ≡ Motion-read v d → (v .0 ≤ mostSpeed) × (d .0 ≤ mostCourse)
+  range-read v d e = let h = reads-moves _ _ _ v d e in (h .speed-to, h .course-to)
+
+  pub read-information-found : readInformation s hundred west ≡ Information-read i → InformationFound i
+  unfolding readInformation
+  read-information-found e = go (ltb (length s) 8) e
+    where
+      go : (t : Bool)
+          → cond t Information-refused (informationOf (getD s 6 0) (getD s 7 0) (readLongitude hundred west (getD s 0 0) (getD s 1 0) (getD s 2 0)) (readMotion (getD s 3 0) (getD s 4 0) (getD s 5 0))) ≡ Information-read i
+          → InformationFound i
+      go true f = absurd (let z : _≡_ {A = ℕ} 0 1 = cc in omega arith)
+      go false f = informed i (getD s 6 0) (getD s 7 0) _ _ near-read range-read f
+
+-- the latitude and blanks of a destination that was read, as lonlat has them
+sited : (call : List ℕ) (d : Destination) (r : LatitudeRead)
+    → ((l : Latitude) (b k : ℕ) → r ≡ Latitude-read l b k → (natAbs (l .0) ≤ mostLatitude) × (b ≤ 5))
+    → destinationWith call r ≡ Destination-read d → (natAbs (d .latitude .0) ≤ mostLatitude) × (d .blanks ≤ 5)
+unfolding destinationWith
+sited call d (Latitude-read l b k) h e =
+    let p : l ≡ d .latitude = ap latitude-in e in
+    let q : b ≡ d .blanks = ap blanks-in e in
+    rw (← p, ← q) (h l b k refl)
+  where
+    latitude-in : DestinationRead → Latitude
+    latitude-in (Destination-read x) = x .latitude
+    latitude-in Destination-refused = l
+
+    blanks-in : DestinationRead → ℕ
+    blanks-in (Destination-read x) = x .blanks
+    blanks-in Destination-refused = b
+sited call d Latitude-refused h e = absurd (let z : _≡_ {A = ℕ} 0 1 = cc in omega arith)
+
+pub read-destination-found : (call : List ℕ) (d : Destination) → readDestination call ≡ Destination-read d → (natAbs (d .latitude .0) ≤ mostLatitude) × (d .blanks ≤ 5)
+unfolding readDestination
+read-destination-found call d e = go (eqb (length call) 6) (areCharacters call) e
+  where
+    go : (t u : Bool) → cond t (cond u (destinationWith call (readLatitude (textIn call))) Destination-refused) Destination-refused ≡ Destination-read d
+        → (natAbs (d .latitude .0) ≤ mostLatitude) × (d .blanks ≤ 5)
+    go true true f = sited call d (readLatitude (textIn call)) (λ l b k q. let h = read-latitude-found l b k (textIn call) q in (h .near, h .few)) f
+    go true false f = absurd (let z : _≡_ {A = ℕ} 0 1 = cc in omega arith)
+    go false u f = absurd (let z : _≡_ {A = ℕ} 0 1 = cc in omega arith)

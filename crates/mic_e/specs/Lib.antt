@@ -1,0 +1,7 @@
+pub mod Turn
+pub mod Motion
+pub mod Longitude
+pub mod Message
+pub mod Character
+pub mod Destination
+pub mod Information

@@ -1,0 +1,686 @@
+// Mic-E reports: the destination that carries a latitude, a message and two flags, and the eight bytes of
+// information that carry longitude, speed, course and symbol. Angles are lonlat's, by its promise alone.
+ghost use mathlib.Core.Path.{_≡_};
+ghost use mathlib.Core.Bool.{false, cond};
+ghost use Prim.Native.Nat.{_+_, _≤_, _<_};
+ghost use lib.IntN.{natAbs};
+ghost use lib.ListN.{length, getD};
+ghost use Rattle.laws.specs.Bytes.{capitalN, capitalS, within};
+ghost use Rattle.laws.specs.Wrote.{ends, wrote};
+ghost use Rattle.lonlat.specs.Latitude.{readLatitude};
+ghost use Rattle.lonlat.specs.Angle.{mostLongitude, sidesOf};
+ghost use Rattle.mic_e.specs.Turn.{lessIf};
+ghost use Rattle.mic_e.specs.Motion.{mostSpeed, mostCourse, readMotion, motionField};
+ghost use Rattle.mic_e.specs.Longitude.{offsetOf, wrapped, readLongitude, longitudeField, degreesByte, minutesByte, hundredFor};
+ghost use Rattle.mic_e.specs.Message.{messageOf, bits, bitsOf};
+ghost use Rattle.mic_e.specs.Character.{isCharacter, isLast, isFlagged, digitOf, bitOf, characterOf, flagBit};
+ghost use Rattle.mic_e.specs.Destination.{areCharacters, textIn, destinationWith, readDestination, charactersOf, writeDestination};
+ghost use Rattle.mic_e.specs.Information.{readInformation, informationOut, informationRefusal, informationBytes};
+use lonlat::Latitude;
+use lonlat::LatitudeRead;
+use lonlat::Longitude;
+use lonlat::LongitudeMade;
+use lonlat::Sides;
+
+// A speed in knots, at most 799.
+pub struct Speed(pub u32);
+
+// A course in degrees, at most 360; 0 is an unknown one.
+pub struct Course(pub u32);
+
+// Three bytes of information: a longitude or a motion.
+pub struct Field {
+    pub first: u8,
+    pub second: u8,
+    pub third: u8,
+}
+
+// What three bytes of motion read as; a refusal is 12.
+pub enum Motion {
+    Read(Speed, Course),
+    Refused,
+}
+
+// What three bytes of longitude read as; a refusal is 12.
+pub enum LongitudeField {
+    Read(Longitude),
+    Refused,
+}
+
+// What the eight bytes say: the symbol's code byte stands before its table byte.
+pub struct Information {
+    pub longitude: Longitude,
+    pub speed: Speed,
+    pub course: Course,
+    pub code: u8,
+    pub table: u8,
+}
+
+// What a report's information reads as; a refusal is 12.
+pub enum InformationRead {
+    Read(Information),
+    Refused,
+}
+
+// The standard messages, the custom ones, and two more.
+pub enum Message {
+    M0,
+    M1,
+    M2,
+    M3,
+    M4,
+    M5,
+    M6,
+    C0,
+    C1,
+    C2,
+    C3,
+    C4,
+    C5,
+    C6,
+    Emergency,
+    Unknown,
+}
+
+// What a destination says. `north` is the side as it was read, also of a latitude of 0.
+pub struct Destination {
+    pub latitude: Latitude,
+    pub blanks: u8,
+    pub north: bool,
+    pub message: Message,
+    pub hundred: bool,
+    pub west: bool,
+}
+
+// What a destination reads as; a refusal is 11.
+pub enum DestinationRead {
+    Read(Destination),
+    Refused,
+}
+
+// The six characters, or zeros with the refusal 15.
+pub struct DestinationWritten {
+    pub refusal: u8,
+    pub bytes: [u8; 6],
+}
+
+// The bit of a destination's character: 0, a custom 1 or a standard 1.
+enum Bit {
+    Zero,
+    Custom,
+    Standard,
+}
+
+// The bits of the first three characters.
+struct Bits {
+    first: Bit,
+    second: Bit,
+    third: Bit,
+}
+
+// v, with k off if it is k or more.
+fn less_if(k: u32, v: u32) -> u32
+    ensures { λ r. ⌜ r ≡ lessIf k v ⌝ }
+{
+    if k <= v { v - k } else { v }
+}
+
+// The speed and course of three bytes.
+pub fn read_motion(a: u8, b: u8, c: u8) -> Motion
+    ensures { λ r. ⌜ r ≡ readMotion a b c ⌝ }
+{
+    if a < 28 {
+        return Motion::Refused;
+    }
+    if b < 28 {
+        return Motion::Refused;
+    }
+    if c < 28 {
+        return Motion::Refused;
+    }
+    let x = (a as u32) - 28;
+    let y = (b as u32) - 28;
+    let z = (c as u32) - 28;
+    let speed = less_if(800, 10 * x + y / 10);
+    if 799 < speed {
+        return Motion::Refused;
+    }
+    let course = less_if(400, 100 * (y % 10) + z);
+    if 360 < course {
+        return Motion::Refused;
+    }
+    Motion::Read(Speed(speed), Course(course))
+}
+
+fn offset_of(hundred: bool) -> u32
+    ensures { λ r. ⌜ r ≡ offsetOf hundred ⌝ }
+{
+    if hundred { 100 } else { 0 }
+}
+
+// v, with 80 off if it is 180 to 189, and 190 off if it is 190 to 199.
+fn wrap(v: u32) -> u32
+    ensures { λ r. ⌜ r ≡ wrapped v ⌝ }
+{
+    if v < 180 {
+        return v;
+    }
+    if v < 190 {
+        return v - 80;
+    }
+    if v < 200 {
+        return v - 190;
+    }
+    v
+}
+
+// The longitude of three bytes, under the offset and the side that the destination gave.
+pub fn read_longitude(hundred: bool, west: bool, a: u8, b: u8, c: u8) -> LongitudeField
+    ensures { λ r. ⌜ r ≡ readLongitude hundred west a b c ⌝ }
+{
+    if a < 28 {
+        return LongitudeField::Refused;
+    }
+    if b < 28 {
+        return LongitudeField::Refused;
+    }
+    if c < 28 {
+        return LongitudeField::Refused;
+    }
+    let x = (a as u32) - 28 + offset_of(hundred);
+    if 255 < x {
+        return LongitudeField::Refused;
+    }
+    let y = (b as u32) - 28;
+    let z = (c as u32) - 28;
+    let size = 6000 * wrap(x) + 100 * less_if(60, y) + z;
+    let made = lonlat::longitude_of(size, west);
+    match made {
+        LongitudeMade::Made(longitude) => LongitudeField::Read(longitude),
+        LongitudeMade::OutOfRange => LongitudeField::Refused,
+    }
+}
+
+// The three bytes of a speed and course.
+fn motion_field(speed: u32, course: u32) -> Field
+    requires { ⌜ (speed ≤ mostSpeed) × (course ≤ mostCourse) ⌝ }
+    ensures { λ r. ⌜ r ≡ motionField speed course ⌝ }
+{
+    let second = (10 * (speed % 10) + course / 100 + 4 + 28) as u8;
+    let third = (course % 100 + 28) as u8;
+    if speed / 10 < 20 {
+        return Field {
+            first: (speed / 10 + 80 + 28) as u8,
+            second,
+            third,
+        };
+    }
+    Field {
+        first: (speed / 10 + 28) as u8,
+        second,
+        third,
+    }
+}
+
+// The three bytes of a longitude's size, which the offset `takes_hundred` of its degrees goes with.
+fn longitude_field(size: u32) -> Field
+    requires { ⌜ size < mostLongitude ⌝ }
+    ensures { λ r. ⌜ r ≡ longitudeField size ⌝ }
+{
+    let first = degrees_byte(size / 6000);
+    let second = minutes_byte(size / 100 % 60);
+    Field {
+        first,
+        second,
+        third: (size % 100 + 28) as u8,
+    }
+}
+
+// The degrees' byte.
+fn degrees_byte(d: u32) -> u8
+    requires { ⌜ d < 180 ⌝ }
+    ensures { λ r. ⌜ r ≡ degreesByte d + 28 ⌝ }
+{
+    if d < 10 {
+        return (d + 90 + 28) as u8;
+    }
+    if d < 100 {
+        return (d + 28) as u8;
+    }
+    if d < 110 {
+        return (d - 20 + 28) as u8;
+    }
+    (d - 100 + 28) as u8
+}
+
+// The minutes' byte.
+fn minutes_byte(m: u32) -> u8
+    requires { ⌜ m < 60 ⌝ }
+    ensures { λ r. ⌜ r ≡ minutesByte m + 28 ⌝ }
+{
+    if m < 10 {
+        return (m + 60 + 28) as u8;
+    }
+    (m + 28) as u8
+}
+
+// Whether degrees are written under the offset 100.
+fn takes_hundred(d: u32) -> bool
+    ensures { λ r. ⌜ r ≡ hundredFor d ⌝ }
+{
+    if d < 10 {
+        return true;
+    }
+    if d < 100 {
+        return false;
+    }
+    true
+}
+
+// Whether b is one of the bytes from lo to hi.
+fn between(lo: u8, hi: u8, b: u8) -> bool
+    ensures { λ r. ⌜ r ≡ within lo hi b ⌝ }
+{
+    if lo <= b {
+        return b <= hi;
+    }
+    false
+}
+
+// Whether a character shows a digit or a blank.
+fn is_character(c: u8) -> bool
+    ensures { λ r. ⌜ r ≡ isCharacter c ⌝ }
+{
+    if between(b'0', b'9', c) {
+        return true;
+    }
+    if between(b'A', b'L', c) {
+        return true;
+    }
+    between(b'P', b'Z', c)
+}
+
+// Whether it may stand among the last three.
+fn is_last(c: u8) -> bool
+    ensures { λ r. ⌜ r ≡ isLast c ⌝ }
+{
+    if is_character(c) {
+        return !between(b'A', b'K', c);
+    }
+    false
+}
+
+// The digit or blank that a character shows.
+fn digit_of(c: u8) -> u8
+    ensures { λ r. ⌜ r ≡ digitOf c ⌝ }
+{
+    if between(b'0', b'9', c) {
+        return c;
+    }
+    if between(b'A', b'J', c) {
+        return c - b'A' + b'0';
+    }
+    if between(b'P', b'Y', c) {
+        return c - b'P' + b'0';
+    }
+    b' '
+}
+
+// The bit of a character.
+fn bit_of(c: u8) -> Bit
+    ensures { λ r. ⌜ r ≡ bitOf c ⌝ }
+{
+    if between(b'A', b'K', c) {
+        return Bit::Custom;
+    }
+    if between(b'P', b'Z', c) {
+        return Bit::Standard;
+    }
+    Bit::Zero
+}
+
+// The character of a bit and a digit; of any other byte than a digit, the bit's blank.
+fn character_of(bit: Bit, d: u8) -> u8
+    ensures { λ r. ⌜ r ≡ characterOf bit d ⌝ }
+{
+    if between(b'0', b'9', d) {
+        return match bit {
+            Bit::Zero => d,
+            Bit::Custom => d - b'0' + b'A',
+            Bit::Standard => d - b'0' + b'P',
+        };
+    }
+    match bit {
+        Bit::Zero => b'L',
+        Bit::Custom => b'K',
+        Bit::Standard => b'Z',
+    }
+}
+
+// The message of the first three characters' bits.
+fn message_of(x: Bit, y: Bit, z: Bit) -> Message
+    ensures { λ r. ⌜ r ≡ messageOf x y z ⌝ }
+{
+    match x {
+        Bit::Zero => match y {
+            Bit::Zero => match z {
+                Bit::Zero => Message::Emergency,
+                Bit::Custom => Message::C6,
+                Bit::Standard => Message::M6,
+            },
+            Bit::Custom => match z {
+                Bit::Zero => Message::C5,
+                Bit::Custom => Message::C4,
+                Bit::Standard => Message::Unknown,
+            },
+            Bit::Standard => match z {
+                Bit::Zero => Message::M5,
+                Bit::Custom => Message::Unknown,
+                Bit::Standard => Message::M4,
+            },
+        },
+        Bit::Custom => match y {
+            Bit::Zero => match z {
+                Bit::Zero => Message::C3,
+                Bit::Custom => Message::C2,
+                Bit::Standard => Message::Unknown,
+            },
+            Bit::Custom => match z {
+                Bit::Zero => Message::C1,
+                Bit::Custom => Message::C0,
+                Bit::Standard => Message::Unknown,
+            },
+            Bit::Standard => Message::Unknown,
+        },
+        Bit::Standard => match y {
+            Bit::Zero => match z {
+                Bit::Zero => Message::M3,
+                Bit::Custom => Message::Unknown,
+                Bit::Standard => Message::M2,
+            },
+            Bit::Custom => Message::Unknown,
+            Bit::Standard => match z {
+                Bit::Zero => Message::M1,
+                Bit::Custom => Message::Unknown,
+                Bit::Standard => Message::M0,
+            },
+        },
+    }
+}
+
+fn three_bits(first: Bit, second: Bit, third: Bit) -> Bits
+    ensures { λ r. ⌜ r ≡ bits first second third ⌝ }
+{
+    Bits {
+        first,
+        second,
+        third,
+    }
+}
+
+// The bits of a message as written.
+fn bits_of(m: Message) -> Bits
+    ensures { λ r. ⌜ r ≡ bitsOf m ⌝ }
+{
+    match m {
+        Message::M0 => three_bits(Bit::Standard, Bit::Standard, Bit::Standard),
+        Message::M1 => three_bits(Bit::Standard, Bit::Standard, Bit::Zero),
+        Message::M2 => three_bits(Bit::Standard, Bit::Zero, Bit::Standard),
+        Message::M3 => three_bits(Bit::Standard, Bit::Zero, Bit::Zero),
+        Message::M4 => three_bits(Bit::Zero, Bit::Standard, Bit::Standard),
+        Message::M5 => three_bits(Bit::Zero, Bit::Standard, Bit::Zero),
+        Message::M6 => three_bits(Bit::Zero, Bit::Zero, Bit::Standard),
+        Message::C0 => three_bits(Bit::Custom, Bit::Custom, Bit::Custom),
+        Message::C1 => three_bits(Bit::Custom, Bit::Custom, Bit::Zero),
+        Message::C2 => three_bits(Bit::Custom, Bit::Zero, Bit::Custom),
+        Message::C3 => three_bits(Bit::Custom, Bit::Zero, Bit::Zero),
+        Message::C4 => three_bits(Bit::Zero, Bit::Custom, Bit::Custom),
+        Message::C5 => three_bits(Bit::Zero, Bit::Custom, Bit::Zero),
+        Message::C6 => three_bits(Bit::Zero, Bit::Zero, Bit::Custom),
+        Message::Emergency => three_bits(Bit::Zero, Bit::Zero, Bit::Zero),
+        Message::Unknown => three_bits(Bit::Standard, Bit::Custom, Bit::Standard),
+    }
+}
+
+// Whether each of six characters may stand at its place.
+fn are_characters(call: &[u8]) -> bool
+    requires { ⌜ length (now call) ≡ 6 ⌝ }
+    ensures { λ r. ⌜ r ≡ areCharacters (now (call .entry)) ⌝ }
+{
+    if !is_character(call[0]) {
+        return false;
+    }
+    if !is_character(call[1]) {
+        return false;
+    }
+    if !is_character(call[2]) {
+        return false;
+    }
+    if !is_last(call[3]) {
+        return false;
+    }
+    if !is_last(call[4]) {
+        return false;
+    }
+    is_last(call[5])
+}
+
+// The flag of one of the last three characters.
+fn is_flagged(c: u8) -> bool
+    ensures { λ r. ⌜ r ≡ isFlagged c ⌝ }
+{
+    between(b'P', b'Z', c)
+}
+
+// The letter of the latitude.
+fn letter_of(c: u8) -> u8
+    ensures { λ r. ⌜ r ≡ cond (isFlagged c) capitalN capitalS ⌝ }
+{
+    if is_flagged(c) { b'N' } else { b'S' }
+}
+
+// The text of the latitude that six characters carry.
+fn text_in(call: &[u8]) -> [u8; 8]
+    requires { ⌜ length (now call) ≡ 6 ⌝ }
+    ensures { λ r. ⌜ r ≡ textIn (now (call .entry)) ⌝ }
+{
+    let a = digit_of(call[0]);
+    let b = digit_of(call[1]);
+    let c = digit_of(call[2]);
+    let d = digit_of(call[3]);
+    let e = digit_of(call[4]);
+    let f = digit_of(call[5]);
+    let letter = letter_of(call[3]);
+    [a, b, c, d, b'.', e, f, letter]
+}
+
+// The message of the first three characters.
+fn message_in(call: &[u8]) -> Message
+    requires { ⌜ length (now call) ≡ 6 ⌝ }
+    ensures { λ r. ⌜ r ≡ messageOf (bitOf (getD (now (call .entry)) 0 0)) (bitOf (getD (now (call .entry)) 1 0)) (bitOf (getD (now (call .entry)) 2 0)) ⌝ }
+{
+    message_of(bit_of(call[0]), bit_of(call[1]), bit_of(call[2]))
+}
+
+// The destination of six characters that may stand at their places.
+fn destination_in(call: &[u8]) -> DestinationRead
+    requires { ⌜ length (now call) ≡ 6 ⌝ }
+    ensures { λ r. ⌜ r ≡ destinationWith (now (call .entry)) (readLatitude (textIn (now (call .entry)))) ⌝ }
+{
+    let text = text_in(call);
+    let read = lonlat::read_latitude(&text);
+    match read {
+        LatitudeRead::Read {
+            latitude,
+            blanks,
+            letter: _,
+        } => DestinationRead::Read(Destination {
+            latitude,
+            blanks,
+            north: is_flagged(call[3]),
+            message: message_in(call),
+            hundred: is_flagged(call[4]),
+            west: is_flagged(call[5]),
+        }),
+        LatitudeRead::Refused => DestinationRead::Refused,
+    }
+}
+
+// The destination of six call characters; the SSID is no part of them.
+pub fn read_destination(call: &[u8]) -> DestinationRead
+    ensures { λ r. ⌜ r ≡ readDestination (now (call .entry)) ⌝ }
+{
+    if call.len() != 6 {
+        return DestinationRead::Refused;
+    }
+    if are_characters(call) {
+        return destination_in(call);
+    }
+    DestinationRead::Refused
+}
+
+// The character of a flag and a digit or blank.
+fn flagged(flag: bool, d: u8) -> u8
+    ensures { λ r. ⌜ r ≡ characterOf (flagBit flag) d ⌝ }
+{
+    if flag {
+        return character_of(Bit::Standard, d);
+    }
+    character_of(Bit::Zero, d)
+}
+
+// The six characters of a latitude's text, the message's bits and the longitude's flags.
+fn characters(text: [u8; 8], bits: Bits, hundred: bool, west: bool) -> [u8; 6]
+    ensures { λ r. ⌜ r ≡ charactersOf text bits hundred west ⌝ }
+{
+    let first = bits.first;
+    let second = bits.second;
+    let third = bits.third;
+    let a = character_of(first, text[0]);
+    let b = character_of(second, text[1]);
+    let c = character_of(third, text[2]);
+    let d = flagged(text[7] == b'N', text[3]);
+    let e = flagged(hundred, text[5]);
+    let f = flagged(west, text[6]);
+    [a, b, c, d, e, f]
+}
+
+// A longitude taken apart.
+fn sides_of(longitude: Longitude) -> Sides
+    ensures { λ r. ⌜ r ≡ sidesOf (longitude .0) ⌝ }
+{
+    let angle = longitude.0;
+    lonlat::parts(angle)
+}
+
+// The destination of a latitude with its blanks, a message and a longitude, whose offset and side it carries; or 15.
+pub fn write_destination(
+    latitude: Latitude,
+    blanks: u8,
+    message: Message,
+    longitude: Longitude,
+) -> DestinationWritten
+    ensures { λ r. ⌜ r ≡ writeDestination (latitude .0) blanks message (longitude .0) ⌝ }
+{
+    let sides = sides_of(longitude);
+    if 1080000 <= sides.size {
+        return DestinationWritten {
+            refusal: 15,
+            bytes: [0; 6],
+        };
+    }
+    let mut text = [0u8; 8];
+    let answer = lonlat::write_latitude(latitude, blanks, &mut text);
+    if answer.refusal != 0 {
+        return DestinationWritten {
+            refusal: answer.refusal,
+            bytes: [0; 6],
+        };
+    }
+    let bits = bits_of(message);
+    let hundred = takes_hundred(sides.size / 6000);
+    let bytes = characters(text, bits, hundred, sides.minus);
+    DestinationWritten { refusal: 0, bytes }
+}
+
+// The information of what follows the type byte, under the offset and the side that the destination gave; its comment is
+// the rest, from the ninth byte on.
+pub fn read_information(s: &[u8], hundred: bool, west: bool) -> InformationRead
+    ensures { λ r. ⌜ r ≡ readInformation (now (s .entry)) hundred west ⌝ }
+{
+    if s.len() < 8 {
+        return InformationRead::Refused;
+    }
+    let field = read_longitude(hundred, west, s[0], s[1], s[2]);
+    let LongitudeField::Read(longitude) = field else {
+        return InformationRead::Refused;
+    };
+    let motion = read_motion(s[3], s[4], s[5]);
+    match motion {
+        Motion::Read(speed, course) => InformationRead::Read(Information {
+            longitude,
+            speed,
+            course,
+            code: s[6],
+            table: s[7],
+        }),
+        Motion::Refused => InformationRead::Refused,
+    }
+}
+
+// A longitude's distance from 0.
+fn size_of(longitude: Longitude) -> u32
+    ensures { λ r. ⌜ r ≡ natAbs (longitude .0) ⌝ }
+{
+    let sides = sides_of(longitude);
+    sides.size
+}
+
+// Whether the information is out of the range that a writer takes.
+fn is_out(i: Information) -> bool
+    ensures { λ r. ⌜ r ≡ informationOut i ⌝ }
+{
+    let longitude = i.longitude;
+    let speed = i.speed.0;
+    let course = i.course.0;
+    if 1080000 <= size_of(longitude) {
+        return true;
+    }
+    if 799 < speed {
+        return true;
+    }
+    360 < course
+}
+
+// The eight bytes.
+fn information_bytes(i: Information) -> [u8; 8]
+    requires { ⌜ informationOut i ≡ false ⌝ }
+    ensures { λ r. ⌜ r ≡ informationBytes i ⌝ }
+{
+    let longitude = i.longitude;
+    let speed = i.speed.0;
+    let course = i.course.0;
+    let l = longitude_field(size_of(longitude));
+    let m = motion_field(speed, course);
+    [
+        l.first,
+        l.second,
+        l.third,
+        m.first,
+        m.second,
+        m.third,
+        i.code,
+        i.table,
+    ]
+}
+
+// Writes the eight bytes to the front of out, or answers 15 or 16 and leaves it alone.
+pub fn write_information(i: Information, out: &mut [u8]) -> laws::Answer
+    ensures { λ r. ⌜ ends r (now (out .exit)) ≡ wrote (informationRefusal i) (informationBytes i) (now (out .entry)) ⌝ }
+{
+    if is_out(i) {
+        return laws::refused(15);
+    }
+    let bytes = information_bytes(i);
+    laws::write(&bytes, out)
+}
