@@ -1,0 +1,65 @@
+-- P11 of document 01 in a whole packet, by computing: hops A,B*,C of a line with a position read as A and B heard, C not, and
+-- the record is written as the same line.
+-- Assumes nothing.
+use mathlib.Core.Path.{_≡_, refl}
+use mathlib.Core.Bool.{false}
+use mathlib.Core.List.{List, [], _∷_, _++_}
+use Prim.Native.Nat.{ℕ}
+use lib.IntN.{pos}
+use Rattle.laws.specs.Bytes.{comma, point, slash, dash, digit0, colon, greater, bang, capitalE, capitalN, within}
+use Rattle.laws.specs.Lists.{indexOf, padTo}
+use Rattle.callsign.specs.Utf8.{after, characters, utf8}
+use Rattle.callsign.specs.Text.{joined, made, isZero, callAccepted, parted, readUnstarred, readText as readCall}
+use Rattle.callsign.specs.Range.{callPart, ssidPart, textOf as callText, withStar}
+use Rattle.header.specs.Header.{pathOf, hopsOf, headerOf, accepted, unlessRefused, before, pathRead}
+use Rattle.header.specs.Text.{onFirst, fields, firstOf, othersOf, isQ, hopOf, readHop, hopThen, textHops, anyHeard, carried, carriedBack}
+use Rattle.header.specs.Text.{withPath, readRoute, readBefore, readTextHeader, hopsText, routeText, headerText}
+use Rattle.header.proofs.Theorems.{P11-text, P11-hops}
+use Rattle.lonlat.specs.Angle.{signedOf, isMinus}
+use Rattle.lonlat.specs.Digits.{every, lastAs, numberAfter, numberOf, degreesOf, minutesOf, hundredthsOf, valueOf, sizeOf, fits, angleIn, digitOf, digitsOf, placesOf, textOf}
+use Rattle.lonlat.specs.Latitude.{blanksIn, restBlank, countedDigits, latitudeWith, latitudeIn, readLatitude, northOrSouth, blankedPlaces, latitudeText}
+use Rattle.lonlat.specs.Longitude.{longitudeWith, longitudeIn, readLongitude, eastOrWest, longitudeText}
+use Rattle.position.specs.Position.{isNumeric, isUncompressed, withLongitude, withLatitude, readPosition, positionText}
+use Rattle.packet.specs.declared.Kind.the-variants.{Position}
+use Rattle.packet.specs.declared.Record.{Record}
+use Rattle.packet.specs.Record.{noReport}
+use Rattle.packet.specs.Body.{openingOf, positionBody, bodyAfter, readBody}
+use Rattle.packet.specs.Packet.{keptTo, recordOf, packetOf, packetAfter, readText}
+use Rattle.packet.specs.Written.{writtenTo, writtenHeader, positionBytes, bodyBytes, bytesOf, textBytes}
+
+-- `X>Y,A,B*,C:!0000.00N/00000.00E-`
+abbrev pub P11-line : List ℕ
+P11-line =
+    0x58 ∷ greater ∷ 0x59 ∷ comma ∷ P11-text
+    ++ (colon ∷ bang ∷ digit0 ∷ digit0 ∷ digit0 ∷ digit0 ∷ point ∷ digit0 ∷ digit0 ∷ capitalN ∷ slash
+    ∷ digit0 ∷ digit0 ∷ digit0 ∷ digit0 ∷ digit0 ∷ point ∷ digit0 ∷ digit0 ∷ capitalE ∷ dash ∷ [])
+
+abbrev pub P11-record : Record
+P11-record =
+    record {
+      kind = Position;
+      from = made (0x58 ∷ []) [];
+      to = made (0x59 ∷ []) [];
+      path = pathOf P11-hops;
+      place = record { latitude = record { 0 = pos 0 }; longitude = record { 0 = pos 0 }; blanks = 0; table = slash; code = dash };
+      messaging = false;
+      «mic_e» = noReport;
+      comment = record { at = 31; len = 0 };
+    }
+
+pub P11-read : readText P11-line ≡ record { refusal = 0; «record» = P11-record }
+unfolding
+    readText packetAfter packetOf recordOf keptTo readBody openingOf bodyAfter positionBody readTextHeader readBefore
+    readRoute withPath pathRead pathOf headerOf unlessRefused accepted firstOf othersOf fields onFirst textHops hopThen
+    before readHop isQ hopOf readCall readUnstarred parted callAccepted indexOf utf8 characters after within isZero made
+    joined padTo carriedBack carried anyHeard readPosition isUncompressed isNumeric withLatitude withLongitude
+    readLatitude latitudeIn latitudeWith readLongitude longitudeIn longitudeWith blanksIn restBlank countedDigits every
+    lastAs numberAfter numberOf degreesOf minutesOf hundredthsOf valueOf sizeOf fits angleIn signedOf
+P11-read = refl
+
+pub P11-written : textBytes P11-record [] ≡ P11-line
+unfolding
+    textBytes bytesOf bodyBytes positionBytes writtenHeader writtenTo positionText latitudeText longitudeText
+    blankedPlaces northOrSouth eastOrWest isMinus textOf placesOf digitsOf digitOf lastAs headerText routeText hopsText
+    hopsOf anyHeard callText callPart ssidPart withStar made joined padTo pathOf
+P11-written = refl

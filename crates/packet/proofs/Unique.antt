@@ -1,0 +1,38 @@
+-- What each public function promises fixes its result: two results that meet one promise are equal.
+-- Assumes nothing.
+use mathlib.Core.Path.{_≡_}
+use mathlib.Core.Bool.{Bool}
+use mathlib.Core.List.{List}
+use Prim.Native.Nat.{ℕ}
+use Rattle.laws.specs.declared.Answer.{Answer}
+use Rattle.laws.specs.Wrote.{ends, wrote}
+use Rattle.laws.proofs.Wrote.{one-value, one-end}
+use Rattle.packet.specs.declared.Record.{Record}
+use Rattle.packet.specs.declared.PacketRead.{PacketRead}
+use Rattle.packet.specs.Record.{blankRecord}
+use Rattle.packet.specs.Range.{recordInRange}
+use Rattle.packet.specs.Packet.{readText, readFrame}
+use Rattle.packet.specs.Written.{textBytes, frameBytes, textRefusal, frameRefusal}
+
+pub unique-blank : (r r′ : Record) → r ≡ blankRecord → r′ ≡ blankRecord → r ≡ r′
+unique-blank r r′ = one-value r r′ blankRecord
+
+pub unique-read-text : (s : List ℕ) (r r′ : PacketRead) → r ≡ readText s → r′ ≡ readText s → r ≡ r′
+unique-read-text s r r′ = one-value r r′ (readText s)
+
+pub unique-read-frame : (s : List ℕ) (r r′ : PacketRead) → r ≡ readFrame s → r′ ≡ readFrame s → r ≡ r′
+unique-read-frame s r r′ = one-value r r′ (readFrame s)
+
+pub unique-in-range : (r : Record) (a a′ : Bool) → a ≡ recordInRange r → a′ ≡ recordInRange r → a ≡ a′
+unique-in-range r a a′ = one-value a a′ (recordInRange r)
+
+module _ (r : Record) (comment out : List ℕ) (a a′ : Answer) (o o′ : List ℕ) where
+  pub unique-write-text : ends a o ≡ wrote (textRefusal r comment) (textBytes r comment) out
+      → ends a′ o′ ≡ wrote (textRefusal r comment) (textBytes r comment) out
+      → (a ≡ a′) × (o ≡ o′)
+  unique-write-text e e′ = one-end a a′ o o′ (wrote (textRefusal r comment) (textBytes r comment) out) e e′
+
+  pub unique-write-frame : ends a o ≡ wrote (frameRefusal r comment) (frameBytes r comment) out
+      → ends a′ o′ ≡ wrote (frameRefusal r comment) (frameBytes r comment) out
+      → (a ≡ a′) × (o ≡ o′)
+  unique-write-frame e e′ = one-end a a′ o o′ (wrote (frameRefusal r comment) (frameBytes r comment) out) e e′

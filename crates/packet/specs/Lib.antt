@@ -1,0 +1,5 @@
+pub mod Record
+pub mod Range
+pub mod Body
+pub mod Packet
+pub mod Written

@@ -1,0 +1,61 @@
+-- A packet read, from a line of text or from a frame: its header, and then its body (document 01, module 5: "Order,
+-- text: 1; `:`; `>`; source; destination; hops from the left; body.").
+-- Assumes nothing.
+use Prim.Native.Nat.{ℕ}
+use mathlib.Core.Bool.{cond}
+use mathlib.Core.List.{List}
+use lib.Dec.{eqb}
+use lib.ListN.{drop}
+use Rattle.callsign.specs.declared.Callsign.{Callsign}
+use Rattle.callsign.specs.Text.{blankCall}
+use Rattle.header.specs.declared.Header.{Header}
+use Rattle.header.specs.declared.HeaderRead.{HeaderRead}
+use Rattle.header.specs.Text.{readTextHeader}
+use Rattle.header.specs.Frame.{readFrameHeader}
+use Rattle.packet.specs.declared.Kind.{Kind}
+use Rattle.packet.specs.declared.Kind.the-variants.{Unknown, Position, MicE}
+use Rattle.packet.specs.declared.Body.{Body}
+use Rattle.packet.specs.declared.Record.{Record}
+use Rattle.packet.specs.declared.PacketRead.{PacketRead}
+use Rattle.packet.specs.Record.{packetRefused}
+use Rattle.packet.specs.Body.{readBody}
+
+-- "a Mic-E record has no destination"
+unfoldable pub keptTo : Kind → Callsign → Callsign
+keptTo Unknown to = to
+keptTo Position to = to
+keptTo MicE to = blankCall
+
+-- the record of a header and a body
+unfoldable pub recordOf : Header → Body → Record
+recordOf h b =
+    record {
+      kind = b .kind;
+      from = h .from;
+      to = keptTo (b .kind) (h .to);
+      path = h .path;
+      place = b .place;
+      messaging = b .messaging;
+      «mic_e» = b .«mic_e»;
+      comment = b .comment;
+    }
+
+-- a header that was read, and what its body gave
+unfoldable pub packetOf : Header → Body → PacketRead
+packetOf h b =
+    cond (eqb (b .refusal) 0)
+    (record { refusal = 0; «record» = recordOf h b })
+    (packetRefused (b .refusal))
+
+-- what stands behind a header, to the input's end, is the body
+unfoldable pub packetAfter : HeaderRead → List ℕ → PacketRead
+packetAfter h s =
+    cond (eqb (h .refusal) 0)
+    (packetOf (h .header) (readBody (h .header .to) (drop (h .body) s) (h .body)))
+    (packetRefused (h .refusal))
+
+unfoldable pub readText : List ℕ → PacketRead
+readText s = packetAfter (readTextHeader s) s
+
+unfoldable pub readFrame : List ℕ → PacketRead
+readFrame s = packetAfter (readFrameHeader s) s
