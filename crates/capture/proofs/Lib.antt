@@ -1,0 +1,9 @@
+pub mod Lines
+pub mod Walk
+pub mod Digits
+pub mod Numbers
+pub mod Rows
+pub mod Calls
+pub mod Hops
+pub mod Pieces
+pub mod Unique

@@ -1,0 +1,29 @@
+-- `add_hops`: two counts, one behind the other.
+-- Assumes nothing.
+use Rattle.capture.proofs.Pieces.{hops-joined}
+use borrow.Author.Needs.{needs}
+use Rattle.capture.proofs.add_hops.Statement.{statement}
+use Rattle.capture.proofs.add_hops.Tie as tie
+use Rattle.capture.proofs.add_hops.Reads as reads
+use Rattle.capture.proofs.add_hops.Lts as lts
+use Rattle.capture.proofs.add_count.Reads as add-count-reads
+use Rattle.capture.proofs.heard.Reads as heard-reads
+
+add-count-requires : tie.Need-add-count-requires
+add-count-requires c κs = search needs
+
+heard-requires : tie.Need-heard-requires
+heard-requires c κs = search needs
+
+add-count-requires-2 : tie.Need-add-count-requires-2
+add-count-requires-2 c κs = search needs
+
+same-length : tie.Need-same-length
+same-length c = search needs
+
+returns : tie.Need-returns
+returns c = (search hops-joined, search needs)
+
+pub add-hops-spec : {M : Type 1} → statement M
+add-hops-spec =
+    tie.close (tie.spec add-count-requires heard-requires add-count-requires-2 same-length returns)

@@ -1,0 +1,45 @@
+use Rattle.capture.proofs.Digits.{count-written}
+use borrow.Author.Needs.{needs}
+use Rattle.capture.proofs.write_count.Statement.{statement}
+use Rattle.capture.proofs.write_count.Tie as tie
+use Rattle.capture.proofs.write_count.Reads as reads
+use Rattle.capture.proofs.write_count.Lts as lts
+use Rattle.capture.proofs.spell.Reads as spell-reads
+use Rattle.laws.proofs.write.Reads as write-reads
+
+slice-aggregate-spell : tie.Need-slice-aggregate-spell
+slice-aggregate-spell c = search needs
+
+spell-requires : tie.Need-spell-requires
+spell-requires c κs = search needs
+
+sub-write : tie.Need-sub-write
+sub-write c = search needs
+
+part-write-start : tie.Need-part-write-start
+part-write-start c = search needs
+
+part-write-end : tie.Need-part-write-end
+part-write-end c = search needs
+
+write-requires : tie.Need-write-requires
+write-requires c κs = search needs
+
+same-length : tie.Need-same-length
+same-length c = search needs
+
+returns : tie.Need-returns
+returns c = search count-written
+
+pub write-count-spec : {M : Type 1} → statement M
+write-count-spec =
+    tie.close
+    (tie.spec
+    slice-aggregate-spell
+    spell-requires
+    sub-write
+    part-write-start
+    part-write-end
+    write-requires
+    same-length
+    returns)
