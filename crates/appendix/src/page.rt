@@ -1,0 +1,300 @@
+// The page: for each setting a heading, a table of its fields and their number; or what is wrong with it.
+ghost use Prim.Native.Nat.{_≤_, _<_};
+use crate::put;
+use crate::setting;
+use crate::setting::Setting;
+use crate::words;
+use lonlat::Longitude;
+use mic_e::Course;
+use mic_e::Speed;
+
+// What stands once, at the top.
+const NOTE: [u8; 257] =
+    *b"Every field of three bytes that a unit may send for a setting, in ascending order.
+Behind the type byte of a Mic-E body, bytes 1 to 3 are longitude, 4 to 6 motion.
+Between bars stand the characters; a dot there is a byte that does not print, or a dot (2e).
+";
+
+// Begins the line for a wrong setting: its number and its text.
+fn wrong(number: usize, text: &[u8], out: &mut [u8], at: usize) -> usize {
+    let end = put::text(b"Setting ", out, at);
+    let end = put::count(number as u64, out, end);
+    let end = put::text(b", \"", out, end);
+    let end = put::characters(text, out, end);
+    put::text(b"\": ", out, end)
+}
+
+// A setting that a lister refuses.
+fn refused(
+    number: usize,
+    text: &[u8],
+    refusal: u8,
+    range: &[u8],
+    out: &mut [u8],
+    at: usize,
+) -> usize {
+    let end = wrong(number, text, out, at);
+    let end = put::text(b"refused with ", out, end);
+    let end = put::count(refusal as u64, out, end);
+    let end = put::text(b", out of range\n  ", out, end);
+    put::text(range, out, end)
+}
+
+// A setting whose words are not understood.
+fn unread(number: usize, text: &[u8], expected: &[u8], out: &mut [u8], at: usize) -> usize {
+    let end = wrong(number, text, out, at);
+    let end = put::text(b"not understood\n  expected ", out, end);
+    put::text(expected, out, end)
+}
+
+// The hundreds and the tens of a byte's decimal, or blanks.
+fn hundreds(b: u8) -> u8 {
+    if b < 100 {
+        return b' ';
+    }
+    b'0' + b / 100
+}
+
+fn tens(b: u8) -> u8 {
+    if b < 10 {
+        return b' ';
+    }
+    b'0' + b / 10 % 10
+}
+
+// The hexadecimal digit of a number below 16.
+fn digit(n: u8) -> u8
+    requires { ⌜ n < 16 ⌝ }
+{
+    if n < 10 { b'0' + n } else { b'a' + (n - 10) }
+}
+
+// Puts byte k of a field, from 0 on, into the three columns of the row at `at`.
+fn cell(b: u8, k: usize, out: &mut [u8], at: usize)
+    requires { ⌜ k ≤ 2 ⌝ }
+{
+    if out.len() < 33 {
+        return;
+    }
+    if out.len() - 33 < at {
+        return;
+    }
+    let decimal = at + 4 * k + 2;
+    out[decimal] = hundreds(b);
+    out[decimal + 1] = tens(b);
+    out[decimal + 2] = b'0' + b % 10;
+    let hex = at + 3 * k + 16;
+    out[hex] = digit(b / 16);
+    out[hex + 1] = digit(b % 16);
+    out[at + k + 28] = put::character(b);
+}
+
+// A row of the table: the three columns stand under their headings.
+fn row(a: u8, b: u8, c: u8, out: &mut [u8], at: usize) -> usize {
+    let end = put::text(b"                           |   |\n", out, at);
+    cell(a, 0, out, at);
+    cell(b, 1, out, at);
+    cell(c, 2, out, at);
+    end
+}
+
+// The rows of the first `count` fields of found.
+fn rows(found: &[u8], count: usize, out: &mut [u8], at: usize) -> usize {
+    if found.len() / 3 < count {
+        return at;
+    }
+    let mut end = at;
+    let mut i: usize = 0;
+    while i < count {
+        let j = 3 * i;
+        end = row(found[j], found[j + 1], found[j + 2], out, end);
+        i += 1;
+    }
+    end
+}
+
+// The number of fields.
+fn total(count: usize, out: &mut [u8], at: usize) -> usize {
+    let end = put::count(count as u64, out, at);
+    if count == 1 {
+        return put::text(b" field\n", out, end);
+    }
+    put::text(b" fields\n", out, end)
+}
+
+// The table, and the number of fields below it.
+fn table(found: &[u8], count: usize, out: &mut [u8], at: usize) -> usize {
+    if count == 0 {
+        return put::text(b"no field: no unit can send this setting\n", out, at);
+    }
+    let end = put::text(b"  decimal       hex        characters\n", out, at);
+    let end = rows(found, count, out, end);
+    total(count, out, end)
+}
+
+fn unit(knots: u32, out: &mut [u8], at: usize) -> usize {
+    if knots == 1 {
+        return put::text(b" knot", out, at);
+    }
+    put::text(b" knots", out, at)
+}
+
+// The heading of a motion.
+fn motion_heading(knots: u32, course: u32, out: &mut [u8], at: usize) -> usize {
+    let end = put::text(b"Motion: ", out, at);
+    let end = put::count(knots as u64, out, end);
+    let end = unit(knots, out, end);
+    let end = put::text(b", course ", out, end);
+    let end = put::count(course as u64, out, end);
+    put::byte(b'\n', out, end)
+}
+
+// A motion.
+fn motion(
+    number: usize,
+    text: &[u8],
+    speed: Speed,
+    course: Course,
+    out: &mut [u8],
+    at: usize,
+) -> usize {
+    let mut found = [0u8; 108];
+    let answer = fields::list_motion(speed, course, &mut found);
+    if answer.refusal != 0 {
+        return refused(
+            number,
+            text,
+            answer.refusal,
+            b"speed is 0 to 799 knots, course 0 to 360\n",
+            out,
+            at,
+        );
+    }
+    let end = motion_heading(speed.0, course.0, out, at);
+    table(&found, answer.reported, out, end)
+}
+
+// Degrees and minutes of a text `dddmm.hh`.
+fn degrees(text: &[u8], out: &mut [u8], at: usize) -> usize {
+    let end = put::text(words::cut(text, 3), out, at);
+    let end = put::byte(b' ', out, end);
+    put::text(words::tail(text, 3), out, end)
+}
+
+// Degrees, minutes and the letter; zero lies on neither side, and has none.
+fn angle(longitude: Longitude, out: &mut [u8], at: usize) -> usize {
+    let mut text = [0u8; 9];
+    lonlat::write_longitude(longitude, &mut text);
+    let end = degrees(words::cut(&text, 8), out, at);
+    if longitude.0 == 0 {
+        return end;
+    }
+    let end = put::byte(b' ', out, end);
+    put::text(words::tail(&text, 8), out, end)
+}
+
+fn offset(hundred: bool) -> u64 {
+    if hundred { 100 } else { 0 }
+}
+
+fn direction(west: bool, out: &mut [u8], at: usize) -> usize {
+    if west {
+        return put::text(b", west\n", out, at);
+    }
+    put::text(b", east\n", out, at)
+}
+
+// The heading of a longitude.
+fn longitude_heading(
+    longitude: Longitude,
+    hundred: bool,
+    west: bool,
+    out: &mut [u8],
+    at: usize,
+) -> usize {
+    let end = put::text(b"Longitude: ", out, at);
+    let end = angle(longitude, out, end);
+    let end = put::text(b" (", out, end);
+    let end = put::signed(longitude.0, out, end);
+    let end = put::text(b" hundredths), offset ", out, end);
+    let end = put::count(offset(hundred), out, end);
+    direction(west, out, end)
+}
+
+// Says where a longitude lies on the other side than the direction.
+fn sides(angle: i32, west: bool, out: &mut [u8], at: usize) -> usize {
+    if west {
+        if 0 < angle {
+            return put::text(b"the longitude lies east, the direction is west\n", out, at);
+        }
+        return at;
+    }
+    if angle < 0 {
+        return put::text(b"the longitude lies west, the direction is east\n", out, at);
+    }
+    at
+}
+
+const FARTHEST: [u8; 67] = *b"a longitude is at most 180 degrees, 18000.00 or 1080000 hundredths\n";
+
+// A longitude.
+fn longitude(
+    number: usize,
+    text: &[u8],
+    target: Longitude,
+    hundred: bool,
+    west: bool,
+    out: &mut [u8],
+    at: usize,
+) -> usize {
+    let mut found = [0u8; 108];
+    let answer = fields::list_longitude(target, hundred, west, &mut found);
+    if answer.refusal != 0 {
+        return refused(number, text, answer.refusal, &FARTHEST, out, at);
+    }
+    let end = longitude_heading(target, hundred, west, out, at);
+    let end = sides(target.0, west, out, end);
+    table(&found, answer.reported, out, end)
+}
+
+const MOTION: [u8; 39] = *b"motion KNOTS COURSE, two whole numbers\n";
+
+const LONGITUDE: [u8; 75] =
+    *b"longitude ANGLE offset 0|100 east|west, ANGLE as dddmm.hh or in hundredths\n";
+
+const EITHER: [u8; 63] = *b"motion KNOTS COURSE, or longitude ANGLE offset 0|100 east|west\n";
+
+// What a setting gets.
+fn answer(number: usize, text: &[u8], out: &mut [u8], at: usize) -> usize {
+    let asked = setting::read(text);
+    match asked {
+        Setting::Moving(speed, course) => motion(number, text, speed, course, out, at),
+        Setting::Lying(angle, hundred, west) => longitude(
+            number,
+            text,
+            angle,
+            hundred,
+            west,
+            out,
+            at,
+        ),
+        Setting::BadMotion => unread(number, text, &MOTION, out, at),
+        Setting::BadLongitude => unread(number, text, &LONGITUDE, out, at),
+        Setting::Bad => unread(number, text, &EITHER, out, at),
+    }
+}
+
+// The part of the page for a setting, behind the first `at` bytes of out: a blank line comes before it, and before the
+// first the note. An empty setting gets nothing.
+pub fn part(number: usize, text: &[u8], out: &mut [u8], at: usize) -> usize {
+    if text.len() == 0 {
+        return at;
+    }
+    if number == 1 {
+        let end = put::text(&NOTE, out, at);
+        let end = put::byte(b'\n', out, end);
+        return answer(number, text, out, end);
+    }
+    let end = put::byte(b'\n', out, at);
+    answer(number, text, out, end)
+}
