@@ -1,0 +1,171 @@
+/* Guarded memory, and the count of what holds. */
+#include "check.h"
+
+#include <stdio.h>
+#include <stdlib.h>
+#include <string.h>
+#include <sys/mman.h>
+
+enum { PAGE = 4096, GUARD = 0xaa };
+
+static unsigned facts, faults;
+static bool met[17];
+uint8_t written[1024];
+
+void holds(bool fact, const char *text, const char *file, int line) {
+    facts++;
+    if (!fact) {
+        faults++;
+        printf("%s:%d: does not hold: %s\n", file, line, text);
+    }
+}
+
+void refused(int refusal, int expected, const char *file, int line) {
+    facts++;
+    if (refusal >= 0 && refusal <= 16) met[refusal] = true;
+    if (refusal != expected) {
+        faults++;
+        printf("%s:%d: refusal %d, expected %d\n", file, line, refusal, expected);
+    }
+}
+
+/* A page between two that nobody may touch. */
+static uint8_t *lent_page(void) {
+    uint8_t *pages = mmap(NULL, 3 * PAGE, PROT_NONE, MAP_PRIVATE | MAP_ANONYMOUS, -1, 0);
+    if (pages == MAP_FAILED || mprotect(pages + PAGE, PAGE, PROT_READ | PROT_WRITE) != 0) {
+        perror("memory with guards");
+        exit(2);
+    }
+    return pages + PAGE;
+}
+
+/* Where `size` bytes of the page stand: at its end on side 0, at its start on side 1. */
+static uint8_t *place(uint8_t *page, size_t size, int side) { return side == 0 ? page + PAGE - size : page; }
+
+static uint8_t *input_page(void) {
+    static uint8_t *page;
+    return page ? page : (page = lent_page());
+}
+
+static uint8_t *output_page(void) {
+    static uint8_t *page;
+    return page ? page : (page = lent_page());
+}
+
+static uint8_t *lend_input(const uint8_t *bytes, size_t size, int side) {
+    uint8_t *lent = place(input_page(), size, side);
+    memset(input_page(), GUARD, PAGE);
+    if (size > 0) memcpy(lent, bytes, size);
+    return lent;
+}
+
+static bool unchanged(const uint8_t *from, const uint8_t *to) {
+    while (from < to && *from == GUARD) from++;
+    return from >= to;
+}
+
+static bool input_kept(const uint8_t *lent, const uint8_t *bytes, size_t size) {
+    return unchanged(input_page(), lent) && (size == 0 || memcmp(lent, bytes, size) == 0) &&
+           unchanged(lent + size, input_page() + PAGE);
+}
+
+static uint8_t *lend_output(size_t room, int side) {
+    memset(output_page(), GUARD, PAGE);
+    return place(output_page(), room, side);
+}
+
+/* Whether only the first bytes of the output changed; they are kept in `written`. */
+static bool output_kept(const uint8_t *lent, size_t room, size_t changed) {
+    memset(written, 0, sizeof written);
+    if (changed > room || changed > sizeof written) return false;
+    memcpy(written, lent, changed);
+    return unchanged(output_page(), lent) && unchanged(lent + changed, output_page() + PAGE);
+}
+
+static bool same_answer(tusselgro_answer a, tusselgro_answer b) {
+    return a.refusal == b.refusal && a.reported == b.reported && a.needed == b.needed;
+}
+
+tusselgro_read read_lent(reader *function, const uint8_t *bytes, size_t size) {
+    tusselgro_read read[2];
+    for (int side = 0; side < 2; side++) {
+        const uint8_t *lent = lend_input(bytes, size, side);
+        memset(&read[side], GUARD, sizeof read[side]);
+        read[side] = function(lent, size);
+        HOLDS(input_kept(lent, bytes, size));
+    }
+    HOLDS(read[0].refusal == read[1].refusal && same_record(&read[0].record, &read[1].record));
+    HOLDS(read[0].refusal == 0 || is_blank(&read[0].record));
+    return read[0];
+}
+
+tusselgro_answer write_lent(writer *function, tusselgro_record record, const uint8_t *comment, size_t size,
+                            size_t room) {
+    tusselgro_answer answer[2];
+    for (int side = 0; side < 2; side++) {
+        const uint8_t *in = lend_input(comment, size, side);
+        uint8_t *out = lend_output(room, side);
+        answer[side] = function(record, in, size, out, room);
+        HOLDS(input_kept(in, comment, size));
+        HOLDS(output_kept(out, room, answer[side].reported));
+    }
+    HOLDS(same_answer(answer[0], answer[1]));
+    HOLDS(answer[0].refusal == 0 || answer[0].reported == 0);
+    HOLDS(answer[0].refusal == TUSSELGRO_NO_ROOM ? answer[0].needed > room : answer[0].needed == 0);
+    return answer[0];
+}
+
+tusselgro_answer list_lent(lister *function, const void *target, size_t room) {
+    tusselgro_answer answer[2];
+    for (int side = 0; side < 2; side++) {
+        uint8_t *out = lend_output(room, side);
+        answer[side] = function(target, out, room);
+        HOLDS(output_kept(out, room, 3 * answer[side].reported));
+    }
+    HOLDS(same_answer(answer[0], answer[1]));
+    HOLDS(answer[0].refusal == 0 || answer[0].reported == 0);
+    HOLDS(answer[0].refusal == TUSSELGRO_NO_ROOM ? answer[0].needed > room : answer[0].needed == 0);
+    return answer[0];
+}
+
+bool wrote(tusselgro_answer answer, const uint8_t *bytes, size_t size) {
+    return answer.refusal == 0 && answer.reported == size && memcmp(written, bytes, size) == 0;
+}
+
+static bool same_callsign(const tusselgro_callsign *a, const tusselgro_callsign *b) {
+    return memcmp(a->text, b->text, sizeof a->text) == 0 && a->call_len == b->call_len && a->ssid_len == b->ssid_len;
+}
+
+static bool same_path(const tusselgro_path *a, const tusselgro_path *b) {
+    bool same = a->count == b->count;
+    for (int at = 0; at < TUSSELGRO_MOST_HOPS; at++)
+        same = same && same_callsign(&a->hops[at].call, &b->hops[at].call) && a->hops[at].heard == b->hops[at].heard;
+    return same;
+}
+
+bool same_record(const tusselgro_record *a, const tusselgro_record *b) {
+    return a->kind == b->kind && a->messaging == b->messaging && a->current == b->current &&
+           a->message == b->message && a->blanks == b->blanks && a->table == b->table && a->code == b->code &&
+           a->latitude == b->latitude && a->longitude == b->longitude && a->speed == b->speed &&
+           a->course == b->course && a->comment_at == b->comment_at && a->comment_len == b->comment_len &&
+           same_callsign(&a->from, &b->from) && same_callsign(&a->to, &b->to) && same_path(&a->path, &b->path);
+}
+
+bool is_blank(const tusselgro_record *record) {
+    static const tusselgro_record zeros;
+    return same_record(record, &zeros);
+}
+
+int main(void) {
+    check_sizes();
+    check_reading();
+    check_writing();
+    check_listing();
+    check_bounds();
+    for (int refusal = 0; refusal <= 16; refusal++) {
+        if (!met[refusal]) printf("refusal %d was never met\n", refusal);
+        HOLDS(met[refusal]);
+    }
+    printf("C caller: %u facts, %u do not hold\n", facts, faults);
+    return faults == 0 ? 0 : 1;
+}

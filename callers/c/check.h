@@ -1,0 +1,46 @@
+/* What the parts of the caller share: counting what holds, and lending memory that is guarded on both sides. */
+#ifndef CHECK_H
+#define CHECK_H
+
+#include "tusselgro.h"
+
+/* Counts one fact; prints where it stands if it does not hold. */
+#define HOLDS(fact) holds((fact), #fact, __FILE__, __LINE__)
+void holds(bool fact, const char *text, const char *file, int line);
+
+/* Counts a refusal as met, and whether it is the one expected. */
+#define REFUSED(answer, expected) refused((answer).refusal, (expected), __FILE__, __LINE__)
+void refused(int refusal, int expected, const char *file, int line);
+
+/* A string as bytes and their number, without the zero at its end. */
+#define BYTES(string) (const uint8_t *)("" string), sizeof(string) - 1
+
+typedef tusselgro_read reader(const uint8_t *, size_t);
+typedef tusselgro_answer writer(tusselgro_record, const uint8_t *, size_t, uint8_t *, size_t);
+typedef tusselgro_answer lister(const void *target, uint8_t *, size_t);
+
+/*
+ * Each calls a function twice: its memory ends where a page begins that nobody may touch, then starts where one ends.
+ * Both calls must answer the same, leave their input alone, and change no byte of the output but those reported.
+ */
+tusselgro_read read_lent(reader *function, const uint8_t *bytes, size_t size);
+tusselgro_answer write_lent(writer *function, tusselgro_record record, const uint8_t *comment, size_t size,
+                            size_t room);
+tusselgro_answer list_lent(lister *function, const void *target, size_t room);
+
+/* The first bytes of the output of the call before. */
+extern uint8_t written[1024];
+
+/* Whether those bytes are these, as many as were reported. */
+bool wrote(tusselgro_answer answer, const uint8_t *bytes, size_t size);
+
+bool same_record(const tusselgro_record *a, const tusselgro_record *b);
+bool is_blank(const tusselgro_record *record);
+
+void check_sizes(void);
+void check_reading(void);
+void check_writing(void);
+void check_listing(void);
+void check_bounds(void);
+
+#endif

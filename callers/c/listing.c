@@ -1,0 +1,89 @@
+/* Fields listed, bounds and boxes: document 01's values. */
+#include "check.h"
+
+#include <string.h>
+
+typedef struct {
+    uint32_t speed, course;
+} motion;
+
+typedef struct {
+    int32_t longitude;
+    bool hundred, west;
+} meridian;
+
+static tusselgro_answer by_motion(const void *target, uint8_t *out, size_t room) {
+    const motion *m = target;
+    return tusselgro_list_motion(m->speed, m->course, out, room);
+}
+
+static tusselgro_answer by_longitude(const void *target, uint8_t *out, size_t room) {
+    const meridian *m = target;
+    return tusselgro_list_longitude(m->longitude, m->hundred, m->west, out, room);
+}
+
+static tusselgro_answer list_motion(uint32_t speed, uint32_t course, size_t room) {
+    return list_lent(by_motion, &(motion){speed, course}, room);
+}
+
+static tusselgro_answer list_longitude(int32_t longitude, bool hundred, bool west, size_t room) {
+    return list_lent(by_longitude, &(meridian){longitude, hundred, west}, room);
+}
+
+/* "All fields for 0 knots, course 0, sixteen" */
+static const uint8_t sixteen[48] = {
+    28,  28,  28, 28,  30,  228, 28,  31,  128, 28,  32,  28, 106, 228, 28, 106, 230, 228, 106, 231, 128, 106, 232, 28,
+    107, 128, 28, 107, 130, 228, 107, 131, 128, 107, 132, 28, 108, 28,  28, 108, 30,  228, 108, 31,  128, 108, 32,  28,
+};
+
+void check_listing(void) {
+    tusselgro_answer answer = list_motion(0, 0, 48);
+    REFUSED(answer, 0);
+    HOLDS(answer.reported == 16 && memcmp(written, sixteen, 48) == 0);
+    HOLDS(list_motion(0, 0, 512).reported == 16);
+    answer = list_motion(0, 0, 47);
+    REFUSED(answer, 16);
+    HOLDS(answer.needed == 48);
+    REFUSED(list_motion(800, 0, 512), 15);
+    REFUSED(list_motion(0, 361, 512), 15);
+    REFUSED(list_motion(UINT32_MAX, UINT32_MAX, 0), 15);
+    REFUSED(list_motion(799, 360, 512), 0);
+
+    answer = list_longitude(0, true, false, 6);
+    HOLDS(answer.refusal == 0 && answer.reported == 2 && memcmp(written, "\x76\x1c\x1c\x76\x58\x1c", 6) == 0);
+    answer = list_longitude(270000, true, false, 0);
+    REFUSED(answer, 0);
+    HOLDS(answer.reported == 0);
+    REFUSED(list_longitude(1080000, true, false, 512), 0);
+    REFUSED(list_longitude(1080001, true, false, 512), 15);
+    REFUSED(list_longitude(INT32_MIN, true, true, 512), 15);
+    REFUSED(list_longitude(0, true, false, 5), 16);
+}
+
+static bool is_box(tusselgro_box box, int32_t lower, int32_t upper) {
+    return box.refusal == 0 && box.lower == lower && box.upper == upper;
+}
+
+static bool is_none(tusselgro_bounds bounds, tusselgro_box box) {
+    return bounds.lower == 0 && bounds.upper == 0 && box.refusal == 15 && box.lower == 0 && box.upper == 0;
+}
+
+void check_bounds(void) {
+    static const int32_t widths[6] = {1, 10, 100, 1000, 6000, 60000};
+    for (uint8_t blanks = 0; blanks <= 5; blanks++) {
+        HOLDS(is_box(tusselgro_latitude_box(540000, blanks), 1080000 - widths[blanks], 1080000 + widths[blanks]));
+        HOLDS(is_box(tusselgro_longitude_box(-1080000, blanks), -2160000 - widths[blanks], -2160000 + widths[blanks]));
+    }
+    tusselgro_bounds bounds = tusselgro_latitude_bounds(294350, 0);
+    double center = 49.0 + 3.0 / 60.0 + 50.0 / 6000.0, half = 1.0 / 6000.0 / 2.0;
+    REFUSED(bounds, 0);
+    HOLDS(bounds.lower == center - half && bounds.upper == center + half);
+    bounds = tusselgro_longitude_bounds(-432000, 5);
+    HOLDS(bounds.refusal == 0 && bounds.lower == -77.0 && bounds.upper == -67.0);
+    bounds = tusselgro_latitude_bounds(540001, 0);
+    REFUSED(bounds, 15);
+    HOLDS(is_none(bounds, tusselgro_latitude_box(540001, 0)));
+    bounds = tusselgro_longitude_bounds(0, 6);
+    REFUSED(bounds, 15);
+    HOLDS(is_none(bounds, tusselgro_longitude_box(INT32_MIN, 255)));
+}

@@ -1,0 +1,146 @@
+/* Lines and frames read: document 01's values, and every refusal that a reader can give. */
+#include "check.h"
+
+#include <string.h>
+
+#define LINE(string) read_lent(tusselgro_read_text, BYTES(string))
+#define FRAME(string) read_lent(tusselgro_read_frame, BYTES(string))
+
+void check_sizes(void) {
+    HOLDS(sizeof(tusselgro_callsign) == 32 && sizeof(tusselgro_hop) == 40 && sizeof(tusselgro_path) == 328);
+    HOLDS(sizeof(tusselgro_record) == 432 && sizeof(tusselgro_read) == 440 && sizeof(tusselgro_answer) == 24);
+    HOLDS(sizeof(tusselgro_bounds) == 24 && sizeof(tusselgro_box) == 12);
+    HOLDS(offsetof(tusselgro_record, latitude) == 8 && offsetof(tusselgro_record, comment_at) == 24);
+    HOLDS(offsetof(tusselgro_record, from) == 40 && offsetof(tusselgro_record, path) == 104);
+}
+
+static bool is_call(tusselgro_callsign callsign, const char *call, const char *ssid) {
+    size_t call_len = strlen(call), ssid_len = strlen(ssid);
+    return callsign.call_len == call_len && callsign.ssid_len == ssid_len &&
+           memcmp(callsign.text, call, call_len) == 0 &&
+           (ssid_len == 0 ||
+            (callsign.text[call_len] == '-' && memcmp(callsign.text + call_len + 1, ssid, ssid_len) == 0));
+}
+
+/* The first line of the listing: every part of a position. */
+static void check_position(void) {
+    tusselgro_read read = LINE("N0CALL-01>APRS,WIDE1-1,WIDE2-2*,K1A:!4903.50N/07201.75W-Test");
+    tusselgro_record r = read.record;
+    REFUSED(read, 0);
+    HOLDS(r.kind == TUSSELGRO_POSITION && !r.messaging && !r.current && r.message == 0);
+    HOLDS(r.latitude == 294350 && r.longitude == -432175 && r.blanks == 0);
+    HOLDS(r.table == '/' && r.code == '-' && r.speed == 0 && r.course == 0);
+    HOLDS(r.comment_at == 56 && r.comment_len == 4);
+    HOLDS(is_call(r.from, "N0CALL", "01") && is_call(r.to, "APRS", ""));
+    HOLDS(r.path.count == 3 && is_call(r.path.hops[0].call, "WIDE1", "1") && is_call(r.path.hops[2].call, "K1A", ""));
+    HOLDS(r.path.hops[0].heard && r.path.hops[1].heard && !r.path.hops[2].heard);
+    read = LINE("A>B:=49  .  N/072  .  W-");
+    HOLDS(read.record.messaging && read.record.blanks == 4);
+    HOLDS(read.record.latitude == 294000 && read.record.longitude == -432000);
+    read = LINE("A>B:");
+    REFUSED(read, 0);
+    HOLDS(read.record.kind == TUSSELGRO_UNKNOWN && is_call(read.record.from, "A", "") && read.record.path.count == 0);
+}
+
+/* P1 to P9: motion, longitude and destination of Mic-E lines. */
+static void check_mic_e(void) {
+    tusselgro_read read = LINE("A>S32U6T:`(_fn\"Oj/Comment");
+    tusselgro_record r = read.record;
+    REFUSED(read, 0);
+    HOLDS(r.kind == TUSSELGRO_MIC_E && r.current && !r.messaging && is_call(r.to, "", ""));
+    HOLDS(r.latitude == 200564 && r.longitude == -72774 && r.blanks == 0 && r.message == TUSSELGRO_M3);
+    HOLDS(r.speed == 20 && r.course == 251 && r.code == 'j' && r.table == '/');
+    HOLDS(r.comment_at == 18 && r.comment_len == 7);
+
+    read = LINE("A>S32U6T:'(_fl \x1cj/");
+    HOLDS(read.refusal == 0 && !read.record.current && read.record.speed == 0 && read.record.course == 0);
+    read = LINE("A>S32U6T:'(_f\x1c\x1c\x1cj/");
+    HOLDS(read.refusal == 0 && read.record.speed == 0 && read.record.course == 0);
+    REFUSED(LINE("A>S32U6T:'(_f\x1b\x1c\x1cj/"), 12);
+    REFUSED(LINE("A>S32U6T:'(_f\x1c%\x1cj/"), 12);
+    read = LINE("A>S32UVT:`vX\x1c\x1c\x1c\x1cj/");
+    HOLDS(read.refusal == 0 && read.record.longitude == 0);
+    REFUSED(LINE("A>LLLLLL:`(_fn\"Oj/"), 11);
+    read = LINE("A>4LLLLL:`(_fn\"Oj/");
+    HOLDS(read.refusal == 0 && read.record.latitude == -240000 && read.record.blanks == 5);
+    HOLDS(read.record.message == TUSSELGRO_EMERGENCY);
+    read = LINE("A>PALLLL:`(_fn\"Oj/");
+    HOLDS(read.refusal == 0 && read.record.message == TUSSELGRO_MESSAGE_UNKNOWN);
+    read = LINE("A>AAA000:`(_fn\"Oj/");
+    HOLDS(read.refusal == 0 && read.record.message == TUSSELGRO_C0);
+}
+
+/* P11 and P12. */
+static void check_values(void) {
+    tusselgro_read read = LINE("X>Y,A,B*,C:");
+    HOLDS(read.record.path.hops[0].heard && read.record.path.hops[1].heard && !read.record.path.hops[2].heard);
+    HOLDS(LINE("A>B:!9000.00N/00000.00E-").record.latitude == 540000);
+    HOLDS(LINE("A>B:!8960.00N/00000.00E-").record.latitude == 540000);
+    REFUSED(LINE("A>B:!9000.01N/00000.00E-"), 8);
+}
+
+static void check_line_refusals(void) {
+    uint8_t line[513];
+    memset(line, 'x', sizeof line);
+    memcpy(line, "A>B:", 4);
+    REFUSED(read_lent(tusselgro_read_text, line, 512), 0);
+    REFUSED(read_lent(tusselgro_read_text, line, 513), 1);
+    REFUSED(tusselgro_read_text(NULL, 0), 2);
+    REFUSED(LINE("A>B"), 2);
+    REFUSED(LINE("A:>B"), 2);
+    REFUSED(LINE("A->B:"), 3);
+    REFUSED(LINE("A>B,\xff:"), 3);
+    REFUSED(LINE("ABCDEFGHIJKLMNO-0>B:"), 4);
+    REFUSED(LINE("A>B,1,2,3,4,5,6,7,8:"), 0);
+    REFUSED(LINE("A>B,1,2,3,4,5,6,7,8,:"), 5);
+    REFUSED(LINE("A>B,qA*:"), 6);
+    REFUSED(LINE("N0CALL>APRS:>hi"), 7);
+    REFUSED(LINE("A>B:!/5L!!<*e7>7P["), 7);
+    REFUSED(LINE("A>B:!00 0.00N/00000.00E-"), 8);
+    REFUSED(LINE("A>B:!0000.00N/000 0.00E-"), 9);
+    REFUSED(LINE("A>B:!4903.50N/07201.75"), 10);
+    REFUSED(LINE("A>0000L:`(_fn\"Oj/"), 11);
+    REFUSED(LINE("A>S32U6T:`(_fn\"Oj"), 12);
+}
+
+#define TO "\x82\xa0\xa4\xa6@@\xe0"
+#define MIC_E_TO "\xa6\x66\x64\xaa\x6c\xa8\xe0"
+#define FROM "\x9c\x60\x86\x82\x98\x98\x62"
+#define LAST_FROM "\x9c\x60\x86\x82\x98\x98\x63"
+#define HOP "\xae\x92\x88\x8a\x62\x40\xe2"
+#define LAST_HOP "\x9c\x60\x86\x82\x98\x98\xe3"
+#define PAIR "\x03\xf0"
+
+static void check_frames(void) {
+    tusselgro_read read = FRAME(TO FROM LAST_HOP PAIR "!4903.50N/07201.75W-Test");
+    REFUSED(read, 0);
+    HOLDS(read.record.kind == TUSSELGRO_POSITION && read.record.latitude == 294350);
+    HOLDS(is_call(read.record.from, "N0CALL", "1") && is_call(read.record.to, "APRS", ""));
+    HOLDS(read.record.path.count == 1 && read.record.path.hops[0].heard);
+    HOLDS(is_call(read.record.path.hops[0].call, "N0CALL", "1") && read.record.comment_at == 43);
+    REFUSED(FRAME(MIC_E_TO LAST_FROM PAIR "`(_fn\"Oj/"), 0);
+    REFUSED(tusselgro_read_frame(NULL, 0), 2);
+    REFUSED(FRAME("\x82\xa0\xa4\xa6@@"), 2);
+    REFUSED(FRAME("\x82\xa0\xa4\xa6@@\xe1" LAST_FROM PAIR), 2);
+    REFUSED(FRAME(TO LAST_FROM "\x03\xf1"), 2);
+    REFUSED(FRAME(TO "\x9d\x60\x86\x82\x98\x98\x63" PAIR), 3);
+    REFUSED(FRAME(TO FROM HOP HOP HOP HOP HOP HOP HOP LAST_HOP PAIR), 0);
+    REFUSED(FRAME(TO FROM HOP HOP HOP HOP HOP HOP HOP HOP), 5);
+    REFUSED(FRAME(TO LAST_FROM PAIR ":x"), 7);
+    REFUSED(FRAME(TO LAST_FROM PAIR "!9000.01N/00000.00E-"), 8);
+    REFUSED(FRAME(TO LAST_FROM PAIR "!9000.00N/18000.01E-"), 9);
+    REFUSED(FRAME(TO LAST_FROM PAIR "!9000.00N/"), 10);
+    REFUSED(FRAME(TO LAST_FROM PAIR "`(_fn\"Oj/"), 11);
+    REFUSED(FRAME(MIC_E_TO LAST_FROM PAIR "`(_fn\"Oj"), 12);
+    uint8_t frame[513] = TO LAST_FROM PAIR;
+    REFUSED(read_lent(tusselgro_read_frame, frame, 512), 0);
+    REFUSED(read_lent(tusselgro_read_frame, frame, 513), 1);
+}
+
+void check_reading(void) {
+    check_position();
+    check_mic_e();
+    check_values();
+    check_line_refusals();
+    check_frames();
+}

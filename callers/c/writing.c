@@ -1,0 +1,134 @@
+/* Records written: document 01's values, every refusal that a writer can give, and wild records. */
+#include "check.h"
+
+#include <string.h>
+
+#define TEXT(record, comment, room) write_lent(tusselgro_write_text, record, BYTES(comment), room)
+#define FRAME(record, comment, room) write_lent(tusselgro_write_frame, record, BYTES(comment), room)
+#define READ(string) tusselgro_read_text(BYTES(string)).record
+
+static const char position_line[] = "N0CALL-01>APRS,WIDE1-1,WIDE2-2*,K1A:!4903.50N/07201.75W-Test";
+static const char mic_e_line[] = "A>S32U6T:`(_fn\"Oj/";
+
+static tusselgro_record read_record(const char *line) {
+    return tusselgro_read_text((const uint8_t *)line, strlen(line)).record;
+}
+
+/* What was read is written as it stood: a position with its comment, a Mic-E report, and stars (P11). */
+static void check_round(void) {
+    tusselgro_record r = read_record(position_line);
+    HOLDS(wrote(TEXT(r, "Test", 512), BYTES("N0CALL-01>APRS,WIDE1-1,WIDE2-2*,K1A:!4903.50N/07201.75W-Test")));
+    r.comment_at = (size_t)-1;
+    r.comment_len = (size_t)-1;
+    HOLDS(wrote(TEXT(r, "", 512), BYTES("N0CALL-01>APRS,WIDE1-1,WIDE2-2*,K1A:!4903.50N/07201.75W-")));
+    HOLDS(wrote(TEXT(read_record(mic_e_line), "", 512), BYTES("A>S32U6T:`(_fn\"Oj/")));
+    HOLDS(wrote(TEXT(READ("X>Y,A,B*,C:=0000.00N/00000.00E-"), "", 512), BYTES("X>Y,A,B*,C:=0000.00N/00000.00E-")));
+}
+
+/* P4: 799 knots, course 360. P7: 105 degrees east. P10: a hop of a frame that is heard and last. */
+static void check_values(void) {
+    tusselgro_record r = read_record(mic_e_line);
+    r.speed = 799;
+    r.course = 360;
+    r.longitude = 630000;
+    tusselgro_answer answer = TEXT(r, "", 512);
+    HOLDS(answer.refusal == 0 && answer.reported == 18);
+    HOLDS(memcmp(written + 10, "\x71\x58\x1c\x6b\x7d\x58", 6) == 0);
+    HOLDS(written[6] >= 'P' && written[6] <= 'Z');
+    answer = FRAME(READ("A>B,N0CALL-1*:!0000.00N/00000.00E-"), "", 512);
+    HOLDS(answer.refusal == 0 && answer.reported == 43);
+    HOLDS(memcmp(written + 14, "\x9c\x60\x86\x82\x98\x98\xe3\x03\xf0!", 10) == 0);
+    answer = FRAME(read_record(position_line), "Test", 512);
+    REFUSED(answer, 0);
+    tusselgro_read back = tusselgro_read_frame(written, answer.reported);
+    HOLDS(back.refusal == 0 && back.record.latitude == 294350 && back.record.path.count == 3);
+}
+
+static void check_refusals(void) {
+    tusselgro_record r = read_record(position_line);
+    tusselgro_answer answer = TEXT(r, "Test", 59);
+    REFUSED(answer, 16);
+    HOLDS(answer.needed == 60);
+    REFUSED(TEXT(r, "Test", 60), 0);
+    answer = FRAME(r, "", 0);
+    REFUSED(answer, 16);
+    HOLDS(answer.needed == 57);
+    REFUSED(FRAME(r, "", 57), 0);
+    REFUSED(tusselgro_write_text(r, NULL, 0, NULL, 0), 16);
+    uint8_t comment[512];
+    memset(comment, 'x', sizeof comment);
+    REFUSED(write_lent(tusselgro_write_text, r, comment, 512 - 56, 512), 0);
+    REFUSED(write_lent(tusselgro_write_text, r, comment, 512 - 55, 1000), 1);
+    REFUSED(write_lent(tusselgro_write_frame, r, comment, 512 - 56, 1000), 1);
+    REFUSED(FRAME(READ("ABCDEFG>B:!0000.00N/00000.00E-"), "", 512), 13);
+    REFUSED(FRAME(READ("A-16>B:!0000.00N/00000.00E-"), "", 512), 13);
+    REFUSED(TEXT(READ("A>B:hello"), "", 512), 14);
+    static const tusselgro_record zeros;
+    REFUSED(TEXT(zeros, "", 0), 14);
+    REFUSED(FRAME(zeros, "", 0), 14);
+}
+
+/* Each statement spoils one part of a record that was in range. */
+#define SPOILT(line, statement)                                   \
+    do {                                                          \
+        tusselgro_record r = read_record(line);                   \
+        statement;                                                \
+        REFUSED(TEXT(r, "", 512), TUSSELGRO_OUT_OF_RANGE);        \
+        REFUSED(FRAME(r, "", 512), TUSSELGRO_OUT_OF_RANGE);       \
+    } while (0)
+
+static void check_range(void) {
+    SPOILT(position_line, r.kind = 3);
+    SPOILT(position_line, r.kind = 255);
+    SPOILT(position_line, r.kind = TUSSELGRO_UNKNOWN);
+    SPOILT(position_line, r.latitude = 540001);
+    SPOILT(position_line, r.latitude = INT32_MIN);
+    SPOILT(position_line, r.longitude = -1080001);
+    SPOILT(position_line, r.blanks = 6);
+    SPOILT(position_line, r.table = 128);
+    SPOILT(position_line, r.code = 255);
+    SPOILT(position_line, r.message = TUSSELGRO_M1);
+    SPOILT(position_line, r.message = 16);
+    SPOILT(position_line, r.speed = 1);
+    SPOILT(position_line, r.current = true);
+    SPOILT(position_line, r.path.count = 9);
+    SPOILT(position_line, r.path.count = (size_t)-1);
+    SPOILT(position_line, r.path.count = 2);
+    SPOILT(position_line, r.path.hops[7].heard = true);
+    SPOILT(position_line, r.from.call_len = (size_t)-1);
+    SPOILT(position_line, r.from.ssid_len = (size_t)-1);
+    SPOILT(position_line, r.from.call_len = 17);
+    SPOILT(position_line, r.from.text[0] = 0xff);
+    SPOILT(position_line, r.from.text[15] = 'x');
+    static const tusselgro_callsign zero_ssid = {"A-0", 1, 1};
+    SPOILT(position_line, r.to = zero_ssid);
+    SPOILT(mic_e_line, r.message = 16);
+    SPOILT(mic_e_line, r.message = 255);
+    SPOILT(mic_e_line, r.longitude = 1080000);
+    SPOILT(mic_e_line, r.speed = 800);
+    SPOILT(mic_e_line, r.course = 361);
+    SPOILT(mic_e_line, r.messaging = true);
+    SPOILT(mic_e_line, r.to = r.from);
+    SPOILT("A>B:", r.latitude = 1);
+    SPOILT("A>B:", r.messaging = true);
+}
+
+/* Every message goes out and comes back. */
+static void check_messages(void) {
+    for (uint8_t message = 0; message <= 15; message++) {
+        tusselgro_record r = read_record(mic_e_line);
+        r.message = message;
+        tusselgro_answer answer = TEXT(r, "", 512);
+        REFUSED(answer, 0);
+        tusselgro_read back = tusselgro_read_text(written, answer.reported);
+        HOLDS(back.refusal == 0 && back.record.message == message);
+    }
+}
+
+void check_writing(void) {
+    check_round();
+    check_values();
+    check_refusals();
+    check_range();
+    check_messages();
+}

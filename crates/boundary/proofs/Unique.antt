@@ -1,0 +1,63 @@
+-- What each public function promises fixes its result: two results that meet one promise are equal.
+-- Assumes nothing.
+use mathlib.Core.Path.{_≡_}
+use mathlib.Core.Bool.{Bool}
+use mathlib.Core.List.{List}
+use Prim.Native.Nat.{ℕ}
+use lib.IntN.{ℤ}
+use Rattle.laws.specs.declared.Answer.{Answer}
+use Rattle.laws.specs.Wrote.{ends, wrote}
+use Rattle.laws.proofs.Wrote.{one-value, one-end}
+use Rattle.lonlat.specs.Angle.{mostLatitude, mostLongitude}
+use Rattle.position.specs.declared.BoundsAnswer.{BoundsAnswer}
+use Rattle.position.specs.declared.PageBox.{PageBox}
+use Rattle.position.specs.Bounds.{boundsOf}
+use Rattle.position.specs.Page.{boxOf}
+use Rattle.fields.specs.Lists.{listed, motionRefusal, motionFields, longitudeRefusal, longitudeFields}
+use Rattle.packet.specs.Packet.{readText, readFrame}
+use Rattle.packet.specs.Written.{textBytes, frameBytes}
+use Rattle.boundary.specs.declared.Flat.{Flat}
+use Rattle.boundary.specs.declared.FlatRead.{FlatRead}
+use Rattle.boundary.specs.Flat.{readOf, standsFor, flatTextRefusal, flatFrameRefusal}
+
+module _ (s : List ℕ) (r r′ : FlatRead) where
+  pub unique-tusselgro-read-text : r ≡ readOf (readText s) → r′ ≡ readOf (readText s) → r ≡ r′
+  unique-tusselgro-read-text = one-value r r′ (readOf (readText s))
+
+  pub unique-tusselgro-read-frame : r ≡ readOf (readFrame s) → r′ ≡ readOf (readFrame s) → r ≡ r′
+  unique-tusselgro-read-frame = one-value r r′ (readOf (readFrame s))
+
+module _ (out : List ℕ) (a a′ : Answer) (o o′ : List ℕ) where
+  module _ (r : Flat) (comment : List ℕ) where
+    pub unique-tusselgro-write-text : ends a o ≡ wrote (flatTextRefusal r comment) (textBytes (standsFor r) comment) out
+        → ends a′ o′ ≡ wrote (flatTextRefusal r comment) (textBytes (standsFor r) comment) out
+        → (a ≡ a′) × (o ≡ o′)
+    unique-tusselgro-write-text = one-end a a′ o o′ (wrote (flatTextRefusal r comment) (textBytes (standsFor r) comment) out)
+
+    pub unique-tusselgro-write-frame : ends a o ≡ wrote (flatFrameRefusal r comment) (frameBytes (standsFor r) comment) out
+        → ends a′ o′ ≡ wrote (flatFrameRefusal r comment) (frameBytes (standsFor r) comment) out
+        → (a ≡ a′) × (o ≡ o′)
+    unique-tusselgro-write-frame = one-end a a′ o o′ (wrote (flatFrameRefusal r comment) (frameBytes (standsFor r) comment) out)
+
+  pub unique-tusselgro-list-motion : (speed course : ℕ) → ends a o ≡ listed (motionRefusal speed course) (motionFields speed course) out
+      → ends a′ o′ ≡ listed (motionRefusal speed course) (motionFields speed course) out
+      → (a ≡ a′) × (o ≡ o′)
+  unique-tusselgro-list-motion speed course = one-end a a′ o o′ (listed (motionRefusal speed course) (motionFields speed course) out)
+
+  pub unique-tusselgro-list-longitude : (longitude : ℤ) (hundred west : Bool) → ends a o ≡ listed (longitudeRefusal longitude) (longitudeFields hundred west longitude) out
+      → ends a′ o′ ≡ listed (longitudeRefusal longitude) (longitudeFields hundred west longitude) out
+      → (a ≡ a′) × (o ≡ o′)
+  unique-tusselgro-list-longitude longitude hundred west = one-end a a′ o o′ (listed (longitudeRefusal longitude) (longitudeFields hundred west longitude) out)
+
+module _ (angle : ℤ) (blanks : ℕ) where
+  pub unique-tusselgro-latitude-bounds : (r r′ : BoundsAnswer) → r ≡ boundsOf mostLatitude angle blanks → r′ ≡ boundsOf mostLatitude angle blanks → r ≡ r′
+  unique-tusselgro-latitude-bounds r r′ = one-value r r′ (boundsOf mostLatitude angle blanks)
+
+  pub unique-tusselgro-longitude-bounds : (r r′ : BoundsAnswer) → r ≡ boundsOf mostLongitude angle blanks → r′ ≡ boundsOf mostLongitude angle blanks → r ≡ r′
+  unique-tusselgro-longitude-bounds r r′ = one-value r r′ (boundsOf mostLongitude angle blanks)
+
+  pub unique-tusselgro-latitude-box : (r r′ : PageBox) → r ≡ boxOf mostLatitude angle blanks → r′ ≡ boxOf mostLatitude angle blanks → r ≡ r′
+  unique-tusselgro-latitude-box r r′ = one-value r r′ (boxOf mostLatitude angle blanks)
+
+  pub unique-tusselgro-longitude-box : (r r′ : PageBox) → r ≡ boxOf mostLongitude angle blanks → r′ ≡ boxOf mostLongitude angle blanks → r ≡ r′
+  unique-tusselgro-longitude-box r r′ = one-value r r′ (boxOf mostLongitude angle blanks)

@@ -1,0 +1,29 @@
+-- 15 for an unknown number, else what packet writes. Assumes nothing.
+use Rattle.boundary.proofs.Writing.{text-unknown, text-known}
+use borrow.Author.Needs.{needs}
+use Rattle.boundary.proofs.tusselgro_write_text.Statement.{statement}
+use Rattle.boundary.proofs.tusselgro_write_text.Tie as tie
+
+is-known-requires : tie.Need-is-known-requires
+is-known-requires c κs = search needs
+
+refused-requires : tie.Need-refused-requires
+refused-requires c κs = search needs
+
+returns : tie.Need-returns
+returns c = search text-unknown
+
+stands-for-requires : tie.Need-stands-for-requires
+stands-for-requires c κs = search needs
+
+write-text-requires : tie.Need-write-text-requires
+write-text-requires c κs = search needs
+
+same-length : tie.Need-same-length
+same-length c = search needs
+
+returns-2 : tie.Need-returns-2
+returns-2 c = search text-known
+
+pub tusselgro-write-text-spec : {M : Type 1} → statement M
+tusselgro-write-text-spec = tie.close (tie.spec is-known-requires refused-requires returns stands-for-requires write-text-requires same-length returns-2)

@@ -1,0 +1,80 @@
+-- A record as C has it: packet's record with its parts side by side, its kind and its message as numbers. What a reader gives
+-- is flattened; what a writer is given stands for a record, or is refused.
+-- Assumes nothing.
+use Prim.Native.Nat.{ℕ}
+use mathlib.Core.Bool.{Bool, cond, _&&_}
+use mathlib.Core.List.{List}
+use lib.Dec.{leb}
+use Rattle.mic_e.specs.Message.{messageNumber}
+use Rattle.packet.specs.declared.Record.{Record}
+use Rattle.packet.specs.declared.PacketRead.{PacketRead}
+use Rattle.packet.specs.Written.{textRefusal, frameRefusal}
+use Rattle.boundary.specs.declared.Flat.{Flat}
+use Rattle.boundary.specs.declared.FlatRead.{FlatRead}
+use Rattle.boundary.specs.Numbers.{kindNumber, kindAt, messageAt, mostKind, mostMessage}
+
+-- ---- what a reader gives
+
+unfoldable pub flatOf : Record → Flat
+flatOf r =
+    record {
+      kind = kindNumber (r .kind);
+      messaging = r .messaging;
+      current = r .«mic_e» .current;
+      message = messageNumber (r .«mic_e» .message);
+      blanks = r .place .blanks;
+      table = r .place .table;
+      code = r .place .code;
+      latitude = r .place .latitude .0;
+      longitude = r .place .longitude .0;
+      speed = r .«mic_e» .speed .0;
+      course = r .«mic_e» .course .0;
+      «comment_at» = r .comment .at;
+      «comment_len» = r .comment .len;
+      from = r .from;
+      to = r .to;
+      path = r .path;
+    }
+
+unfoldable pub readOf : PacketRead → FlatRead
+readOf p = record { refusal = p .refusal; flat = flatOf (p .«record») }
+
+-- ---- what a writer is given
+
+unfoldable pub standsFor : Flat → Record
+standsFor f =
+    record {
+      kind = kindAt (f .kind);
+      from = f .from;
+      to = f .to;
+      path = f .path;
+      place = record {
+        latitude = record { 0 = f .latitude };
+        longitude = record { 0 = f .longitude };
+        blanks = f .blanks;
+        table = f .table;
+        code = f .code;
+      };
+      messaging = f .messaging;
+      «mic_e» = record {
+        message = messageAt (f .message);
+        speed = record { 0 = f .speed };
+        course = record { 0 = f .course };
+        current = f .current;
+      };
+      comment = record { at = f .«comment_at»; len = f .«comment_len» };
+    }
+
+-- a kind and a message of those numbers exist
+unfoldable pub isKnown : Flat → Bool
+isKnown f = leb (f .kind) mostKind && leb (f .message) mostMessage
+
+-- "15: record .. out of range"; else what is refused of the record that it stands for
+unfoldable pub refusedOr : Flat → ℕ → ℕ
+refusedOr f n = cond (isKnown f) n 15
+
+unfoldable pub flatTextRefusal : Flat → List ℕ → ℕ
+flatTextRefusal f comment = refusedOr f (textRefusal (standsFor f) comment)
+
+unfoldable pub flatFrameRefusal : Flat → List ℕ → ℕ
+flatFrameRefusal f comment = refusedOr f (frameRefusal (standsFor f) comment)

@@ -1,0 +1,36 @@
+-- The kinds and messages of a record by number. The document numbers neither, but a record of zeros is to be the blank one:
+-- "Unknown kind, all lengths and numbers 0" (document 01, 'Numbers a refusal carries'). The messages have the numbers of
+-- `messageNumber`.
+-- Assumes nothing.
+use Prim.Native.Nat.{ℕ}
+use mathlib.Core.List.{List, [], _∷_}
+use lib.ListN.{getD}
+use Rattle.mic_e.specs.declared.Message.{Message}
+use Rattle.mic_e.specs.declared.Message.the-variants.{M0, M1, M2, M3, M4, M5, M6, C0, C1, C2, C3, C4, C5, C6, Emergency, Unknown}
+use Rattle.packet.specs.declared.Kind.{Kind}
+use Rattle.packet.specs.declared.Kind.the-variants as kind
+
+unfoldable pub kindNumber : Kind → ℕ
+kindNumber kind.Unknown = 0
+kindNumber kind.Position = 1
+kindNumber kind.MicE = 2
+
+-- in the order of their numbers
+abbrev pub kinds : List Kind
+kinds = kind.Unknown ∷ kind.Position ∷ kind.MicE ∷ []
+
+abbrev pub messages : List Message
+messages = M0 ∷ M1 ∷ M2 ∷ M3 ∷ M4 ∷ M5 ∷ M6 ∷ C0 ∷ C1 ∷ C2 ∷ C3 ∷ C4 ∷ C5 ∷ C6 ∷ Emergency ∷ Unknown ∷ []
+
+-- the numbers in use; a writer refuses any other with 15
+abbrev pub mostKind : ℕ
+mostKind = 2
+
+abbrev pub mostMessage : ℕ
+mostMessage = 15
+
+unfoldable pub kindAt : ℕ → Kind
+kindAt n = getD kinds n kind.Unknown
+
+unfoldable pub messageAt : ℕ → Message
+messageAt n = getD messages n Unknown
