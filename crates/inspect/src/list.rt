@@ -1,0 +1,100 @@
+// Requests M and L: the fields that read as a motion or as a longitude.
+use crate::put;
+use crate::words;
+use crate::words::Angle;
+use crate::words::Count;
+use lonlat::Longitude;
+use mic_e::Course;
+use mic_e::Speed;
+
+// What a lister or writer answered, and the whole buffer afterwards.
+pub fn put_answer(w: laws::Answer, buffer: &[u8], out: &mut [u8], at: usize) -> usize {
+    let mut end = put::count(b"", w.refusal as usize, out, at);
+    end = put::count(b" ", w.reported, out, end);
+    end = put::count(b" ", w.needed, out, end);
+    end = put::byte(b' ', out, end);
+    put::hex(buffer, out, end)
+}
+
+fn list_motion(speed: u32, course: u32, buffer: &mut [u8], room: usize) -> laws::Answer {
+    if buffer.len() < room {
+        return laws::refused(0);
+    }
+    fields::list_motion(Speed(speed), Course(course), &mut buffer[..room])
+}
+
+fn list_longitude(
+    angle: i32,
+    hundred: bool,
+    west: bool,
+    buffer: &mut [u8],
+    room: usize,
+) -> laws::Answer {
+    if buffer.len() < room {
+        return laws::refused(0);
+    }
+    fields::list_longitude(Longitude(angle), hundred, west, &mut buffer[..room])
+}
+
+// `COURSE ROOM`, the rest of `M SPEED COURSE ROOM`
+fn motion_of(speed: u32, s: &[u8], out: &mut [u8], at: usize) -> usize {
+    let read = words::number(words::first(s), 0xffff_ffff);
+    let Count::Is(course) = read else {
+        return at;
+    };
+    let read = words::number(words::rest(s), 512);
+    let Count::Is(most) = read else {
+        return at;
+    };
+    let room = most as usize;
+    let mut buffer = [0xaau8; 512];
+    let w = list_motion(speed, course, &mut buffer, room);
+    put_answer(w, words::cut(&buffer, room), out, at)
+}
+
+// `M SPEED COURSE ROOM`
+pub fn motion(s: &[u8], out: &mut [u8], at: usize) -> usize {
+    let read = words::number(words::first(s), 0xffff_ffff);
+    let Count::Is(speed) = read else {
+        return at;
+    };
+    motion_of(speed, words::rest(s), out, at)
+}
+
+// `ROOM`, the end of `L ANGLE OFFSET SIDE ROOM`
+fn longitude_of(
+    angle: i32,
+    hundred: bool,
+    west: bool,
+    s: &[u8],
+    out: &mut [u8],
+    at: usize,
+) -> usize {
+    let read = words::number(s, 512);
+    let Count::Is(most) = read else {
+        return at;
+    };
+    let room = most as usize;
+    let mut buffer = [0xaau8; 512];
+    let w = list_longitude(angle, hundred, west, &mut buffer, room);
+    put_answer(w, words::cut(&buffer, room), out, at)
+}
+
+// `L ANGLE OFFSET SIDE ROOM`
+pub fn longitude(s: &[u8], out: &mut [u8], at: usize) -> usize {
+    let read = words::signed(words::first(s));
+    let Angle::Is(angle) = read else {
+        return at;
+    };
+    let s = words::rest(s);
+    let offset = words::either(words::first(s), b"0", b"100");
+    let s = words::rest(s);
+    let side = words::either(words::first(s), b"E", b"W");
+    if 1 < offset {
+        return at;
+    }
+    if 1 < side {
+        return at;
+    }
+    longitude_of(angle, offset == 1, side == 1, words::rest(s), out, at)
+}
