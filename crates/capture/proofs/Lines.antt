@@ -2,18 +2,15 @@
 -- before it.
 -- Assumes nothing.
 use mathlib.Core.Path.{_≡_, refl, sym, ap, ap₂, _∙_}
-use mathlib.Core.Bool.{cond}
-use mathlib.Core.List.{List, [], _∷_, _++_}
-use Prim.Native.Nat.{ℕ, zero, suc, _+_, _-_, _<_, _≤_}
+use mathlib.Core.List.{List}
+use Prim.Native.Nat.{ℕ, _+_, _-_, _<_, _≤_}
 use native.Mathlib.Omega.{arith}
-use native.Mathlib.Nat.{add-assoc}
 use borrow.Author.Tests.{lt-ltb, le-ltb, eq-eqb, ne-eqb}
 use lib.ListN.{length, getD, take, drop, length-drop}
-use lib.Seq.{length-take-le, getD-take, getD-drop}
+use lib.Seq.{length-take-le, getD-take}
 use Rattle.laws.specs.Bytes.{lineFeed, carriageReturn}
 use Rattle.laws.specs.Lists.{indexOf}
 use Rattle.laws.proofs.Places.{index-le}
-use Rattle.capture.specs.declared.Line.{Line}
 use Rattle.capture.specs.declared.Line.the-variants.{At, End}
 use Rattle.capture.specs.Lines.{withoutReturn, lineFrom, lineAt}
 

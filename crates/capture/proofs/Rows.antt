@@ -1,15 +1,15 @@
 -- Laws of a row built piece by piece: what a writer leaves behind the first bytes of a row, and two pieces together.
 -- Assumes nothing.
-use mathlib.Core.Path.{_≡_, refl, sym, ap, ap₂, _∙_}
-use mathlib.Core.List.{List, [], _∷_, _++_, append-assoc, append-nil}
+use mathlib.Core.Path.{_≡_, refl, sym, ap, _∙_}
+use mathlib.Core.List.{List, [], _∷_, _++_, append-assoc}
 use mathlib.Core.Bool.{Bool, true, false, cond}
 use Prim.Native.Nat.{ℕ, zero, suc, _+_, _-_, _<_, _≤_}
 use lib.Dec.{ltb}
 use borrow.Author.Tests.{ltb-false}
 use native.Mathlib.Omega.{arith}
 use native.Mathlib.Numerals.{add-one}
-use lib.ListN.{length, set, take, drop, length-append, length-take, length-drop}
-use lib.Seq.{length-take-le, take-suc-set, take-append-add, take-append-seam, take-append-le, take-length}
+use lib.ListN.{length, set, take, drop, length-append, length-drop}
+use lib.Seq.{length-take-le, take-suc-set, take-append-add, take-append-seam}
 use borrow.Rule.Slice.PartAt.{part-to-end}
 use borrow.Rule.Slice.PartMut.{putMid, same-len-mid}
 use Rattle.laws.specs.declared.Answer.{Answer}

@@ -8,9 +8,9 @@ use Prim.Native.Nat.{ℕ, zero, suc, _+_, _-_, _<_, _≤_}
 use native.Mathlib.Omega.{arith}
 use native.Mathlib.Nat.{le-of-suc-le-suc}
 use lib.Dec.{ltb, eqb}
-use borrow.Author.Tests.{ltb-true, ltb-false, eq-eqb}
+use borrow.Author.Tests.{ltb-true, ltb-false}
 use lib.ListN.{length, getD, take, drop, length-take, length-drop, drop-of-length-le}
-use lib.Seq.{take-take, take-all, take-length, drop-drop, append-snoc}
+use lib.Seq.{take-take, take-length, drop-drop, append-snoc}
 use Rattle.laws.specs.Bytes.{lineFeed, carriageReturn}
 use Rattle.laws.specs.Lists.{indexOf}
 use Rattle.laws.proofs.Places.{index-le}

@@ -3,7 +3,6 @@ ghost use mathlib.Core.Path.{_≡_};
 ghost use mathlib.Core.List.{[], _∷_, _++_};
 ghost use Prim.Native.Nat.{_+_, _<_, _≤_, min};
 ghost use lib.ListN.{length, take, drop};
-ghost use lib.IntN.{pos};
 ghost use Rattle.laws.specs.Bytes.{space};
 ghost use Rattle.laws.specs.Wrote.{ends, wrote};
 ghost use Rattle.capture.specs.Lines.{lineAt};

@@ -5,9 +5,6 @@ use borrow.Author.Needs.{needs, sfits-of}
 use mir.Facts.{toZ-ofZ}
 use Rattle.capture.proofs.add_angles.Statement.{statement}
 use Rattle.capture.proofs.add_angles.Tie as tie
-use Rattle.capture.proofs.add_angles.Reads as reads
-use Rattle.capture.proofs.add_angles.Lts as lts
-use Rattle.capture.proofs.add_number.Reads as add-number-reads
 
 add-number-requires : tie.Need-add-number-requires
 add-number-requires c κs = search needs

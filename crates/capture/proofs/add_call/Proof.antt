@@ -9,10 +9,6 @@ use Rattle.capture.proofs.Calls.{shown-point, shown-text, as-field}
 use borrow.Author.Needs.{needs}
 use Rattle.capture.proofs.add_call.Statement.{statement}
 use Rattle.capture.proofs.add_call.Tie as tie
-use Rattle.capture.proofs.add_call.Reads as reads
-use Rattle.capture.proofs.add_call.Lts as lts
-use Rattle.capture.proofs.add_text.Reads as add-text-reads
-use Rattle.capture.proofs.text_len.Reads as text-len-reads
 
 whole : (c : tie.Start) → length (c .args .c .text) ≡ 16
 whole c = search needs

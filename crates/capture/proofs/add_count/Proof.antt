@@ -11,9 +11,6 @@ use Rattle.capture.proofs.Rows.{reported-is, within, added}
 use borrow.Author.Needs.{needs}
 use Rattle.capture.proofs.add_count.Statement.{statement}
 use Rattle.capture.proofs.add_count.Tie as tie
-use Rattle.capture.proofs.add_count.Reads as reads
-use Rattle.capture.proofs.add_count.Lts as lts
-use Rattle.capture.proofs.write_count.Reads as write-count-reads
 
 width : (c : tie.After-struct-known) → length (digits (c .before .before .before .before .before .before .args .n)) ≤ 20
 width c = count-width (c .before .before .before .before .before .before .args .n) (omega arith)

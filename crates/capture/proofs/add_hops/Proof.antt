@@ -4,10 +4,6 @@ use Rattle.capture.proofs.Pieces.{hops-joined}
 use borrow.Author.Needs.{needs}
 use Rattle.capture.proofs.add_hops.Statement.{statement}
 use Rattle.capture.proofs.add_hops.Tie as tie
-use Rattle.capture.proofs.add_hops.Reads as reads
-use Rattle.capture.proofs.add_hops.Lts as lts
-use Rattle.capture.proofs.add_count.Reads as add-count-reads
-use Rattle.capture.proofs.heard.Reads as heard-reads
 
 add-count-requires : tie.Need-add-count-requires
 add-count-requires c κs = search needs

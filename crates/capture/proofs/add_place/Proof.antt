@@ -5,10 +5,6 @@ use Rattle.capture.proofs.Pieces.{as-text, place-unknown, place-positio
 use borrow.Author.Needs.{needs}
 use Rattle.capture.proofs.add_place.Statement.{statement}
 use Rattle.capture.proofs.add_place.Tie as tie
-use Rattle.capture.proofs.add_place.Reads as reads
-use Rattle.capture.proofs.add_place.Lts as lts
-use Rattle.capture.proofs.add_angles.Reads as add-angles-reads
-use Rattle.capture.proofs.add_text.Reads as add-text-reads
 
 enum-told : tie.Need-enum-told
 enum-told c = search needs

@@ -4,12 +4,6 @@ use Rattle.capture.proofs.Pieces.{record-joined}
 use borrow.Author.Needs.{needs}
 use Rattle.capture.proofs.add_record.Statement.{statement}
 use Rattle.capture.proofs.add_record.Tie as tie
-use Rattle.capture.proofs.add_record.Reads as reads
-use Rattle.capture.proofs.add_record.Lts as lts
-use Rattle.capture.proofs.add_call.Reads as add-call-reads
-use Rattle.capture.proofs.add_hops.Reads as add-hops-reads
-use Rattle.capture.proofs.add_place.Reads as add-place-reads
-use Rattle.capture.proofs.add_to.Reads as add-to-reads
 
 add-call-requires : tie.Need-add-call-requires
 add-call-requires c κs = search needs

@@ -6,10 +6,6 @@ use Rattle.capture.proofs.Pieces.{to-unknown, to-position, to-none}
 use borrow.Author.Needs.{needs}
 use Rattle.capture.proofs.add_to.Statement.{statement}
 use Rattle.capture.proofs.add_to.Tie as tie
-use Rattle.capture.proofs.add_to.Reads as reads
-use Rattle.capture.proofs.add_to.Lts as lts
-use Rattle.capture.proofs.add_call.Reads as add-call-reads
-use Rattle.capture.proofs.add_text.Reads as add-text-reads
 
 enum-told : tie.Need-enum-told
 enum-told c = search needs

@@ -5,11 +5,6 @@ use Rattle.capture.proofs.Pieces.{row-refused, row-accepted}
 use borrow.Author.Needs.{needs}
 use Rattle.capture.proofs.build.Statement.{statement}
 use Rattle.capture.proofs.build.Tie as tie
-use Rattle.capture.proofs.build.Reads as reads
-use Rattle.capture.proofs.build.Lts as lts
-use Rattle.capture.proofs.add_count.Reads as add-count-reads
-use Rattle.capture.proofs.add_record.Reads as add-record-reads
-use Rattle.capture.proofs.add_text.Reads as add-text-reads
 
 add-count-requires : tie.Need-add-count-requires
 add-count-requires c κs = search needs

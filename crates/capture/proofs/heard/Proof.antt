@@ -7,8 +7,6 @@ use lib.ListN.{length}
 use Rattle.capture.proofs.Hops.{Counted, counted-none, counted-heard, counted-unheard, counted-end, counted-all}
 use Rattle.capture.proofs.heard.Statement.{statement}
 use Rattle.capture.proofs.heard.Tie as tie
-use Rattle.capture.proofs.heard.Reads as reads
-use Rattle.capture.proofs.heard.Lts as lts
 
 abbrev Inv-loop : tie.InvT-loop
 Inv-loop count hops n₀ i₀ n i = Counted hops count n i

@@ -1,7 +1,6 @@
 -- `line_at`: each answer is the definition's, by the place of the first LF in what stands from the place on and by the
 -- byte before it.
 -- Assumes nothing.
-use mathlib.Core.Path.{_≡_}
 use Prim.Native.Nat.{_+_, _≤_}
 use native.Mathlib.Omega.{arith}
 use lib.ListN.{length}

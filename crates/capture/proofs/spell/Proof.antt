@@ -1,15 +1,12 @@
 -- `spell`: the digits behind the place are the number's last ones, and those before them are what is left of it. The
 -- measure is that rest.
 -- Assumes nothing.
-use mathlib.Core.Path.{_∙_}
 use native.Mathlib.Omega.{arith}
 use lib.ListN.{length-set}
 use denote.Ref.{now}
 use Rattle.capture.proofs.Digits.{Spelt, spelt-none, spelt-more, spelt-all}
 use Rattle.capture.proofs.spell.Statement.{statement}
 use Rattle.capture.proofs.spell.Tie as tie
-use Rattle.capture.proofs.spell.Reads as reads
-use Rattle.capture.proofs.spell.Lts as lts
 
 abbrev Inv-loop : tie.InvT-loop
 Inv-loop n text₀ at₀ rest₀ text at rest = Spelt n text at rest

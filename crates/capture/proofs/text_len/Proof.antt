@@ -1,9 +1,9 @@
+-- `text_len`: each answer is the definition's, by the two lengths.
+-- Assumes nothing.
 use Rattle.capture.proofs.Calls.{len-over, len-bare, len-cut, len-full}
 use borrow.Author.Needs.{needs}
 use Rattle.capture.proofs.text_len.Statement.{statement}
 use Rattle.capture.proofs.text_len.Tie as tie
-use Rattle.capture.proofs.text_len.Reads as reads
-use Rattle.capture.proofs.text_len.Lts as lts
 
 returns : tie.Need-returns
 returns c = search len-over

@@ -1,11 +1,9 @@
+-- `write_count`: what is written is the part of the buffer that holds the digits.
+-- Assumes nothing.
 use Rattle.capture.proofs.Digits.{count-written}
 use borrow.Author.Needs.{needs}
 use Rattle.capture.proofs.write_count.Statement.{statement}
 use Rattle.capture.proofs.write_count.Tie as tie
-use Rattle.capture.proofs.write_count.Reads as reads
-use Rattle.capture.proofs.write_count.Lts as lts
-use Rattle.capture.proofs.spell.Reads as spell-reads
-use Rattle.laws.proofs.write.Reads as write-reads
 
 slice-aggregate-spell : tie.Need-slice-aggregate-spell
 slice-aggregate-spell c = search needs

@@ -1,14 +1,10 @@
+-- `write_number`: the digits of the size, and a dash before them where the number is negative.
+-- Assumes nothing.
 use Rattle.lonlat.proofs.Angle.{back}
 use Rattle.capture.proofs.Digits.{minus-written, plus-written}
 use borrow.Author.Needs.{needs}
 use Rattle.capture.proofs.write_number.Statement.{statement}
 use Rattle.capture.proofs.write_number.Tie as tie
-use Rattle.capture.proofs.write_number.Reads as reads
-use Rattle.capture.proofs.write_number.Lts as lts
-use Rattle.capture.proofs.spell.Reads as spell-reads
-use Rattle.laws.proofs.write.Reads as write-reads
-use Rattle.laws.proofs.write_two.Reads as write-two-reads
-use Rattle.lonlat.proofs.parts.Reads as parts-reads
 
 parts-requires : tie.Need-parts-requires
 parts-requires c κs = search needs

@@ -6,11 +6,6 @@ use Rattle.capture.proofs.Pieces.{row-written}
 use borrow.Author.Needs.{needs}
 use Rattle.capture.proofs.write_row.Statement.{statement}
 use Rattle.capture.proofs.write_row.Tie as tie
-use Rattle.capture.proofs.write_row.Reads as reads
-use Rattle.capture.proofs.write_row.Lts as lts
-use Rattle.capture.proofs.build.Reads as build-reads
-use Rattle.laws.proofs.write.Reads as write-reads
-use Rattle.packet.proofs.read_text.Reads as read-text-reads
 
 read-text-requires : tie.Need-read-text-requires
 read-text-requires c κs = search needs
