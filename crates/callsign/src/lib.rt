@@ -404,8 +404,11 @@ fn numbered(call: [u8; 6], n: usize, ssid: u8) -> Callsign
     }
 }
 
+// The characters of an address, unpacked.
+pub type Characters = [u8; 6];
+
 // The callsign of an address's characters, the first `len` of `call`, and of the SSID in its seventh byte.
-pub fn address_call(call: [u8; 6], len: usize, seventh: u8) -> Callsign
+pub fn address_call(call: Characters, len: usize, seventh: u8) -> Callsign
     ensures { λ r. ⌜ r ≡ made (take len call) (ssidText (ssidOf seventh)) ⌝ }
 {
     let number = ssid(seventh);
