@@ -1,0 +1,311 @@
+// What a line of the table asks: its first word says which public function, the rest its arguments. The answer goes to the
+// front of out in words, and its length is answered.
+use crate::put;
+use crate::show;
+use crate::words;
+use callsign::Callsign;
+use callsign::Field;
+use lonlat::Latitude;
+use lonlat::Longitude;
+use mic_e::Course;
+use mic_e::Information;
+use mic_e::Speed;
+use packet::PacketRead;
+use packet::Record;
+
+// What a writer wrote, or its refusal.
+fn written(w: laws::Answer, bytes: &[u8], out: &mut [u8]) -> usize {
+    if w.refusal != 0 {
+        return put::refusal(w.refusal, out);
+    }
+    put::text(words::cut(bytes, w.reported), out, 0)
+}
+
+// ---- callsigns
+
+// `CALL-SSID STARRED ZERO`
+fn callsign(s: &[u8], out: &mut [u8]) -> usize {
+    let r = callsign::read_text(s);
+    let c = r.call;
+    show::called(r.refusal, c, [r.starred as usize, r.zero as usize], out)
+}
+
+// `CALL-SSID HEARD LAST`
+fn address(s: &[u8], out: &mut [u8]) -> usize {
+    let r = callsign::read_address(s);
+    let c = r.call;
+    show::called(r.refusal, c, [r.heard as usize, r.last as usize], out)
+}
+
+// The address of the callsign that s reads as, in hexadecimal.
+fn packed(s: &[u8], field: Field, last: bool, out: &mut [u8]) -> usize {
+    let c = callsign::read_text(s).call;
+    let w = callsign::write_address(c, field, last);
+    if w.refusal != 0 {
+        return put::refusal(w.refusal, out);
+    }
+    let bytes = w.bytes;
+    put::hex(&bytes, out)
+}
+
+// `CALL_LEN SSID_LEN TEXT`: a callsign by its array and lengths, written as text.
+fn spelled(s: &[u8], out: &mut [u8]) -> usize {
+    let rest = words::rest(s);
+    let mut text = [0u8; 16];
+    laws::write(words::rest(rest), &mut text);
+    let c = Callsign {
+        text,
+        call_len: words::number(s) as usize,
+        ssid_len: words::number(rest) as usize,
+    };
+    let mut bytes = [0u8; 32];
+    let w = callsign::write_text(c, false, &mut bytes);
+    written(w, &bytes, out)
+}
+
+// ---- angles
+
+// `BLANKS TEXT`
+fn longitude(s: &[u8], out: &mut [u8]) -> usize {
+    let blanks = words::number(s);
+    if 255 < blanks {
+        return 0;
+    }
+    show::longitude(lonlat::read_longitude(words::rest(s), blanks as u8), out)
+}
+
+// `ANGLE BLANKS`
+fn latitude_text(s: &[u8], out: &mut [u8]) -> usize {
+    let blanks = words::number(words::rest(s));
+    if 255 < blanks {
+        return 0;
+    }
+    let mut bytes = [0u8; 16];
+    let w = lonlat::write_latitude(Latitude(words::signed(s)), blanks as u8, &mut bytes);
+    written(w, &bytes, out)
+}
+
+// `ANGLE`
+fn longitude_text(s: &[u8], out: &mut [u8]) -> usize {
+    let mut bytes = [0u8; 16];
+    let w = lonlat::write_longitude(Longitude(words::signed(s)), &mut bytes);
+    written(w, &bytes, out)
+}
+
+// ---- Mic-E fields
+
+// `LONGITUDE SPEED COURSE`, with the symbol `/>`: the bytes in decimal.
+fn information(s: &[u8], out: &mut [u8]) -> usize {
+    let speed = words::rest(s);
+    let i = Information {
+        longitude: Longitude(words::signed(s)),
+        speed: Speed(words::number(speed)),
+        course: Course(words::number(words::rest(speed))),
+        code: b'>',
+        table: b'/',
+    };
+    let mut bytes = [0u8; 8];
+    let w = mic_e::write_information(i, &mut bytes);
+    if w.refusal != 0 {
+        return put::refusal(w.refusal, out);
+    }
+    put::fields(&bytes, out, 0)
+}
+
+// A lister's count and fields, or the refusal and the bytes needed.
+fn listed(w: laws::Answer, bytes: &[u8], out: &mut [u8]) -> usize {
+    if w.refusal != 0 {
+        let end = put::refusal(w.refusal, out);
+        return put::counts(&[w.needed], out, end);
+    }
+    if 40 < w.reported {
+        return 0;
+    }
+    let end = put::digits(w.reported, out, 0);
+    put::fields(words::cut(bytes, 3 * w.reported), out, end)
+}
+
+// `SPEED COURSE`
+fn motions(s: &[u8], out: &mut [u8]) -> usize {
+    let speed = words::number(s);
+    let course = words::number(words::rest(s));
+    let mut bytes = [0u8; 120];
+    let w = fields::list_motion(Speed(speed), Course(course), &mut bytes);
+    listed(w, &bytes, out)
+}
+
+// The fields of a longitude under offset 100, east, in the first `room` bytes of a buffer.
+fn longitudes_in(angle: i32, room: usize, bytes: &mut [u8]) -> laws::Answer {
+    if room <= bytes.len() {
+        return fields::list_longitude(Longitude(angle), true, false, &mut bytes[..room]);
+    }
+    fields::list_longitude(Longitude(angle), true, false, bytes)
+}
+
+// `ANGLE ROOM`
+fn longitudes(s: &[u8], out: &mut [u8]) -> usize {
+    let room = words::number(words::rest(s)) as usize;
+    let mut bytes = [0u8; 120];
+    let w = longitudes_in(words::signed(s), room, &mut bytes);
+    listed(w, &bytes, out)
+}
+
+// ---- packets
+
+fn read(r: PacketRead, out: &mut [u8]) -> usize {
+    if r.refusal != 0 {
+        return put::refusal(r.refusal, out);
+    }
+    let record = r.record;
+    show::record(record, out)
+}
+
+// The comment of the record that was read from s.
+fn comment(r: Record, s: &[u8]) -> &[u8] {
+    words::cut(words::tail(s, r.comment.at), r.comment.len)
+}
+
+fn as_text(r: Record, s: &[u8], out: &mut [u8]) -> usize {
+    let mut bytes = [0u8; 512];
+    let w = packet::write_text(r, comment(r, s), &mut bytes);
+    written(w, &bytes, out)
+}
+
+// A frame in hexadecimal.
+fn as_frame(r: Record, s: &[u8], out: &mut [u8]) -> usize {
+    let mut bytes = [0u8; 512];
+    let w = packet::write_frame(r, comment(r, s), &mut bytes);
+    if w.refusal != 0 {
+        return put::refusal(w.refusal, out);
+    }
+    put::hex(words::cut(&bytes, w.reported), out)
+}
+
+// `NUMBER LINE`: the row of the listing, without its LF.
+fn row(s: &[u8], out: &mut [u8]) -> usize {
+    let mut bytes = [0u8; 256];
+    let w = capture::write_row(words::number(s) as usize, words::rest(s), &mut bytes);
+    let n = laws::find(&bytes, b'\n');
+    put::text(words::cut(&bytes, n), out, 0)
+}
+
+// ---- recorded answers
+
+// The record written again: `=` where it gives the bytes that were read, and of a refusal only the fact.
+fn again(w: laws::Answer, bytes: &[u8], s: &[u8], out: &mut [u8], at: usize) -> usize {
+    if w.refusal != 0 {
+        return put::plain(b"refused", out, at);
+    }
+    let got = words::cut(bytes, w.reported);
+    if words::same(got, s) {
+        return put::plain(b"=", out, at);
+    }
+    put::plain(got, out, at)
+}
+
+fn both(r: Record, s: &[u8], out: &mut [u8], at: usize) -> usize {
+    let mut bytes = [0u8; 512];
+    let w = packet::write_text(r, comment(r, s), &mut bytes);
+    let end = again(w, &bytes, s, out, at);
+    let w = packet::write_frame(r, comment(r, s), &mut bytes);
+    again(w, &bytes, s, out, end)
+}
+
+// The record and how it is written; of a refusal only the fact.
+fn replayed(r: PacketRead, s: &[u8], out: &mut [u8]) -> usize {
+    if r.refusal != 0 {
+        return put::text(b"refused", out, 0);
+    }
+    let record = r.record;
+    let end = show::record(record, out);
+    both(record, s, out, end)
+}
+
+// ---- which function
+
+fn of_callsigns(k: usize, s: &[u8], out: &mut [u8]) -> usize {
+    match k {
+        0 => callsign(s, out),
+        1 => address(s, out),
+        2 => packed(s, Field::Destination, false, out),
+        3 => packed(s, Field::Source, false, out),
+        4 => packed(s, Field::Source, true, out),
+        5 => packed(s, Field::Hop(true), true, out),
+        _ => spelled(s, out),
+    }
+}
+
+fn of_angles(k: usize, s: &[u8], out: &mut [u8]) -> usize {
+    match k {
+        7 => show::latitude(lonlat::read_latitude(s), out),
+        8 => longitude(s, out),
+        9 => latitude_text(s, out),
+        10 => longitude_text(s, out),
+        11 => information(s, out),
+        12 => motions(s, out),
+        _ => longitudes(s, out),
+    }
+}
+
+fn of_packets(k: usize, s: &[u8], out: &mut [u8]) -> usize {
+    match k {
+        14 => replayed(packet::read_text(s), s, out),
+        15 => replayed(packet::read_frame(s), s, out),
+        16 => read(packet::read_text(s), out),
+        17 => read(packet::read_frame(s), out),
+        18 => as_text(packet::read_text(s).record, s, out),
+        19 => as_frame(packet::read_text(s).record, s, out),
+        20 => as_text(packet::read_frame(s).record, s, out),
+        21 => row(s, out),
+        _ => put::text(b"no such question", out, 0),
+    }
+}
+
+fn asked(k: usize, s: &[u8], out: &mut [u8]) -> usize {
+    if k < 7 {
+        return of_callsigns(k, s, out);
+    }
+    if k < 14 {
+        return of_angles(k, s, out);
+    }
+    of_packets(k, s, out)
+}
+
+// The place of a word in a list of words, 255 where it is not there.
+fn place(word: &[u8], list: &[u8]) -> usize {
+    let mut from: usize = 0;
+    let mut k: usize = 0;
+    while from < list.len() {
+        let t = &list[from..];
+        let n = laws::find(t, b' ');
+        if words::same(words::cut(t, n), word) {
+            return k;
+        }
+        if list.len() - from <= n {
+            return 255;
+        }
+        from += n + 1;
+        k += 1;
+    }
+    255
+}
+
+// The answer to a question. Its words:
+//   callsign TEXT, address BYTES         read
+//   to, from, last-from, last-hop TEXT   the callsign's address as destination, source, last source, heard last hop
+//   spelled CALL_LEN SSID_LEN BYTES      a callsign by its parts, written
+//   latitude TEXT, longitude BLANKS TEXT read
+//   latitude-text ANGLE BLANKS, longitude-text ANGLE, information LONGITUDE SPEED COURSE   written
+//   motions SPEED COURSE, longitudes ANGLE ROOM   listed
+//   text LINE, frame BYTES               read; text-text, text-frame, frame-text: read as one and written as the other
+//   row NUMBER LINE                      the listing's row
+//   T LINE, F BYTES                      read, and written both ways: a recorded answer
+pub fn answer(question: &[u8], out: &mut [u8]) -> usize {
+    let k = place(
+        words::first(question),
+        b"callsign address to from last-from last-hop spelled latitude longitude latitude-text longitude-text information motions longitudes T F text frame text-text text-frame frame-text row",
+    );
+    let mut input = io::buffer();
+    let n = words::bytes(words::rest(question), &mut input);
+    asked(k, words::cut(&input, n), out)
+}

@@ -1,0 +1,159 @@
+// The words of an answer: each goes behind the first `at` bytes of out, a space before it where it is not the first, and the
+// place after it is answered. What does not fit is left out; the program keeps more room than any answer takes.
+
+pub fn byte(b: u8, out: &mut [u8], at: usize) -> usize {
+    if out.len() <= at {
+        return at;
+    }
+    out[at] = b;
+    at + 1
+}
+
+// A text as it stands, without a space before it.
+pub fn text(s: &[u8], out: &mut [u8], at: usize) -> usize {
+    if out.len() < at {
+        return at;
+    }
+    let room = out.len() - at;
+    let n = laws::write(s, &mut out[at..]).reported;
+    if room < n {
+        return at;
+    }
+    at + n
+}
+
+// The space between two words.
+pub fn gap(out: &mut [u8], at: usize) -> usize {
+    if at == 0 {
+        return 0;
+    }
+    byte(b' ', out, at)
+}
+
+// A number in decimal, without a space before it.
+pub fn digits(n: usize, out: &mut [u8], at: usize) -> usize {
+    if out.len() < at {
+        return at;
+    }
+    let room = out.len() - at;
+    let k = capture::write_count(n, &mut out[at..]).reported;
+    if room < k {
+        return at;
+    }
+    at + k
+}
+
+// A number that may have a sign.
+pub fn number(n: i32, out: &mut [u8], at: usize) -> usize {
+    let from = gap(out, at);
+    if out.len() < from {
+        return from;
+    }
+    let room = out.len() - from;
+    let k = capture::write_number(n, &mut out[from..]).reported;
+    if room < k {
+        return from;
+    }
+    from + k
+}
+
+// Numbers, a word each.
+pub fn counts(ns: &[usize], out: &mut [u8], at: usize) -> usize {
+    let mut end = at;
+    let mut i: usize = 0;
+    while i < ns.len() {
+        end = gap(out, end);
+        end = digits(ns[i], out, end);
+        i += 1;
+    }
+    end
+}
+
+// The hexadecimal digit of a number below 16.
+fn digit(n: u8) -> u8 {
+    if n < 10 {
+        return b'0' + n;
+    }
+    if n < 16 {
+        return b'a' + (n - 10);
+    }
+    b'?'
+}
+
+// Two hexadecimal digits.
+fn pair(b: u8, out: &mut [u8], at: usize) -> usize {
+    let end = byte(digit(b >> 4), out, at);
+    byte(digit(b & 0x0f), out, end)
+}
+
+// A printed character as it stands; any other byte, a space and a `%` as `%` and two hexadecimal digits.
+fn escaped(b: u8, out: &mut [u8], at: usize) -> usize {
+    if b'!' <= b {
+        if b <= b'~' {
+            if b != b'%' {
+                return byte(b, out, at);
+            }
+        }
+    }
+    let end = byte(b'%', out, at);
+    pair(b, out, end)
+}
+
+// Bytes, each escaped, without a space before them.
+pub fn bytes(s: &[u8], out: &mut [u8], at: usize) -> usize {
+    let mut end = at;
+    let mut i: usize = 0;
+    while i < s.len() {
+        end = escaped(s[i], out, end);
+        i += 1;
+    }
+    end
+}
+
+// Bytes, each escaped, as one word.
+pub fn plain(s: &[u8], out: &mut [u8], at: usize) -> usize {
+    let end = gap(out, at);
+    bytes(s, out, end)
+}
+
+// Bytes in hexadecimal, a word each, at the front of out.
+pub fn hex(s: &[u8], out: &mut [u8]) -> usize {
+    let mut end: usize = 0;
+    let mut i: usize = 0;
+    while i < s.len() {
+        end = gap(out, end);
+        end = pair(s[i], out, end);
+        i += 1;
+    }
+    end
+}
+
+// What stands before a part of a word: a space before the first one, a comma before another.
+pub fn lead(first: bool, out: &mut [u8], at: usize) -> usize {
+    if first {
+        return gap(out, at);
+    }
+    byte(b',', out, at)
+}
+
+fn wide(b: u8) -> usize {
+    b as usize
+}
+
+// Fields of three bytes, in decimal.
+pub fn fields(s: &[u8], out: &mut [u8], at: usize) -> usize {
+    let mut end = at;
+    let mut i: usize = 0;
+    while i < s.len() {
+        end = lead(i % 3 == 0, out, end);
+        end = digits(wide(s[i]), out, end);
+        i += 1;
+    }
+    end
+}
+
+// A refusal by its number, at the front of out.
+pub fn refusal(n: u8, out: &mut [u8]) -> usize {
+    let end = text(b"refused", out, 0);
+    counts(&[n as usize], out, end)
+}

@@ -1,0 +1,171 @@
+// Answers in words. Callsigns and symbols are escaped; a hop starts with `+` where it was heard and with `-` where not.
+ghost use Prim.Native.Nat.{_≤_};
+use crate::put;
+use crate::words;
+use callsign::Callsign;
+use header::Hop;
+use header::Path;
+use lonlat::LatitudeRead;
+use lonlat::LongitudeRead;
+use mic_e::Message;
+use packet::Kind;
+use packet::Record;
+use packet::Report;
+
+// ---- callsigns
+
+// A callsign's text, without a space before it.
+fn call(c: Callsign, out: &mut [u8], at: usize) -> usize {
+    let n = capture::text_len(c);
+    let text = c.text;
+    put::bytes(words::cut(&text, n), out, at)
+}
+
+// The answer of a reader of callsigns: `CALL-SSID FLAG FLAG`, or the refusal with the flags.
+pub fn called(refusal: u8, c: Callsign, flags: [usize; 2], out: &mut [u8]) -> usize {
+    if refusal != 0 {
+        let end = put::refusal(refusal, out);
+        return put::counts(&flags, out, end);
+    }
+    let end = call(c, out, 0);
+    put::counts(&flags, out, end)
+}
+
+fn hop(h: Hop, out: &mut [u8], at: usize) -> usize {
+    let mark = if h.heard { b'+' } else { b'-' };
+    let c = h.call;
+    let end = put::byte(mark, out, at);
+    call(c, out, end)
+}
+
+// The hops, with commas between, or `none`.
+fn hops(path: Path, out: &mut [u8], at: usize) -> usize {
+    if path.count == 0 {
+        return put::plain(b"none", out, at);
+    }
+    let mut end = at;
+    let mut i: usize = 0;
+    while i < 8 {
+        if path.count <= i {
+            return end;
+        }
+        end = put::lead(i == 0, out, end);
+        let h = path.hops[i];
+        end = hop(h, out, end);
+        i += 1;
+    }
+    end
+}
+
+// ---- angles
+
+// `ANGLE LETTER BLANKS`
+pub fn latitude(r: LatitudeRead, out: &mut [u8]) -> usize {
+    match r {
+        LatitudeRead::Read {
+            latitude,
+            blanks,
+            letter,
+        } => {
+            let mut end = put::number(latitude.0, out, 0);
+            end = put::plain(&[letter], out, end);
+            put::counts(&[blanks as usize], out, end)
+        }
+        LatitudeRead::Refused => put::refusal(8, out),
+    }
+}
+
+// `ANGLE LETTER`
+pub fn longitude(r: LongitudeRead, out: &mut [u8]) -> usize {
+    match r {
+        LongitudeRead::Read { longitude, letter } => {
+            let end = put::number(longitude.0, out, 0);
+            put::plain(&[letter], out, end)
+        }
+        LongitudeRead::Refused => put::refusal(9, out),
+        LongitudeRead::OutOfRange => put::refusal(15, out),
+    }
+}
+
+// ---- records
+
+fn kind(k: Kind, out: &mut [u8]) -> usize {
+    match k {
+        Kind::Unknown => put::text(b"unknown", out, 0),
+        Kind::Position => put::text(b"position", out, 0),
+        Kind::MicE => put::text(b"mic-e", out, 0),
+    }
+}
+
+// The place of a message among the standard ones, the custom ones and the last two.
+fn place(m: Message) -> usize
+    ensures { λ r. ⌜ r ≤ 15 ⌝ }
+{
+    match m {
+        Message::M0 => 0,
+        Message::M1 => 1,
+        Message::M2 => 2,
+        Message::M3 => 3,
+        Message::M4 => 4,
+        Message::M5 => 5,
+        Message::M6 => 6,
+        Message::C0 => 7,
+        Message::C1 => 8,
+        Message::C2 => 9,
+        Message::C3 => 10,
+        Message::C4 => 11,
+        Message::C5 => 12,
+        Message::C6 => 13,
+        Message::Emergency => 14,
+        Message::Unknown => 15,
+    }
+}
+
+// Two letters for a message: `Em` is emergency, `Un` unknown.
+fn message(m: Message, out: &mut [u8], at: usize) -> usize {
+    let n = place(m);
+    let names = words::tail(b"M0M1M2M3M4M5M6C0C1C2C3C4C5C6EmUn", 2 * n);
+    put::plain(words::cut(names, 2), out, at)
+}
+
+// `KIND FROM TO HOPS`
+fn header(r: Record, out: &mut [u8]) -> usize {
+    let k = r.kind;
+    let from = r.from;
+    let to = r.to;
+    let path = r.path;
+    let mut end = kind(k, out);
+    end = put::gap(out, end);
+    end = call(from, out, end);
+    end = put::gap(out, end);
+    end = call(to, out, end);
+    hops(path, out, end)
+}
+
+// `LATITUDE LONGITUDE SYMBOL MESSAGE`; a symbol is the table byte and the code byte.
+fn named(r: Record, out: &mut [u8], at: usize) -> usize {
+    let report = r.mic_e;
+    let m = report.message;
+    let mut end = put::number(r.place.latitude.0, out, at);
+    end = put::number(r.place.longitude.0, out, end);
+    end = put::plain(&[r.place.table, r.place.code], out, end);
+    message(m, out, end)
+}
+
+// `BLANKS MESSAGING CURRENT SPEED COURSE`
+fn numbered(blanks: u8, messaging: bool, m: Report, out: &mut [u8], at: usize) -> usize {
+    let flags = [blanks as usize, messaging as usize, m.current as usize];
+    let end = put::counts(&flags, out, at);
+    let motion = [m.speed.0 as usize, m.course.0 as usize];
+    put::counts(&motion, out, end)
+}
+
+// `KIND FROM TO HOPS LATITUDE LONGITUDE SYMBOL MESSAGE BLANKS MESSAGING CURRENT SPEED COURSE COMMENT-AT COMMENT-LEN`
+pub fn record(r: Record, out: &mut [u8]) -> usize {
+    let m = r.mic_e;
+    let c = r.comment;
+    let mut end = header(r, out);
+    end = named(r, out, end);
+    end = numbered(r.place.blanks, r.messaging, m, out, end);
+    put::counts(&[c.at, c.len], out, end)
+}

@@ -1,0 +1,79 @@
+// What the program prints: a line for each value, and the totals.
+use crate::put;
+use crate::words;
+
+// How many values were as they should be, how many there were, and how many bytes of the output are in use.
+pub struct Tally {
+    pub right: usize,
+    pub all: usize,
+    pub used: usize,
+}
+
+// Writes the first `used` bytes of out.
+pub fn flush(out: &[u8], used: usize) {
+    io::write_all(1, words::cut(out, used));
+}
+
+// Where the next line goes: behind the first `used` bytes, or, where little room is left, at the front once those are
+// written.
+fn ready(out: &[u8], used: usize) -> usize {
+    if used <= out.len() {
+        if 16384 <= out.len() - used {
+            return used;
+        }
+    }
+    flush(out, used);
+    0
+}
+
+// A line of two parts.
+pub fn line(first: &[u8], second: &[u8], out: &mut [u8], used: usize) -> usize {
+    let from = ready(out, used);
+    let mut end = put::text(first, out, from);
+    end = put::text(second, out, end);
+    put::byte(b'\n', out, end)
+}
+
+// One more.
+fn more(n: usize) -> usize {
+    if n < 0xffff_ffff {
+        return n + 1;
+    }
+    n
+}
+
+// A value that is as it should be: a line, but for a recorded answer.
+pub fn right(t: Tally, asked: &[u8], recorded: bool, out: &mut [u8]) -> Tally {
+    let right = more(t.right);
+    let all = more(t.all);
+    if recorded {
+        return Tally {
+            right,
+            all,
+            used: t.used,
+        };
+    }
+    let used = line(b"ok ", asked, out, t.used);
+    Tally { right, all, used }
+}
+
+// One that is not: what it should be, and what it is.
+pub fn wrong(t: Tally, s: &[u8], got: &[u8], out: &mut [u8]) -> Tally {
+    let mut used = line(b"WRONG ", s, out, t.used);
+    used = line(b"  is ", got, out, used);
+    Tally {
+        right: t.right,
+        all: more(t.all),
+        used,
+    }
+}
+
+// The last line, and all that is not written yet.
+pub fn totals(t: Tally, out: &mut [u8]) {
+    let mut end = ready(out, t.used);
+    end = put::digits(t.right, out, end);
+    end = put::text(b" of ", out, end);
+    end = put::digits(t.all, out, end);
+    end = put::text(b" as they should be\n", out, end);
+    flush(out, end);
+}
