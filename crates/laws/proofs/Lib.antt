@@ -1,6 +1,9 @@
 pub mod Picks
+pub mod Tests
 pub mod Lists
 pub mod Places
+pub mod Each
 pub mod Every
 pub mod Wrote
+pub mod Answers
 pub mod Unique

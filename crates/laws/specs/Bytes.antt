@@ -54,6 +54,12 @@ at-sign = 0x40
 abbrev pub capitalA : ℕ
 capitalA = 0x41
 
+abbrev pub capitalB : ℕ
+capitalB = 0x42
+
+abbrev pub capitalC : ℕ
+capitalC = 0x43
+
 abbrev pub capitalE : ℕ
 capitalE = 0x45
 
@@ -74,6 +80,12 @@ capitalP = 0x50
 
 abbrev pub capitalS : ℕ
 capitalS = 0x53
+
+abbrev pub capitalT : ℕ
+capitalT = 0x54
+
+abbrev pub capitalU : ℕ
+capitalU = 0x55
 
 abbrev pub capitalW : ℕ
 capitalW = 0x57

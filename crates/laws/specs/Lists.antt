@@ -1,4 +1,4 @@
--- Lists of bytes: the first place of a byte, zeros, and a list padded to a length.
+-- Lists: the first place of a byte, a test of every element, zeros, and a list padded to a length.
 -- Assumes nothing.
 use Prim.Native.Nat.{ℕ, zero, suc, _-_}
 use mathlib.Core.Bool.{Bool, true, cond, _&&_}
@@ -10,6 +10,11 @@ use lib.Dec.{eqb}
 unfoldable pub indexOf : ℕ → List ℕ → ℕ
 indexOf b [] = zero
 indexOf b (x ∷ l) = cond (eqb x b) zero (suc (indexOf b l))
+
+-- a test that holds of every element
+unfoldable pub every : {A : Type 0} → (A → Bool) → List A → Bool
+every p [] = true
+every p (x ∷ l) = p x && every p l
 
 -- l, and copies of z up to n elements
 unfoldable pub padTo : {A : Type 0} → ℕ → A → List A → List A
