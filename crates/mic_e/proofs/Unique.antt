@@ -10,6 +10,7 @@ use Rattle.laws.specs.declared.Answer.{Answer}
 use Rattle.laws.proofs.Wrote.{one-value, one-end}
 use Rattle.mic_e.specs.Motion.{readMotion}
 use Rattle.mic_e.specs.Longitude.{readLongitude}
+use Rattle.mic_e.specs.Message.{messageNumber}
 use Rattle.mic_e.specs.Destination.{readDestination, writeDestination}
 use Rattle.mic_e.specs.Information.{readInformation, informationRefusal, informationBytes}
 use Rattle.mic_e.specs.declared.Motion.{Motion}
@@ -25,6 +26,9 @@ unique-read-motion a b c r r′ = one-value r r′ (readMotion a b c)
 
 pub unique-read-longitude : (hundred west : Bool) (a b c : ℕ) (r r′ : LongitudeField) → r ≡ readLongitude hundred west a b c → r′ ≡ readLongitude hundred west a b c → r ≡ r′
 unique-read-longitude hundred west a b c r r′ = one-value r r′ (readLongitude hundred west a b c)
+
+pub unique-message-number : (m : Message) (r r′ : ℕ) → r ≡ messageNumber m → r′ ≡ messageNumber m → r ≡ r′
+unique-message-number m r r′ = one-value r r′ (messageNumber m)
 
 pub unique-read-destination : (call : List ℕ) (r r′ : DestinationRead) → r ≡ readDestination call → r′ ≡ readDestination call → r ≡ r′
 unique-read-destination call r r′ = one-value r r′ (readDestination call)

@@ -12,7 +12,7 @@ ghost use Rattle.lonlat.specs.Angle.{mostLongitude, sidesOf};
 ghost use Rattle.mic_e.specs.Turn.{lessIf};
 ghost use Rattle.mic_e.specs.Motion.{mostSpeed, mostCourse, readMotion, motionField};
 ghost use Rattle.mic_e.specs.Longitude.{offsetOf, wrapped, readLongitude, longitudeField, degreesByte, minutesByte, hundredFor};
-ghost use Rattle.mic_e.specs.Message.{messageOf, bits, bitsOf};
+ghost use Rattle.mic_e.specs.Message.{messageOf, bits, bitsOf, messageNumber};
 ghost use Rattle.mic_e.specs.Character.{isCharacter, isLast, isFlagged, digitOf, bitOf, characterOf, flagBit};
 ghost use Rattle.mic_e.specs.Destination.{areCharacters, textIn, destinationWith, readDestination, charactersOf, writeDestination};
 ghost use Rattle.mic_e.specs.Information.{readInformation, informationOut, informationRefusal, informationBytes};
@@ -439,6 +439,30 @@ fn bits_of(m: Message) -> Bits
         Message::C6 => three_bits(Bit::Zero, Bit::Zero, Bit::Custom),
         Message::Emergency => three_bits(Bit::Zero, Bit::Zero, Bit::Zero),
         Message::Unknown => three_bits(Bit::Standard, Bit::Custom, Bit::Standard),
+    }
+}
+
+// The number of a message.
+pub fn message_number(m: Message) -> u8
+    ensures { λ r. ⌜ r ≡ messageNumber m ⌝ }
+{
+    match m {
+        Message::M0 => 0,
+        Message::M1 => 1,
+        Message::M2 => 2,
+        Message::M3 => 3,
+        Message::M4 => 4,
+        Message::M5 => 5,
+        Message::M6 => 6,
+        Message::C0 => 7,
+        Message::C1 => 8,
+        Message::C2 => 9,
+        Message::C3 => 10,
+        Message::C4 => 11,
+        Message::C5 => 12,
+        Message::C6 => 13,
+        Message::Emergency => 14,
+        Message::Unknown => 15,
     }
 }
 
