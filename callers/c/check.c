@@ -1,4 +1,4 @@
-/* Guarded memory, and the count of what holds. */
+/* Guarded memory, the count of what holds, and which checks run. */
 #include "check.h"
 
 #include <stdio.h>
@@ -156,7 +156,9 @@ bool is_blank(const tusselgro_record *record) {
     return same_record(record, &zeros);
 }
 
-int main(void) {
+bool any_fault(void) { return faults > 0; }
+
+static void check_all(void) {
     check_sizes();
     check_reading();
     check_writing();
@@ -165,6 +167,17 @@ int main(void) {
     for (int refusal = 0; refusal <= 16; refusal++) {
         if (!met[refusal]) printf("refusal %d was never met\n", refusal);
         HOLDS(met[refusal]);
+    }
+}
+
+int main(int count, char **words) {
+    if (count == 1) {
+        check_all();
+    } else if (count == 5 && strcmp(words[1], "random") == 0) {
+        check_random(strtoull(words[2], NULL, 10), strtoull(words[3], NULL, 10), (unsigned)strtoul(words[4], NULL, 10));
+    } else {
+        fprintf(stderr, "usage: %s [random SEED FIRST-TURN SECONDS]\n", words[0]);
+        return 2;
     }
     printf("C caller: %u facts, %u do not hold\n", facts, faults);
     return faults == 0 ? 0 : 1;

@@ -43,4 +43,8 @@ void check_writing(void);
 void check_listing(void);
 void check_bounds(void);
 
+/* Random calls for so many seconds, from a turn on; for 0 seconds that turn alone. Stops at the first fault. */
+void check_random(uint64_t seed, uint64_t first, unsigned seconds);
+bool any_fault(void);
+
 #endif
