@@ -4,67 +4,38 @@ use mathlib.Core.Path.{_≡_, refl, ap, _∙_}
 use mathlib.Core.Bool.{Bool, true, false}
 use mathlib.Core.List.{List, [], _∷_, _++_}
 use Prim.Native.Nat.{ℕ, zero, suc, _+_, _-_, _/_, _%_, _<_, _≤_}
-use native.Mathlib.Nat.{not-suc-le-zero, le-of-suc-le-suc}
 use native.Mathlib.Omega.{arith}
 use borrow.Author.Tests.{le-leb, le-ltb, ne-eqb}
 use lib.Dec.{eqb}
 use lib.IntN.{ℤ, natAbs}
 use lib.ListN.{length, take, getD, replicate}
 use lib.Seq.{length-take-le, drop-append-seam}
-use Rattle.laws.specs.Bytes.{space, digit0, point, isDigit, within, capitalS}
-use Rattle.laws.specs.Lists.{indexOf}
+use Rattle.laws.specs.Bytes.{space, digit0, digit9, point, isDigit, within, capitalS}
+use Rattle.laws.specs.Lists.{indexOf, every}
+use Rattle.laws.proofs.Tests.{within-yes}
+use Rattle.laws.proofs.Each.{every-first, every-rest, every-append, every-snoc, every-take, every-replicate, every-at, every-weaker}
 use Rattle.lonlat.specs.Angle.{mostLatitude}
-use Rattle.lonlat.specs.Digits.{every, lastAs, angleIn, digitOf, digitsOf, placesOf, textOf}
+use Rattle.lonlat.specs.Digits.{lastAs, angleIn, digitOf, digitsOf, placesOf, textOf}
 use Rattle.lonlat.specs.Latitude.{isBlank, isDigitOrBlank, blanksIn, restBlank, countedDigits, isNorthOrSouth, latitudeWith, latitudeIn, latitudePlaces, readLatitude, blankedPlaces, northOrSouth, latitudeText}
 use Rattle.lonlat.specs.Longitude.{longitudeIn, readLongitude, eastOrWest, longitudeText}
 use Rattle.lonlat.proofs.Cut.{up-to-five}
-use Rattle.lonlat.proofs.Digits.{a-digit, digit-within, every-first, every-rest, last-length, last-start}
-
--- ---- every byte of a list made of parts
-
-module _ (test : ℕ → Bool) where
-  pub every-append : (s t : List ℕ) → every test s ≡ true → every test t ≡ true → every test (s ++ t) ≡ true
-  unfolding every
-  every-append [] t e f = f
-  every-append (b ∷ s) t e f = rw (every-first test b s e) (every-append s t (every-rest test b s e) f)
-
-  pub every-take : (k : ℕ) (t : List ℕ) → every test t ≡ true → every test (take k t) ≡ true
-  unfolding every
-  every-take zero t e = refl
-  every-take (suc k) [] e = refl
-  every-take (suc k) (b ∷ t) e = rw (every-first test b t e) (every-take k t (every-rest test b t e))
-
-  pub every-replicate : (b : ℕ) → test b ≡ true → (n : ℕ) → every test (replicate n b) ≡ true
-  unfolding every
-  every-replicate b e zero = refl
-  every-replicate b e (suc n) = rw e (every-replicate b e n)
-
-  -- the last n as b
-  pub every-last : (b n : ℕ) (t : List ℕ) → test b ≡ true → every test t ≡ true → every test (lastAs b n t) ≡ true
-  unfolding lastAs
-  every-last b n t e f = every-append (take (length t - n) t) (replicate n b) (every-take (length t - n) t f) (every-replicate b e n)
-
-  -- the byte at a place
-  pub every-at : (t : List ℕ) (i : ℕ) → every test t ≡ true → i < length t → test (getD t i 0) ≡ true
-  every-at [] i e h = absurd (not-suc-le-zero h)
-  every-at (b ∷ t) zero e h = every-first test b t e
-  every-at (b ∷ t) (suc i) e h = every-at t i (every-rest test b t e) (le-of-suc-le-suc h)
-
-pub every-weaker : (test other : ℕ → Bool) → ((b : ℕ) → test b ≡ true → other b ≡ true) → (t : List ℕ) → every test t ≡ true → every other t ≡ true
-unfolding every
-every-weaker test other w [] e = refl
-every-weaker test other w (b ∷ t) e = rw (w b (every-first test b t e)) (every-weaker test other w t (every-rest test b t e))
+use Rattle.lonlat.proofs.Digits.{a-digit, last-length, last-start}
 
 -- ---- digits
 
+-- every byte, the last n of them as b
+pub every-last : (test : ℕ → Bool) (b n : ℕ) (t : List ℕ) → test b ≡ true → every test t ≡ true → every test (lastAs b n t) ≡ true
+unfolding lastAs
+every-last test b n t e f = every-append test (take (length t - n) t) (replicate n b) (every-take test (length t - n) t f) (every-replicate test b e n)
+
 pub digit-is : (v : ℕ) → isDigit (digitOf v) ≡ true
 unfolding digitOf
-digit-is v = digit-within (digit0 + v % 10) (omega arith) (omega arith)
+digit-is v = within-yes digit0 digit9 (digit0 + v % 10) (omega arith) (omega arith)
 
 pub digits-are : (k v : ℕ) → every isDigit (digitsOf k v) ≡ true
 unfolding digitsOf every
 digits-are zero v = refl
-digits-are (suc k) v = every-append isDigit (digitsOf k (v / 10)) (digitOf v ∷ []) (digits-are k (v / 10)) (rw (digit-is v))
+digits-are (suc k) v = every-snoc isDigit (digitsOf k (v / 10)) (digitOf v) (digits-are k (v / 10)) (digit-is v)
 
 pub places-are : (k size : ℕ) → every isDigit (placesOf k size) ≡ true
 unfolding placesOf
@@ -197,7 +168,7 @@ module _ (blanks size : ℕ) where
     blanked-six = last-length space blanks (placesOf 2 size) (rw (six-places size) few) ∙ six-places size
 
     pub blanked-at : (i : ℕ) → i < 6 → isDigitOrBlank (getD (blankedPlaces blanks size) i 0) ≡ true
-    blanked-at i h = every-at isDigitOrBlank (blankedPlaces blanks size) i blanked-each (rw blanked-six h)
+    blanked-at i h = every-at isDigitOrBlank (blankedPlaces blanks size) i 0 blanked-each (rw blanked-six h)
 
 module _ (angle : ℤ) (blanks : ℕ) (few : blanks ≤ 6) where
   pub latitude-text-length : length (latitudeText angle blanks) ≡ 8

@@ -8,7 +8,7 @@ use lib.IntN.{natAbs}
 use borrow.Author.Tests.{leb-true, ltb-true}
 use Rattle.callsign.specs.declared.Callsign.{Callsign}
 use Rattle.lonlat.specs.Angle.{mostLongitude}
-use Rattle.lonlat.proofs.Digits.{and-first, and-second}
+use Rattle.laws.proofs.Tests.{and-first, and-second}
 use Rattle.header.specs.Range.{headerInRange}
 use Rattle.position.specs.declared.Place.{Place}
 use Rattle.position.specs.Position.{placeInRange, symbolsInRange, positionRefusal}

@@ -20,7 +20,7 @@ use Rattle.callsign.specs.Packed.{every}
 use Rattle.callsign.proofs.Made.{made-range}
 use Rattle.callsign.proofs.AddressBack.{isAscii, ascii-utf8}
 use Rattle.lonlat.specs.Angle.{mostLatitude, mostLongitude}
-use Rattle.lonlat.proofs.Digits.{and-first, and-second}
+use Rattle.laws.proofs.Tests.{and-first, and-second, within-high}
 use Rattle.header.specs.Range.{headerInRange}
 use Rattle.header.proofs.Calls.{range-zero}
 use Rattle.position.specs.declared.Place.{Place}
@@ -30,7 +30,6 @@ use Rattle.mic_e.specs.declared.Message.{Message}
 use Rattle.mic_e.specs.declared.DestinationWritten.{DestinationWritten}
 use Rattle.mic_e.specs.Character.{isCharacter, isLast}
 use Rattle.mic_e.specs.Destination.{areCharacters, charactersOf, destinationBytes, writeDestination}
-use Rattle.mic_e.proofs.Tests.{to}
 use Rattle.mic_e.proofs.DestinationFacts.{destination-stands, destination-length}
 use Rattle.mic_e.proofs.Theorems.{destination-written}
 use Rattle.packet.specs.declared.Kind.{Kind}
@@ -61,9 +60,9 @@ unfolding isCharacter
 character-ascii c e = lt-ltb c 0x80 (go (isDigit c) (within capitalA capitalL c) (within capitalP capitalZ c) refl refl refl e)
   where
     go : (p q r : Bool) → isDigit c ≡ p → within capitalA capitalL c ≡ q → within capitalP capitalZ c ≡ r → (p || q || r) ≡ true → c < 0x80
-    go true q r f g h t = omega (arith, to digit0 digit9 c f)
-    go false true r f g h t = omega (arith, to capitalA capitalL c g)
-    go false false true f g h t = omega (arith, to capitalP capitalZ c h)
+    go true q r f g h t = omega (arith, within-high digit0 digit9 c f)
+    go false true r f g h t = omega (arith, within-high capitalA capitalL c g)
+    go false false true f g h t = omega (arith, within-high capitalP capitalZ c h)
     go false false false f g h t = absurd (let z : _≡_ {A = ℕ} 0 1 = cc in omega arith)
 
 last-ascii : (c : ℕ) → isLast c ≡ true → isAscii c ≡ true

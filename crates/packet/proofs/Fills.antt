@@ -10,7 +10,7 @@ use lib.Seq.{take-at, drop-length}
 use Rattle.laws.specs.declared.Answer.{Answer}
 use Rattle.laws.specs.Wrote.{Wrote, ends, refusedBy, doneBy, wroteAs, wrote}
 use Rattle.laws.proofs.Wrote.{refuses}
-use Rattle.mic_e.proofs.Answers.{bytes-are}
+use Rattle.laws.proofs.Answers.{bytes-are}
 
 module _ (a : Answer) (k : ℕ) (bytes out last : List ℕ) (e : ends a last ≡ wrote k bytes out) (z : k ≡ 0) where
   module _ (m : length bytes ≤ length out) where

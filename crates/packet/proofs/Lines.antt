@@ -19,7 +19,7 @@ use Rattle.packet.specs.declared.Record.{Record}
 use Rattle.packet.specs.Record.{headerOf}
 use Rattle.packet.specs.Range.{partsInRange, recordInRange, rangeRefusal}
 use Rattle.packet.specs.Written.{most, writtenHeader, bodyRefusal, bytesOf, textBytes, frameBytes, orElse, kindRefusal, recordRefusal, textRefusal, frameRefusal, earlyByKind, earlyRefusal}
-use Rattle.mic_e.proofs.Answers.{refusal-is}
+use Rattle.laws.proofs.Answers.{refusal-is}
 use Rattle.packet.proofs.Fills.{counted, front, passed-on}
 use Rattle.packet.proofs.Accepted.{body-held}
 use Rattle.packet.proofs.Built.{header-same}

@@ -23,7 +23,7 @@ use Rattle.mic_e.specs.Destination.{readDestination}
 use Rattle.mic_e.specs.Information.{readInformation, informationBytes, informationOf}
 use Rattle.mic_e.specs.Motion.{readMotion}
 use Rattle.mic_e.specs.Longitude.{readLongitude}
-use Rattle.mic_e.proofs.Tests.{guard}
+use Rattle.laws.proofs.Tests.{guard}
 
 -- ---- read
 

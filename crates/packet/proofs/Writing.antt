@@ -23,7 +23,7 @@ use Rattle.packet.specs.declared.Kind.the-variants.{Unknown, Position, M
 use Rattle.packet.specs.declared.Report.{Report}
 use Rattle.packet.specs.declared.Record.{Record}
 use Rattle.packet.specs.Written.{most, informationOf, positionBytes, micEBytes, bodyBytes, bodyRefusal, bytesOf}
-use Rattle.mic_e.proofs.Answers.{bytes-are}
+use Rattle.laws.proofs.Answers.{bytes-are}
 use Rattle.packet.proofs.Fills.{counted, exact}
 
 -- ---- the fixed bytes of a body, from the type byte on

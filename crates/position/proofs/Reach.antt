@@ -8,7 +8,7 @@ use lib.Dec.{leb, ltb}
 use lib.IntN.{ℤ, natAbs}
 use Rattle.lonlat.specs.Angle.{mostLatitude, mostLongitude, isMinus, sidesOf}
 use Rattle.lonlat.specs.declared.Sides.{Sides}
-use Rattle.lonlat.proofs.Digits.{and-first, and-second}
+use Rattle.laws.proofs.Tests.{and-first, and-second}
 use Rattle.position.specs.declared.Place.{Place}
 use Rattle.position.specs.Reach.{inReach}
 use Rattle.position.specs.Position.{placeInRange, symbolsInRange}
