@@ -1,7 +1,7 @@
 -- The destination as written reads as what it was written for.
 -- Assumes nothing.
 use mathlib.Core.Path.{_≡_, refl, ap, _∙_}
-use mathlib.Core.Bool.{Bool, true, false, not, cond}
+use mathlib.Core.Bool.{Bool, true, not, cond}
 use mathlib.Core.List.{List}
 use Prim.Native.Nat.{ℕ, _%_, _<_, _≤_}
 use native.Mathlib.Omega.{arith}
@@ -9,6 +9,7 @@ use lib.Dec.{eqb}
 use lib.IntN.{ℤ, natAbs}
 use lib.ListN.{length, getD}
 use Rattle.laws.specs.Bytes.{capitalN, capitalS}
+use Rattle.laws.proofs.Tests.{picked}
 use Rattle.lonlat.specs.Angle.{mostLatitude, widthOf, isMinus}
 use Rattle.lonlat.specs.Latitude.{isDigitOrBlank, latitudeIn, latitudePlaces, readLatitude, blankedPlaces, northOrSouth, latitudeText}
 use Rattle.lonlat.proofs.Texts.{latitude-of-eight, latitude-of-text, blanked-six, blanked-at, latitude-text-places, latitude-text-letter}
@@ -46,19 +47,11 @@ message-reads-back Unknown = refl
 -- the letter's flag
 is-north : (angle : ℤ) → eqb (northOrSouth angle) capitalN ≡ not (isMinus angle)
 unfolding northOrSouth
-is-north angle = go (isMinus angle)
-  where
-    go : (b : Bool) → eqb (cond b capitalS capitalN) capitalN ≡ not b
-    go true = refl
-    go false = refl
+is-north angle = picked (λ letter b. eqb letter capitalN ≡ not b) capitalS capitalN refl refl (isMinus angle)
 
 letter-back : (angle : ℤ) → cond (eqb (northOrSouth angle) capitalN) capitalN capitalS ≡ northOrSouth angle
 unfolding northOrSouth
-letter-back angle = go (isMinus angle)
-  where
-    go : (b : Bool) → cond (eqb (cond b capitalS capitalN) capitalN) capitalN capitalS ≡ cond b capitalS capitalN
-    go true = refl
-    go false = refl
+letter-back angle = picked (λ letter b. cond (eqb letter capitalN) capitalN capitalS ≡ letter) capitalS capitalN refl refl (isMinus angle)
 
 module _ (angle : ℤ) (blanks : ℕ) (few : blanks ≤ 5) (bits : Bits) (hundred west : Bool) where
   t : List ℕ

@@ -59,7 +59,7 @@ character-ascii : (c : ℕ) → isCharacter c ≡ true → isAscii c ≡ true
 unfolding isCharacter
 character-ascii c e = lt-ltb c 0x80 (go (isDigit c) (within capitalA capitalL c) (within capitalP capitalZ c) refl refl refl e)
   where
-    go : (p q r : Bool) → isDigit c ≡ p → within capitalA capitalL c ≡ q → within capitalP capitalZ c ≡ r → (p || q || r) ≡ true → c < 0x80
+    go : (p q r : Bool) → isDigit c ≡ p → within capitalA capitalL c ≡ q → within capitalP capitalZ c ≡ r → (p || (q || r)) ≡ true → c < 0x80
     go true q r f g h t = omega (arith, within-high digit0 digit9 c f)
     go false true r f g h t = omega (arith, within-high capitalA capitalL c g)
     go false false true f g h t = omega (arith, within-high capitalP capitalZ c h)

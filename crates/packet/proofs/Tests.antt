@@ -11,7 +11,7 @@ use borrow.Author.Tests.{eq-eqb, ne-eqb}
 use Rattle.callsign.specs.declared.Callsign.{Callsign}
 use Rattle.callsign.specs.Range.{inRange}
 use Rattle.header.proofs.Calls.{range-zero}
-use Rattle.mic_e.proofs.Tests.{and-failed, and-held}
+use Rattle.laws.proofs.Picks.{and-failed, and-held}
 use Rattle.packet.specs.Range.{isNoCall}
 use Rattle.lonlat.specs.declared.Sides.{Sides}
 use Rattle.lonlat.specs.Angle.{sidesOf}
