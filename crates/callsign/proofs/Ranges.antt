@@ -1,7 +1,7 @@
 -- Laws of the range: a callsign by its parts, the tests that the code makes, and what being in range gives.
 -- Assumes nothing.
 use mathlib.Core.Path.{_≡_, refl, sym, ap, _∙_}
-use mathlib.Core.Bool.{Bool, true, false, not, cond, _&&_, and-true, and-false, and-assoc, false≢true}
+use mathlib.Core.Bool.{Bool, true, false, not, cond, _&&_, and-true, and-false, and-assoc}
 use mathlib.Core.List.{List, [], _∷_, _++_}
 use Prim.Native.Nat.{ℕ, _+_, _-_, _<_, _≤_}
 use native.Mathlib.Nat.{add-zero}
@@ -13,6 +13,7 @@ use lib.ListN.{length, take, drop, getD, length-drop}
 use lib.Seq.{length-take-le, take-add, take-suc, append-snoc, getD-take, getD-drop}
 use Rattle.laws.specs.Bytes.{dash, digit0}
 use Rattle.laws.specs.Lists.{zeros}
+use Rattle.laws.proofs.Tests.{and-both}
 use Rattle.callsign.specs.declared.Callsign.{Callsign}
 use Rattle.callsign.specs.Utf8.{utf8, characters}
 use Rattle.callsign.specs.Text.{joined, isZero}
@@ -173,18 +174,14 @@ pub to-range : (c : Callsign) → Ranged c → inRange c ≡ true
 unfolding inRange
 to-range c r = rw (le-leb (textLen c) 16 (r .size), r .call, r .ssid, r .nonzero, r .dashed, r .spare)
 
-pub both : (a b : Bool) → (a && b) ≡ true → (a ≡ true) × (b ≡ true)
-both true b h = (refl, h)
-both false b h = absurd (false≢true h)
-
 pub from-range : (c : Callsign) → inRange c ≡ true → Ranged c
 unfolding inRange
 from-range c e =
-    let t₅ = both _ (zeros (drop (textLen c) (c .text))) e in
-    let t₄ = both _ (isDashed c) (t₅ .0) in
-    let t₃ = both _ (not (isZero (ssidPart c))) (t₄ .0) in
-    let t₂ = both _ (utf8 (ssidPart c)) (t₃ .0) in
-    let t₁ = both (leb (textLen c) 16) (utf8 (callPart c)) (t₂ .0) in
+    let t₅ = and-both _ (zeros (drop (textLen c) (c .text))) e in
+    let t₄ = and-both _ (isDashed c) (t₅ .0) in
+    let t₃ = and-both _ (not (isZero (ssidPart c))) (t₄ .0) in
+    let t₂ = and-both _ (utf8 (ssidPart c)) (t₃ .0) in
+    let t₁ = and-both (leb (textLen c) 16) (utf8 (callPart c)) (t₂ .0) in
     record {
       size = leb-true (textLen c) 16 (t₁ .0);
       call = t₁ .1;

@@ -3,7 +3,7 @@
 use mathlib.Core.Path.{_≡_, refl, sym, ap, _∙_}
 use mathlib.Core.Bool.{Bool, true, false, cond, not, false≢true}
 use mathlib.Core.List.{List, [], _∷_, _++_}
-use Prim.Native.Nat.{ℕ, zero, suc, _+_, _-_, _<_, _≤_}
+use Prim.Native.Nat.{ℕ, zero, suc, _-_, _<_, _≤_}
 use native.Mathlib.Omega.{arith}
 use borrow.Author.Tests.{eqb-true, eqb-false, ltb-false}
 use lib.Dec.{eqb, ltb}
@@ -12,12 +12,13 @@ use lib.Seq.{take-suc, take-length}
 use Rattle.laws.specs.Bytes.{star, dash, digit0}
 use Rattle.laws.specs.Lists.{indexOf}
 use Rattle.laws.proofs.Places.{index-split, index-le}
+use Rattle.laws.proofs.Tests.{and-both}
 use Rattle.callsign.specs.declared.CallRead.{CallRead}
 use Rattle.callsign.specs.Utf8.{utf8}
 use Rattle.callsign.specs.Text.{joined, made, blankCall, isZero, callRefused, callAccepted, parted, readUnstarred, readText}
 use Rattle.callsign.specs.Range.{inRange, textOf, withStar}
 use Rattle.callsign.proofs.Unicode.{utf8-split}
-use Rattle.callsign.proofs.Ranges.{both, utf8-none, zero-none, joined-full}
+use Rattle.callsign.proofs.Ranges.{utf8-none, zero-none, joined-full}
 use Rattle.callsign.proofs.Made.{made-range, made-written, blank-range}
 
 -- a refusal; no dash; `-0` dropped; call and SSID
@@ -62,7 +63,7 @@ seen t starred = go (ltb 16 (length t)) (utf8 t) (eqb (indexOf dash t) (length t
 -- ---- in range
 
 sides : (t a b : List ℕ) → t ≡ a ++ dash ∷ b → utf8 t ≡ true → (utf8 a ≡ true) × (utf8 b ≡ true)
-sides t a b e v = both (utf8 a) (utf8 b) (sym (utf8-split dash (omega arith) a b) ∙ ap utf8 (sym e) ∙ v)
+sides t a b e v = and-both (utf8 a) (utf8 b) (sym (utf8-split dash (omega arith) a b) ∙ ap utf8 (sym e) ∙ v)
 
 seen-range : (t : List ℕ) (starred : Bool) (r : CallRead) → Seen t starred r → inRange (r .call) ≡ true
 unfolding callRefused callAccepted blankCall joined
