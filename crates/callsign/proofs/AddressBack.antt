@@ -14,11 +14,12 @@ use Rattle.laws.specs.Lists.{every}
 use Rattle.laws.proofs.Each.{every-first, every-rest}
 use Rattle.laws.proofs.Every.{all, all-at}
 use Rattle.callsign.specs.declared.Callsign.{Callsign}
+use Rattle.callsign.specs.declared.AddressRead.{AddressRead}
 use Rattle.callsign.specs.declared.Field.{Field}
 use Rattle.callsign.specs.declared.Number.{Number}
 use Rattle.callsign.specs.declared.Number.the-variants.{Unfit, Fits}
 use Rattle.callsign.specs.Utf8.{utf8}
-use Rattle.callsign.specs.Text.{joined, made, blankCall, isZero}
+use Rattle.callsign.specs.Text.{joined, made, isZero}
 use Rattle.callsign.specs.Range.{inRange, callPart, ssidPart}
 use Rattle.callsign.specs.Address.{ssidOf, heardOf, lastOf, Unpacked, malformed, call, onto, areSpaces, unpacked, ssidText, addressRefused, addressOf, readAddress}
 use Rattle.callsign.specs.Packed.{ssidNumber, seventhOf, sent, unwrittenBy, packedAs, packedBy, writeAddress}
@@ -95,6 +96,28 @@ address-back c field last e = go (inRange c) e
     go true e = number-back (callPart c) (ssidNumber (ssidPart c)) field last (λ n q. ssid-small n (ssidPart c) q) e
     go false e = absurd (omega arith)
 
+-- an address that was written is seven bytes, since it reads back
+pub address-seven : (c : Callsign) (field : Field) (last : Bool) → writeAddress c field last .refusal ≡ 0 → length (writeAddress c field last .bytes) ≡ 7
+unfolding readAddress addressRefused
+address-seven c field last z = go (eqb (length b) 7) refl (ap (λ (a : AddressRead). a .refusal) (address-back c field last z))
+  where
+    b : List ℕ
+    b = writeAddress c field last .bytes
+
+    go : (k : Bool) → eqb (length b) 7 ≡ k → cond k (addressOf (unpacked (take 6 b)) (getD b 6 0)) (addressRefused 3) .refusal ≡ 0 → length b ≡ 7
+    go true e r = eqb-true (length b) 7 e
+    go false e r = absurd (omega arith)
+
+-- an address is accepted or refused with 3
+pub address-refusal : (s : List ℕ) → (readAddress s .refusal ≡ 0 → ⊥) → readAddress s .refusal ≡ 3
+unfolding readAddress addressRefused addressOf
+address-refusal s = go (eqb (length s) 7) (unpacked (take 6 s))
+  where
+    go : (b : Bool) (u : Unpacked) → (cond b (addressOf u (getD s 6 0)) (addressRefused 3) .refusal ≡ 0 → ⊥) → cond b (addressOf u (getD s 6 0)) (addressRefused 3) .refusal ≡ 3
+    go true malformed z = refl
+    go true (call cs) z = absurd (z refl)
+    go false u z = refl
+
 -- ---- what is read is in range
 
 abbrev pub isAscii : ℕ → Bool
@@ -153,7 +176,7 @@ joined-short a [] h k = omega arith
 joined-short a (x ∷ b) h k = omega (arith, length-append a (dash ∷ x ∷ b))
 
 unpacked-range : (u : Unpacked) (s : ℕ) → Plain 6 u → inRange (addressOf u s .call) ≡ true
-unfolding Plain addressOf addressRefused blankCall ssidOf
+unfolding Plain addressOf addressRefused ssidOf
 unpacked-range malformed s h = blank-range
 unpacked-range (call cs) s h =
     let f = fit-at (s / 2 % 16) (omega arith) in
@@ -167,7 +190,7 @@ plain-six b h = rw (sixth) at (plain (take 6 b))
 
 -- whatever read_address gives
 pub address-range : (b : List ℕ) → inRange (readAddress b .call) ≡ true
-unfolding readAddress addressRefused blankCall
+unfolding readAddress addressRefused
 address-range b = go (eqb (length b) 7) refl
   where
     go : (p : Bool) → eqb (length b) 7 ≡ p → inRange (cond p (addressOf (unpacked (take 6 b)) (getD b 6 0)) (addressRefused 3) .call) ≡ true

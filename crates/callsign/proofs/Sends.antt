@@ -12,6 +12,7 @@ use lib.ListN.{length, getD, take, drop, set, replicate, length-append, length-m
 use lib.Seq.{take-suc, take-all, split-at, append-snoc, set-at, length-take-le}
 use Rattle.laws.specs.Bytes.{space, within, isLetterOrDigit, raised}
 use Rattle.laws.specs.Lists.{every}
+use Rattle.laws.proofs.Lists.{part-length}
 use Rattle.laws.proofs.Each.{every-snoc, every-fails}
 use Rattle.laws.proofs.Every.{all, all-at}
 use Rattle.callsign.specs.declared.AddressWritten.{AddressWritten}
@@ -162,7 +163,7 @@ module _ (c : Callsign) (u : Bool) (e : u ≡ inRange c) where
     call-room = omega (arith, length-over c, from-range c in-range .size)
 
     pub call-size : c .«call_len» ≡ length (take (c .«call_len») (c .text))
-    call-size = sym (length-take-le (c .«call_len») (c .text) call-room)
+    call-size = part-length (c .text) (c .«call_len») call-room
 
     module _ (r : AddressWritten) (field : Field) (last : Bool) where
       by-number : (m : Number) → m ≡ ssidNumber (ssidPart c) → r ≡ packedBy (callPart c) m field last → r ≡ writeAddress c field last
