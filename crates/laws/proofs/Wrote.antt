@@ -31,6 +31,10 @@ pub refuses : (n r : ℕ) (bytes out : List ℕ) → r ≡ n → (n ≡ 0 → �
 unfolding wrote
 refuses n r bytes out e h = refused-as n r (length bytes) bytes out e h
 
+-- a refusal that a call answered
+pub passed-on : (a : Answer) (n r : ℕ) (bytes out : List ℕ) → a ≡ refusedBy n → (n ≡ 0 → ⊥) → r ≡ n → ends a out ≡ wrote r bytes out
+passed-on a n r bytes out q h e = rw q (refuses n r bytes out e h)
+
 pub no-room : (r m : ℕ) (bytes out : List ℕ) → r ≡ 0 → length bytes ≡ m → length out < m → ends (noRoom m) out ≡ wrote r bytes out
 unfolding wrote
 no-room r m bytes out z e h = no-room-as r (length bytes) m bytes out z e h
