@@ -3,8 +3,8 @@
 use Prim.Native.Nat.{_≤_}
 use lib.ListN.{length}
 use borrow.Author.Needs.{needs}
-use Rattle.appendix.proofs.words.used.Statement.{statement}
-use Rattle.appendix.proofs.words.used.Tie as tie
+use Rattle.appendix.proofs.tidy.used.Statement.{statement}
+use Rattle.appendix.proofs.tidy.used.Tie as tie
 
 abbrev Inv-loop : tie.InvT-loop
 Inv-loop s n₀ n = n ≤ length s

@@ -4,8 +4,8 @@ use mathlib.Core.Path.{_≡_}
 use Prim.Native.Nat.{_-_, _≤_}
 use lib.ListN.{length}
 use borrow.Author.Needs.{needs}
-use Rattle.appendix.proofs.words.tidy.Statement.{statement}
-use Rattle.appendix.proofs.words.tidy.Tie as tie
+use Rattle.appendix.proofs.tidy.tidy.Statement.{statement}
+use Rattle.appendix.proofs.tidy.tidy.Tie as tie
 
 abbrev Inv-loop : tie.InvT-loop
 Inv-loop s₀ i₀ s i = (i ≤ length s₀) × (length s ≡ length s₀)

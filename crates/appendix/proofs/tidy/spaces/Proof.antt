@@ -3,8 +3,8 @@
 use Prim.Native.Nat.{_-_, _≤_}
 use lib.ListN.{length}
 use borrow.Author.Needs.{needs}
-use Rattle.appendix.proofs.words.spaces.Statement.{statement}
-use Rattle.appendix.proofs.words.spaces.Tie as tie
+use Rattle.appendix.proofs.tidy.spaces.Statement.{statement}
+use Rattle.appendix.proofs.tidy.spaces.Tie as tie
 
 abbrev Inv-loop : tie.InvT-loop
 Inv-loop s i₀ i = i ≤ length s

@@ -4,8 +4,8 @@ use mathlib.Core.Path.{_≡_}
 use Prim.Native.Nat.{_-_, _≤_}
 use lib.ListN.{length}
 use borrow.Author.Needs.{needs}
-use Rattle.appendix.proofs.put.characters.Statement.{statement}
-use Rattle.appendix.proofs.put.characters.Tie as tie
+use Rattle.appendix.proofs.page.characters.Statement.{statement}
+use Rattle.appendix.proofs.page.characters.Tie as tie
 
 abbrev Inv-loop : tie.InvT-loop
 Inv-loop s out₀ at s' end₀ i₀ out end i = (i ≤ length s') × (length out ≡ length out₀)
@@ -25,8 +25,8 @@ shared-slice-read-character c = search needs
 character-requires : tie.Need-character-requires Inv-loop μ-loop
 character-requires c κs = search needs
 
-byte-requires : tie.Need-byte-requires Inv-loop μ-loop
-byte-requires c κs = search needs
+put-byte-requires : tie.Need-put-byte-requires Inv-loop μ-loop
+put-byte-requires c κs = search needs
 
 add-i : tie.Need-add-i Inv-loop μ-loop
 add-i c = search needs
@@ -53,7 +53,7 @@ characters-spec =
     loop-holds
     shared-slice-read-character
     character-requires
-    byte-requires
+    put-byte-requires
     add-i
     loop-less
     loop-again
