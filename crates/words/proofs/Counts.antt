@@ -12,11 +12,13 @@ use lib.ListN.{length, drop, getD, drop-of-length-le}
 use mir.Syntax.{w32, w64}
 use mir.Val.{SFits, toZ, ofZ}
 use mir.Facts.{toZ-ofZ, toZ-pos}
-use Rattle.laws.specs.Bytes.{dash, digit0, digit9, isDigit}
+use Rattle.laws.specs.Bytes.{dash, digit0, digit9, within, isDigit}
+use Rattle.laws.specs.Lists.{every}
 use Rattle.laws.proofs.Lists.{next}
+use Rattle.laws.proofs.Each.{every-more, every-not, every-end, every-at}
+use Rattle.laws.proofs.Tests.{within-yes, within-low, within-high}
 use Rattle.lonlat.specs.Angle.{signedOf}
-use Rattle.lonlat.specs.Digits.{every, numberAfter, numberOf}
-use Rattle.lonlat.proofs.Digits.{every-more, every-not, every-first, every-drop, digit-within, digit-below, digit-above, a-digit, IsDigit, number-more}
+use Rattle.lonlat.specs.Digits.{numberAfter, numberOf}
 use Rattle.words.specs.declared.Count.{Count}
 use Rattle.words.specs.declared.Count.the-variants.{Is, Over, Bad}
 use Rattle.words.specs.declared.Number.{Number}
@@ -27,20 +29,25 @@ use Rattle.words.specs.Numbers.{countOf, readCount, onSide, readNumber}
 
 module _ (s : List ℕ) (i : ℕ) (e : every isDigit s ≡ every isDigit (drop i s)) where
   pub below-digit : i < length s → getD s i 0 < digit0 → false ≡ every isDigit s
-  below-digit h k = sym (every-not isDigit s i h (digit-below (getD s i 0) k) e)
+  unfolding within
+  below-digit h k = sym (every-not isDigit 0 s i h (rw (lt-leb digit0 (getD s i 0) k)) e)
 
   pub above-digit : i < length s → digit9 < getD s i 0 → false ≡ every isDigit s
-  above-digit h k = sym (every-not isDigit s i h (digit-above (getD s i 0) k) e)
+  unfolding within
+  above-digit h k =
+      let l : digit0 ≤ getD s i 0 = omega arith in
+      sym (every-not isDigit 0 s i h (rw (le-leb digit0 (getD s i 0) l, lt-leb (getD s i 0) digit9 k)) e)
 
   pub digit-more : i < length s → digit0 ≤ getD s i 0 → getD s i 0 ≤ digit9 → every isDigit s ≡ every isDigit (drop (i + 1) s)
-  digit-more h k l = every-more isDigit s i h (digit-within (getD s i 0) k l) e
+  digit-more h k l = every-more isDigit 0 s i h (within-yes digit0 digit9 (getD s i 0) k l) e
 
   pub digits-all : length s ≤ i → true ≡ every isDigit s
-  unfolding every
-  digits-all h = sym (e ∙ rw (drop-of-length-le s h))
+  digits-all h = sym (every-end isDigit s i h e)
 
-pub digit-at : (s : List ℕ) (i : ℕ) → every isDigit s ≡ true → i < length s → IsDigit (getD s i 0)
-digit-at s i e h = a-digit (getD s i 0) (every-first isDigit (getD s i 0) (drop (i + 1) s) (ap (every isDigit) (sym (next 0 s i h)) ∙ every-drop isDigit i s e))
+pub digit-at : (s : List ℕ) (i : ℕ) → every isDigit s ≡ true → i < length s → (digit0 ≤ getD s i 0) × (getD s i 0 ≤ digit9)
+digit-at s i e h =
+    let d = every-at isDigit s i 0 e h in
+    (within-low digit0 digit9 (getD s i 0) d, within-high digit0 digit9 (getD s i 0) d)
 
 -- ---- their number
 
@@ -51,10 +58,15 @@ no-less v [] = omega arith
 no-less v (d ∷ s) = omega (arith, no-less (10 * v + (d - digit0)) s)
 
 module _ (s : List ℕ) (most i v : ℕ) where
+  -- one digit more
+  pub grown-more : i < length s → numberOf s ≡ numberAfter v (drop i s) → numberOf s ≡ numberAfter (10 * v + (getD s i 0 - digit0)) (drop (i + 1) s)
+  unfolding numberAfter
+  grown-more h e = e ∙ rw (next 0 s i h)
+
   pub grown-over : i < length s → numberOf s ≡ numberAfter v (drop i s) → most < 10 * v + (getD s i 0 - digit0) → Over ≡ countOf s most
   unfolding countOf
   grown-over h e k =
-      let m : numberOf s ≡ numberAfter (10 * v + (getD s i 0 - digit0)) (drop (i + 1) s) = number-more s i v h e in
+      let m : numberOf s ≡ numberAfter (10 * v + (getD s i 0 - digit0)) (drop (i + 1) s) = grown-more h e in
       rw (lt-leb (numberOf s) most (omega (arith, no-less (10 * v + (getD s i 0 - digit0)) (drop (i + 1) s))))
 
   pub grown-all : length s ≤ i → v ≤ most → numberOf s ≡ numberAfter v (drop i s) → Is v ≡ countOf s most

@@ -11,10 +11,12 @@ use lib.IntN.{ℤ, pos, negsuc, negℤ}
 use lib.ListN.{length, getD, List·getD-append, length-append}
 use mir.Syntax.{w32}
 use mir.Val.{SFits}
-use Rattle.laws.specs.Bytes.{dash, digit0, isDigit}
+use Rattle.laws.specs.Bytes.{dash, digit0, digit9, isDigit}
+use Rattle.laws.specs.Lists.{every}
+use Rattle.laws.proofs.Each.{every-snoc}
+use Rattle.laws.proofs.Tests.{within-yes}
 use Rattle.lonlat.specs.Angle.{signedOf}
-use Rattle.lonlat.specs.Digits.{every, numberAfter, numberOf}
-use Rattle.lonlat.proofs.Digits.{every-first, every-rest, digit-within}
+use Rattle.lonlat.specs.Digits.{numberAfter, numberOf}
 use Rattle.words.specs.declared.Count.the-variants.{Is}
 use Rattle.words.specs.declared.Number.the-variants as number
 use Rattle.words.specs.Numbers.{digitsBy, digits, decimal, countOf, readCount, onSide, readNumber}
@@ -93,11 +95,6 @@ decimal-one y z e = sym (decimal-read y) ∙ ap numberIn e ∙ decimal-read z
 
 -- ---- read by the library's readers
 
-digits-last : (s : List ℕ) (d : ℕ) → every isDigit s ≡ true → isDigit d ≡ true → every isDigit (s ++ d ∷ []) ≡ true
-unfolding every
-digits-last [] d e h = rw h
-digits-last (b ∷ s) d e h = rw (every-first isDigit b s e) (digits-last s d (every-rest isDigit b s e) h)
-
 by-digits : (left n : ℕ) → every isDigit (digitsBy left n) ≡ true
 unfolding digitsBy every
 by-digits zero n = refl
@@ -105,8 +102,8 @@ by-digits (suc left) n = go (ltb n 10) refl (by-digits left (n / 10))
   where
     go : (t : Bool) → ltb n 10 ≡ t → every isDigit (digitsBy left (n / 10)) ≡ true
         → every isDigit (cond t ((digit0 + n) ∷ []) (digitsBy left (n / 10) ++ (digit0 + n % 10) ∷ [])) ≡ true
-    go true e r = let l : n < 10 = ltb-true n 10 e in rw (digit-within (digit0 + n) (omega arith) (omega arith))
-    go false e r = digits-last (digitsBy left (n / 10)) (digit0 + n % 10) r (digit-within (digit0 + n % 10) (omega arith) (omega arith))
+    go true e r = let l : n < 10 = ltb-true n 10 e in rw (within-yes digit0 digit9 (digit0 + n) (omega arith) (omega arith))
+    go false e r = every-snoc isDigit (digitsBy left (n / 10)) (digit0 + n % 10) r (within-yes digit0 digit9 (digit0 + n % 10) (omega arith) (omega arith))
 
 pub count-back : (n most : ℕ) → n ≤ most → readCount (digits n) most ≡ Is n
 unfolding readCount countOf digits numberOf

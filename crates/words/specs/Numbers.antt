@@ -8,8 +8,9 @@ use lib.Dec.{ltb, leb, eqb}
 use lib.ListN.{length, getD, drop}
 use lib.IntN.{ℤ, pos, negsuc}
 use Rattle.laws.specs.Bytes.{dash, digit0, smallA, within, isDigit}
+use Rattle.laws.specs.Lists.{every}
 use Rattle.lonlat.specs.Angle.{signedOf}
-use Rattle.lonlat.specs.Digits.{every, numberOf}
+use Rattle.lonlat.specs.Digits.{numberOf}
 use Rattle.words.specs.declared.Count.{Count}
 use Rattle.words.specs.declared.Count.the-variants.{Is, Over, Bad}
 use Rattle.words.specs.declared.Number.{Number}

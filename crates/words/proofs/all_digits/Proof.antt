@@ -5,7 +5,7 @@ use Prim.Native.Nat.{_-_, _≤_}
 use native.Mathlib.Omega.{arith}
 use lib.ListN.{length, drop}
 use Rattle.laws.specs.Bytes.{isDigit}
-use Rattle.lonlat.specs.Digits.{every}
+use Rattle.laws.specs.Lists.{every}
 use Rattle.words.proofs.Counts.{below-digit, above-digit, digit-more, digits-all}
 use Rattle.words.proofs.all_digits.Statement.{statement}
 use Rattle.words.proofs.all_digits.Tie as tie

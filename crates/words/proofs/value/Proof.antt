@@ -5,9 +5,9 @@ use Prim.Native.Nat.{_-_, _<_, _≤_}
 use native.Mathlib.Omega.{arith}
 use lib.ListN.{length, getD, drop}
 use denote.Ref.{now}
+use Rattle.laws.specs.Bytes.{digit0, digit9}
 use Rattle.lonlat.specs.Digits.{numberAfter, numberOf}
-use Rattle.lonlat.proofs.Digits.{IsDigit, number-more}
-use Rattle.words.proofs.Counts.{digit-at, grown-over, grown-all}
+use Rattle.words.proofs.Counts.{digit-at, grown-more, grown-over, grown-all}
 use Rattle.words.proofs.value.Statement.{statement}
 use Rattle.words.proofs.value.Tie as tie
 
@@ -17,7 +17,7 @@ Inv-loop s most v₀ i₀ v i = (i ≤ length s) × (v ≤ most) × (numberOf s 
 abbrev μ-loop : tie.MeasureT-loop
 μ-loop s most v₀ i₀ v i = length s - i
 
-digit : (l : tie.At-loop Inv-loop μ-loop) → l .loop .i < length (now (l .before .args .s)) → IsDigit (getD (now (l .before .args .s)) (l .loop .i) 0)
+digit : (l : tie.At-loop Inv-loop μ-loop) → l .loop .i < length (now (l .before .args .s)) → (digit0 ≤ getD (now (l .before .args .s)) (l .loop .i) 0) × (getD (now (l .before .args .s)) (l .loop .i) 0 ≤ digit9)
 digit l h = digit-at (now (l .before .args .s)) (l .loop .i) (l .before .pre) h
 
 loop-holds : tie.Need-loop-holds Inv-loop μ-loop
@@ -49,7 +49,7 @@ loop-less : tie.Need-loop-less Inv-loop μ-loop
 loop-less c = omega arith
 
 loop-again : tie.Need-loop-again Inv-loop μ-loop
-loop-again c = (omega arith, omega arith, search number-more)
+loop-again c = (omega arith, omega arith, search grown-more)
 
 cast-t12 : tie.Need-cast-t12 Inv-loop μ-loop
 cast-t12 c = omega arith
