@@ -2,8 +2,8 @@
 -- Assumes nothing.
 use Prim.Native.Nat.{_-_, _≤_}
 use native.Mathlib.Omega.{arith}
-use Rattle.inspect.proofs.words.skip.Statement.{statement}
-use Rattle.inspect.proofs.words.skip.Tie as tie
+use Rattle.inspect.proofs.request.skip.Statement.{statement}
+use Rattle.inspect.proofs.request.skip.Tie as tie
 
 abbrev Inv-loop : tie.InvT-loop
 Inv-loop s n t₀ i₀ t i = i ≤ n

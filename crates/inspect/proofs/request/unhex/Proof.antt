@@ -5,8 +5,8 @@ use Prim.Native.Nat.{_-_, _/_, _≤_}
 use native.Mathlib.Omega.{arith}
 use lib.ListN.{length, length-set}
 use borrow.Author.Needs.{needs}
-use Rattle.inspect.proofs.words.unhex.Statement.{statement}
-use Rattle.inspect.proofs.words.unhex.Tie as tie
+use Rattle.inspect.proofs.request.unhex.Statement.{statement}
+use Rattle.inspect.proofs.request.unhex.Tie as tie
 
 abbrev Inv-loop : tie.InvT-loop
 Inv-loop s out₀ n i₀ out i = (i ≤ n) × (length out ≡ length out₀) × (n ≡ length s / 2) × (n ≤ length out₀)
@@ -35,26 +35,26 @@ returns-5 c = tt
 loop-holds : tie.Need-loop-holds Inv-loop μ-loop
 loop-holds c = omega arith
 
-add-nibble : tie.Need-add-nibble Inv-loop μ-loop
-add-nibble c = omega arith
+add-hex-value : tie.Need-add-hex-value Inv-loop μ-loop
+add-hex-value c = omega arith
 
-shared-slice-read-nibble : tie.Need-shared-slice-read-nibble Inv-loop μ-loop
-shared-slice-read-nibble c = omega arith
+shared-slice-read-hex-value : tie.Need-shared-slice-read-hex-value Inv-loop μ-loop
+shared-slice-read-hex-value c = omega arith
 
-nibble-requires : tie.Need-nibble-requires Inv-loop μ-loop
-nibble-requires c κs = search needs
+hex-value-requires : tie.Need-hex-value-requires Inv-loop μ-loop
+hex-value-requires c κs = search needs
 
-add-nibble-2 : tie.Need-add-nibble-2 Inv-loop μ-loop
-add-nibble-2 c = omega arith
+add-hex-value-2 : tie.Need-add-hex-value-2 Inv-loop μ-loop
+add-hex-value-2 c = omega arith
 
-add-nibble-3 : tie.Need-add-nibble-3 Inv-loop μ-loop
-add-nibble-3 c = omega arith
+add-hex-value-3 : tie.Need-add-hex-value-3 Inv-loop μ-loop
+add-hex-value-3 c = omega arith
 
-shared-slice-read-nibble-2 : tie.Need-shared-slice-read-nibble-2 Inv-loop μ-loop
-shared-slice-read-nibble-2 c = omega arith
+shared-slice-read-hex-value-2 : tie.Need-shared-slice-read-hex-value-2 Inv-loop μ-loop
+shared-slice-read-hex-value-2 c = omega arith
 
-nibble-requires-2 : tie.Need-nibble-requires-2 Inv-loop μ-loop
-nibble-requires-2 c κs = search needs
+hex-value-requires-2 : tie.Need-hex-value-requires-2 Inv-loop μ-loop
+hex-value-requires-2 c κs = search needs
 
 same-length : tie.Need-same-length Inv-loop μ-loop
 same-length c = omega arith
@@ -105,13 +105,13 @@ unhex-spec =
     returns-4
     returns-5
     loop-holds
-    add-nibble
-    shared-slice-read-nibble
-    nibble-requires
-    add-nibble-2
-    add-nibble-3
-    shared-slice-read-nibble-2
-    nibble-requires-2
+    add-hex-value
+    shared-slice-read-hex-value
+    hex-value-requires
+    add-hex-value-2
+    add-hex-value-3
+    shared-slice-read-hex-value-2
+    hex-value-requires-2
     same-length
     returns-6
     same-length-2
