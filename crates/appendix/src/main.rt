@@ -5,9 +5,8 @@ ghost use lib.ListN.{length};
 
 mod help;
 mod page;
-mod put;
 mod setting;
-mod words;
+mod tidy;
 
 // Puts argument i and a space behind the first `at` bytes of input. Where it does not fit, all of input counts as used.
 fn add(i: usize, input: &mut [u8], at: usize) -> usize {
@@ -22,7 +21,7 @@ fn add(i: usize, input: &mut [u8], at: usize) -> usize {
     if most - at < n {
         return most;
     }
-    put::byte(b' ', input, at + n)
+    words::put_byte(b' ', input, at + n)
 }
 
 // Puts the arguments to the front of input; answers how many bytes they are.
@@ -102,7 +101,7 @@ fn print(s: &[u8], out: &mut [u8]) {
     let mut from: usize = 0;
     while from < s.len() {
         let end = end_of(s, from);
-        let text = words::bare(&s[from..end]);
+        let text = tidy::bare(&s[from..end]);
         number += filled(text);
         used = with_room(out, used);
         used = page::part(number, text, out, used);
@@ -113,13 +112,13 @@ fn print(s: &[u8], out: &mut [u8]) {
 
 // Whether the help is asked for.
 fn asks_help(word: &[u8]) -> bool {
-    if words::same(word, b"-h") {
+    if check::same(word, b"-h") {
         return true;
     }
-    if words::same(word, b"--help") {
+    if check::same(word, b"--help") {
         return true;
     }
-    words::same(word, b"help")
+    check::same(word, b"help")
 }
 
 // Answers settings that are tidied.
@@ -131,7 +130,7 @@ fn serve(s: &[u8]) {
         );
         return;
     }
-    if asks_help(words::bare(s)) {
+    if asks_help(tidy::bare(s)) {
         help::print();
         return;
     }
@@ -142,6 +141,6 @@ fn serve(s: &[u8]) {
 fn main() {
     let mut input = io::large_buffer();
     let n = gather(&mut input);
-    words::tidy(&mut input);
+    tidy::tidy(&mut input);
     serve(words::cut(&input, n));
 }

@@ -1,9 +1,7 @@
 // The page: for each setting a heading, a table of its fields and their number; or what is wrong with it.
-ghost use Prim.Native.Nat.{_≤_, _<_};
-use crate::put;
+ghost use Prim.Native.Nat.{_≤_};
 use crate::setting;
 use crate::setting::Setting;
-use crate::words;
 use lonlat::Longitude;
 use mic_e::Course;
 use mic_e::Speed;
@@ -15,13 +13,36 @@ Behind the type byte of a Mic-E body, bytes 1 to 3 are longitude, 4 to 6 motion.
 Between bars stand the characters; a dot there is a byte that does not print, or a dot (2e).
 ";
 
+// A byte as the character that it is, or a dot.
+fn character(b: u8) -> u8 {
+    if b < 0x20 {
+        return b'.';
+    }
+    if 0x7e < b {
+        return b'.';
+    }
+    b
+}
+
+// The first 64 bytes of s, as characters.
+fn characters(s: &[u8], out: &mut [u8], at: usize) -> usize {
+    let s = words::cut(s, 64);
+    let mut end = at;
+    let mut i: usize = 0;
+    while i < s.len() {
+        end = words::put_byte(character(s[i]), out, end);
+        i += 1;
+    }
+    end
+}
+
 // Begins the line for a wrong setting: its number and its text.
 fn wrong(number: usize, text: &[u8], out: &mut [u8], at: usize) -> usize {
-    let end = put::text(b"Setting ", out, at);
-    let end = put::count(number as u64, out, end);
-    let end = put::text(b", \"", out, end);
-    let end = put::characters(text, out, end);
-    put::text(b"\": ", out, end)
+    let end = words::put(b"Setting ", out, at);
+    let end = words::put_count(number, out, end);
+    let end = words::put(b", \"", out, end);
+    let end = characters(text, out, end);
+    words::put(b"\": ", out, end)
 }
 
 // A setting that a lister refuses.
@@ -34,17 +55,17 @@ fn refused(
     at: usize,
 ) -> usize {
     let end = wrong(number, text, out, at);
-    let end = put::text(b"refused with ", out, end);
-    let end = put::count(refusal as u64, out, end);
-    let end = put::text(b", out of range\n  ", out, end);
-    put::text(range, out, end)
+    let end = words::put(b"refused with ", out, end);
+    let end = words::put_count(refusal as usize, out, end);
+    let end = words::put(b", out of range\n  ", out, end);
+    words::put(range, out, end)
 }
 
 // A setting whose words are not understood.
 fn unread(number: usize, text: &[u8], expected: &[u8], out: &mut [u8], at: usize) -> usize {
     let end = wrong(number, text, out, at);
-    let end = put::text(b"not understood\n  expected ", out, end);
-    put::text(expected, out, end)
+    let end = words::put(b"not understood\n  expected ", out, end);
+    words::put(expected, out, end)
 }
 
 // The hundreds and the tens of a byte's decimal, or blanks.
@@ -62,40 +83,24 @@ fn tens(b: u8) -> u8 {
     b'0' + b / 10 % 10
 }
 
-// The hexadecimal digit of a number below 16.
-fn digit(n: u8) -> u8
-    requires { ⌜ n < 16 ⌝ }
-{
-    if n < 10 { b'0' + n } else { b'a' + (n - 10) }
-}
-
-// Puts byte k of a field, from 0 on, into the three columns of the row at `at`.
-fn cell(b: u8, k: usize, out: &mut [u8], at: usize)
+// Puts byte k of a field, from 0 on, into the three columns of a row.
+fn cell(b: u8, k: usize, row: &mut [u8])
     requires { ⌜ k ≤ 2 ⌝ }
 {
-    if out.len() < 33 {
-        return;
-    }
-    if out.len() - 33 < at {
-        return;
-    }
-    let decimal = at + 4 * k + 2;
-    out[decimal] = hundreds(b);
-    out[decimal + 1] = tens(b);
-    out[decimal + 2] = b'0' + b % 10;
-    let hex = at + 3 * k + 16;
-    out[hex] = digit(b / 16);
-    out[hex + 1] = digit(b % 16);
-    out[at + k + 28] = put::character(b);
+    words::put(&[hundreds(b), tens(b), b'0' + b % 10], row, 4 * k + 2);
+    words::put_hex(b, row, 3 * k + 16);
+    words::put_byte(character(b), row, k + 28);
 }
 
-// A row of the table: the three columns stand under their headings.
+// A row before its bytes: the three columns stand under their headings.
+const ROW: [u8; 33] = *b"                           |   |\n";
+
 fn row(a: u8, b: u8, c: u8, out: &mut [u8], at: usize) -> usize {
-    let end = put::text(b"                           |   |\n", out, at);
-    cell(a, 0, out, at);
-    cell(b, 1, out, at);
-    cell(c, 2, out, at);
-    end
+    let mut text = ROW;
+    cell(a, 0, &mut text);
+    cell(b, 1, &mut text);
+    cell(c, 2, &mut text);
+    words::put(&text, out, at)
 }
 
 // The rows of the first `count` fields of found.
@@ -115,38 +120,38 @@ fn rows(found: &[u8], count: usize, out: &mut [u8], at: usize) -> usize {
 
 // The number of fields.
 fn total(count: usize, out: &mut [u8], at: usize) -> usize {
-    let end = put::count(count as u64, out, at);
+    let end = words::put_count(count, out, at);
     if count == 1 {
-        return put::text(b" field\n", out, end);
+        return words::put(b" field\n", out, end);
     }
-    put::text(b" fields\n", out, end)
+    words::put(b" fields\n", out, end)
 }
 
 // The table, and the number of fields below it.
 fn table(found: &[u8], count: usize, out: &mut [u8], at: usize) -> usize {
     if count == 0 {
-        return put::text(b"no field: no unit can send this setting\n", out, at);
+        return words::put(b"no field: no unit can send this setting\n", out, at);
     }
-    let end = put::text(b"  decimal       hex        characters\n", out, at);
+    let end = words::put(b"  decimal       hex        characters\n", out, at);
     let end = rows(found, count, out, end);
     total(count, out, end)
 }
 
 fn unit(knots: u32, out: &mut [u8], at: usize) -> usize {
     if knots == 1 {
-        return put::text(b" knot", out, at);
+        return words::put(b" knot", out, at);
     }
-    put::text(b" knots", out, at)
+    words::put(b" knots", out, at)
 }
 
 // The heading of a motion.
 fn motion_heading(knots: u32, course: u32, out: &mut [u8], at: usize) -> usize {
-    let end = put::text(b"Motion: ", out, at);
-    let end = put::count(knots as u64, out, end);
+    let end = words::put(b"Motion: ", out, at);
+    let end = words::put_count(knots as usize, out, end);
     let end = unit(knots, out, end);
-    let end = put::text(b", course ", out, end);
-    let end = put::count(course as u64, out, end);
-    put::byte(b'\n', out, end)
+    let end = words::put(b", course ", out, end);
+    let end = words::put_count(course as usize, out, end);
+    words::put_byte(b'\n', out, end)
 }
 
 // A motion.
@@ -176,9 +181,9 @@ fn motion(
 
 // Degrees and minutes of a text `dddmm.hh`.
 fn degrees(text: &[u8], out: &mut [u8], at: usize) -> usize {
-    let end = put::text(words::cut(text, 3), out, at);
-    let end = put::byte(b' ', out, end);
-    put::text(words::tail(text, 3), out, end)
+    let end = words::put(words::cut(text, 3), out, at);
+    let end = words::put_byte(b' ', out, end);
+    words::put(words::tail(text, 3), out, end)
 }
 
 // Degrees, minutes and the letter; zero lies on neither side, and has none.
@@ -189,19 +194,19 @@ fn angle(longitude: Longitude, out: &mut [u8], at: usize) -> usize {
     if longitude.0 == 0 {
         return end;
     }
-    let end = put::byte(b' ', out, end);
-    put::text(words::tail(&text, 8), out, end)
+    let end = words::put_byte(b' ', out, end);
+    words::put(words::tail(&text, 8), out, end)
 }
 
-fn offset(hundred: bool) -> u64 {
+fn offset(hundred: bool) -> usize {
     if hundred { 100 } else { 0 }
 }
 
 fn direction(west: bool, out: &mut [u8], at: usize) -> usize {
     if west {
-        return put::text(b", west\n", out, at);
+        return words::put(b", west\n", out, at);
     }
-    put::text(b", east\n", out, at)
+    words::put(b", east\n", out, at)
 }
 
 // The heading of a longitude.
@@ -212,12 +217,12 @@ fn longitude_heading(
     out: &mut [u8],
     at: usize,
 ) -> usize {
-    let end = put::text(b"Longitude: ", out, at);
+    let end = words::put(b"Longitude: ", out, at);
     let end = angle(longitude, out, end);
-    let end = put::text(b" (", out, end);
-    let end = put::signed(longitude.0, out, end);
-    let end = put::text(b" hundredths), offset ", out, end);
-    let end = put::count(offset(hundred), out, end);
+    let end = words::put(b" (", out, end);
+    let end = words::put_number(longitude.0, out, end);
+    let end = words::put(b" hundredths), offset ", out, end);
+    let end = words::put_count(offset(hundred), out, end);
     direction(west, out, end)
 }
 
@@ -225,12 +230,12 @@ fn longitude_heading(
 fn sides(angle: i32, west: bool, out: &mut [u8], at: usize) -> usize {
     if west {
         if 0 < angle {
-            return put::text(b"the longitude lies east, the direction is west\n", out, at);
+            return words::put(b"the longitude lies east, the direction is west\n", out, at);
         }
         return at;
     }
     if angle < 0 {
-        return put::text(b"the longitude lies west, the direction is east\n", out, at);
+        return words::put(b"the longitude lies west, the direction is east\n", out, at);
     }
     at
 }
@@ -291,10 +296,10 @@ pub fn part(number: usize, text: &[u8], out: &mut [u8], at: usize) -> usize {
         return at;
     }
     if number == 1 {
-        let end = put::text(&NOTE, out, at);
-        let end = put::byte(b'\n', out, end);
+        let end = words::put(&NOTE, out, at);
+        let end = words::put_byte(b'\n', out, end);
         return answer(number, text, out, end);
     }
-    let end = put::byte(b'\n', out, at);
+    let end = words::put_byte(b'\n', out, at);
     answer(number, text, out, end)
 }

@@ -1,10 +1,11 @@
 // What the words of a setting ask for.
-use crate::words;
-use crate::words::Count;
+ghost use Prim.Native.Nat.{_≤_};
+use crate::tidy;
 use lonlat::Longitude;
 use lonlat::LongitudeMade;
 use mic_e::Course;
 use mic_e::Speed;
+use words::Count;
 
 // A speed and course; a longitude, whether the offset is 100, and whether the direction is west; or words that are
 // neither, by what they begin with.
@@ -16,13 +17,23 @@ pub enum Setting {
     Bad,
 }
 
+// Digits that stand for a number. One over 99,999,999 counts as that: it is out of range either way.
+fn number(s: &[u8]) -> Count {
+    let read = words::read_count(s, 99999999);
+    match read {
+        Count::Is(n) => Count::Is(n),
+        Count::Over => Count::Is(99999999),
+        Count::Bad => Count::Bad,
+    }
+}
+
 // `KNOTS COURSE`
 fn motion(s: &[u8]) -> Setting {
-    let read = words::number(words::first(s));
+    let read = number(words::first(s));
     let Count::Is(knots) = read else {
         return Setting::BadMotion;
     };
-    let read = words::number(words::rest(s));
+    let read = number(tidy::rest(s));
     let Count::Is(course) = read else {
         return Setting::BadMotion;
     };
@@ -32,17 +43,17 @@ fn motion(s: &[u8]) -> Setting {
 // `0 DIRECTION` or `100 DIRECTION`
 fn offset(angle: Longitude, s: &[u8]) -> Setting {
     let word = words::first(s);
-    let hundred = words::same(word, b"100");
+    let hundred = check::same(word, b"100");
     if !hundred {
-        if !words::same(word, b"0") {
+        if !check::same(word, b"0") {
             return Setting::BadLongitude;
         }
     }
-    let direction = words::rest(s);
-    if words::same(direction, b"west") {
+    let direction = tidy::rest(s);
+    if check::same(direction, b"west") {
         return Setting::Lying(angle, hundred, true);
     }
-    if words::same(direction, b"east") {
+    if check::same(direction, b"east") {
         return Setting::Lying(angle, hundred, false);
     }
     Setting::BadLongitude
@@ -57,28 +68,71 @@ fn angle(size: u32, west: bool) -> Longitude {
     }
 }
 
+fn least(a: u32, b: u32) -> u32
+    ensures { λ r. ⌜ r ≤ a ⌝ }
+    ensures { λ r. ⌜ r ≤ b ⌝ }
+{
+    if a < b { a } else { b }
+}
+
+// `dddmm.hh` in hundredths of a minute; minutes from 60 to 99 are more than a degree.
+fn dotted(s: &[u8]) -> Count {
+    if s.len() != 8 {
+        return Count::Bad;
+    }
+    if s[5] != b'.' {
+        return Count::Bad;
+    }
+    let read = number(words::cut(s, 5));
+    let Count::Is(whole) = read else {
+        return Count::Bad;
+    };
+    let read = number(words::tail(s, 6));
+    let Count::Is(hundredths) = read else {
+        return Count::Bad;
+    };
+    let whole = least(whole, 99999);
+    Count::Is(whole / 100 * 6000 + whole % 100 * 100 + least(hundredths, 99))
+}
+
+// `dddmm.hh`, or hundredths of a minute.
+fn size(s: &[u8]) -> Count {
+    if laws::find(s, b'.') < s.len() {
+        return dotted(s);
+    }
+    number(s)
+}
+
+// Whether a word begins with a dash.
+fn is_minus(s: &[u8]) -> bool {
+    if s.len() == 0 {
+        return false;
+    }
+    s[0] == b'-'
+}
+
 // `ANGLE offset OFFSET DIRECTION`
 fn longitude(s: &[u8]) -> Setting {
     let word = words::first(s);
-    let minus = words::is_minus(word);
-    let read = words::size(words::tail(word, minus as usize));
+    let minus = is_minus(word);
+    let read = size(words::tail(word, minus as usize));
     let Count::Is(size) = read else {
         return Setting::BadLongitude;
     };
-    let s = words::rest(s);
-    if words::same(words::first(s), b"offset") {
-        return offset(angle(size, minus), words::rest(s));
+    let s = tidy::rest(s);
+    if check::same(words::first(s), b"offset") {
+        return offset(angle(size, minus), tidy::rest(s));
     }
     Setting::BadLongitude
 }
 
 pub fn read(s: &[u8]) -> Setting {
     let word = words::first(s);
-    if words::same(word, b"motion") {
-        return motion(words::rest(s));
+    if check::same(word, b"motion") {
+        return motion(tidy::rest(s));
     }
-    if words::same(word, b"longitude") {
-        return longitude(words::rest(s));
+    if check::same(word, b"longitude") {
+        return longitude(tidy::rest(s));
     }
     Setting::Bad
 }

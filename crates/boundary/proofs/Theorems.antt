@@ -15,12 +15,12 @@ use Rattle.packet.specs.Record.{blankRecord, noReport, noComment}
 use Rattle.boundary.specs.declared.Flat.{Flat}
 use Rattle.boundary.specs.Numbers.{kindNumber}
 use Rattle.boundary.specs.Flat.{flatOf, isKnown, standsFor}
-use Rattle.boundary.proofs.Numbers.{kind-back, message-back, kind-known, message-known}
+use Rattle.boundary.proofs.Numbers.{kind-kept, message-kept}
 
 -- a record made flat stands for itself, whatever it holds: nothing is lost
 pub back-again : (r : Record) → standsFor (flatOf r) ≡ r
 unfolding standsFor flatOf
-back-again r = rw (kind-back (r .kind), message-back (r .«mic_e» .message))
+back-again r = rw (kind-kept (r .kind) .0, message-kept (r .«mic_e» .message) .0)
 
 -- so two records that are the same to C are the same
 pub flat-apart : (r s : Record) → flatOf r ≡ flatOf s → r ≡ s
@@ -29,7 +29,7 @@ flat-apart r s e = sym (back-again r) ∙ ap (λ (f : Flat). standsFor f) e ∙ 
 -- what was read is known to a writer
 pub flat-known : (r : Record) → isKnown (flatOf r) ≡ true
 unfolding isKnown flatOf
-flat-known r = rw (kind-known (r .kind), message-known (r .«mic_e» .message))
+flat-known r = rw (kind-kept (r .kind) .1, message-kept (r .«mic_e» .message) .1)
 
 abbrev pub noCall : Callsign
 noCall = record { text = replicate 16 0; «call_len» = 0; «ssid_len» = 0 }

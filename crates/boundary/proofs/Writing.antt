@@ -1,25 +1,18 @@
 -- What the two writers answer: 15 where a number is unknown, else what packet's writer gives for the record.
 -- Assumes nothing.
-use mathlib.Core.Path.{_≡_, refl, sym, ap, _∙_}
+use mathlib.Core.Path.{_≡_, sym, ap, _∙_}
 use mathlib.Core.Bool.{Bool, true, false, not}
 use mathlib.Core.List.{List}
 use Prim.Native.Nat.{ℕ}
 use native.Mathlib.Omega.{arith}
+use borrow.Author.Tests.{not-true, not-false}
 use Rattle.laws.specs.declared.Answer.{Answer}
 use Rattle.laws.specs.Wrote.{Wrote, ends, refusedBy, wrote}
-use Rattle.laws.proofs.Wrote.{refuses}
+use Rattle.laws.proofs.Wrote.{passed-on}
 use Rattle.packet.specs.declared.Record.{Record}
 use Rattle.packet.specs.Written.{textRefusal, frameRefusal, textBytes, frameBytes}
 use Rattle.boundary.specs.declared.Flat.{Flat}
 use Rattle.boundary.specs.Flat.{isKnown, standsFor, refusedOr, flatTextRefusal, flatFrameRefusal}
-
-not-true : (u : Bool) → not u ≡ true → u ≡ false
-not-true true e = sym e
-not-true false e = refl
-
-not-false : (u : Bool) → not u ≡ false → u ≡ true
-not-false true e = refl
-not-false false e = sym e
 
 refused-or : (r : Flat) (u : Bool) (n : ℕ) → u ≡ isKnown r → not u ≡ true → refusedOr r n ≡ 15
 unfolding refusedOr
@@ -30,8 +23,7 @@ unfolding refusedOr
 passed-or r u n e f = rw (← e, not-false u f)
 
 refused-with : (r : Flat) (u : Bool) (a : Answer) (n : ℕ) (bytes out : List ℕ) → u ≡ isKnown r → not u ≡ true → a ≡ refusedBy 15 → ends a out ≡ wrote (refusedOr r n) bytes out
-refused-with r u a n bytes out e f h =
-    ap (λ (x : Answer). ends x out) h ∙ refuses 15 (refusedOr r n) bytes out (refused-or r u n e f) (λ z. omega (arith, z))
+refused-with r u a n bytes out e f h = passed-on a 15 (refusedOr r n) bytes out h (λ z. omega arith) (refused-or r u n e f)
 
 -- either writer: its refusal and its bytes
 module _ (refusal : Record → List ℕ → ℕ) (bytes : Record → List ℕ → List ℕ) where

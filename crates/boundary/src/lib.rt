@@ -5,7 +5,6 @@ ghost use Rattle.laws.specs.Wrote.{ends, wrote};
 ghost use Rattle.lonlat.specs.Angle.{mostLatitude, mostLongitude};
 ghost use Rattle.position.specs.Bounds.{boundsOf};
 ghost use Rattle.position.specs.Page.{boxOf};
-ghost use Rattle.mic_e.specs.Message.{messageNumber};
 ghost use Rattle.fields.specs.Lists.{listed, motionRefusal, motionFields, longitudeRefusal, longitudeFields};
 ghost use Rattle.packet.specs.Packet.{readText, readFrame};
 ghost use Rattle.packet.specs.Written.{textBytes, frameBytes};
@@ -67,29 +66,6 @@ fn kind_number(k: Kind) -> u8
     }
 }
 
-fn message_number(m: Message) -> u8
-    ensures { λ r. ⌜ r ≡ messageNumber m ⌝ }
-{
-    match m {
-        Message::M0 => 0,
-        Message::M1 => 1,
-        Message::M2 => 2,
-        Message::M3 => 3,
-        Message::M4 => 4,
-        Message::M5 => 5,
-        Message::M6 => 6,
-        Message::C0 => 7,
-        Message::C1 => 8,
-        Message::C2 => 9,
-        Message::C3 => 10,
-        Message::C4 => 11,
-        Message::C5 => 12,
-        Message::C6 => 13,
-        Message::Emergency => 14,
-        Message::Unknown => 15,
-    }
-}
-
 fn kind_at(n: u8) -> Kind
     ensures { λ r. ⌜ r ≡ kindAt n ⌝ }
 {
@@ -135,7 +111,7 @@ fn flattened(r: Record) -> Flat
     let longitude = place.longitude;
     let report = r.mic_e;
     let m = report.message;
-    let message = message_number(m);
+    let message = mic_e::message_number(m);
     let speed = report.speed;
     let course = report.course;
     let comment = r.comment;

@@ -1,74 +1,35 @@
 -- An address that is written reads back, and what is read from an address is in range.
 -- Assumes nothing.
-use mathlib.Core.Path.{_≡_, refl, sym, ap, _∙_}
-use mathlib.Core.Bool.{Bool, true, false, cond, not, _&&_, _||_, and-false, false≢true}
+use mathlib.Core.Path.{_≡_, refl, ap, _∙_}
+use mathlib.Core.Bool.{Bool, true, false, cond, not, _&&_}
 use mathlib.Core.List.{List, [], _∷_, _++_, map}
 use Prim.Native.Nat.{ℕ, zero, suc, _+_, _-_, _*_, _/_, _%_, _<_, _≤_}
 use native.Mathlib.Omega.{arith}
-use borrow.Author.Tests.{lt-ltb, lt-leb, eq-eqb, ne-eqb, eqb-true, ltb-true, ltb-false, leb-true}
+use borrow.Author.Tests.{lt-ltb, eq-eqb, ne-eqb, eqb-true, ltb-true, ltb-false, leb-true}
 use lib.Dec.{T, eqb, ltb, leb}
-use lib.ListN.{length, getD, take, replicate, length-append, length-map, length-replicate}
+use lib.ListN.{length, getD, take, replicate, length-append}
 use lib.Seq.{take-at, getD-at, length-take-le}
-use Rattle.laws.specs.Bytes.{space, dash, within, isLetterOrDigit, raised}
+use Rattle.laws.specs.Bytes.{space, dash, isLetterOrDigit, raised}
+use Rattle.laws.specs.Lists.{every}
+use Rattle.laws.proofs.Each.{every-first, every-rest}
 use Rattle.laws.proofs.Every.{all, all-at}
 use Rattle.callsign.specs.declared.Callsign.{Callsign}
+use Rattle.callsign.specs.declared.AddressRead.{AddressRead}
 use Rattle.callsign.specs.declared.Field.{Field}
 use Rattle.callsign.specs.declared.Number.{Number}
 use Rattle.callsign.specs.declared.Number.the-variants.{Unfit, Fits}
 use Rattle.callsign.specs.Utf8.{utf8}
-use Rattle.callsign.specs.Text.{joined, made, blankCall, isZero}
+use Rattle.callsign.specs.Text.{joined, made, isZero}
 use Rattle.callsign.specs.Range.{inRange, callPart, ssidPart}
 use Rattle.callsign.specs.Address.{ssidOf, heardOf, lastOf, Unpacked, malformed, call, onto, areSpaces, unpacked, ssidText, addressRefused, addressOf, readAddress}
-use Rattle.callsign.specs.Packed.{every, ssidNumber, seventhOf, sent, unwrittenBy, packedAs, packedBy, writeAddress}
+use Rattle.callsign.specs.Packed.{ssidNumber, seventhOf, sent, unwrittenBy, packedAs, packedBy, writeAddress}
 use Rattle.callsign.proofs.Unicode.{ascii-front}
 use Rattle.callsign.proofs.Numbers.{ssid-small}
 use Rattle.callsign.proofs.Ranges.{utf8-none}
 use Rattle.callsign.proofs.Bits.{heardIn, ssid-back, heard-back, last-back}
-use Rattle.callsign.proofs.Sends.{every-head, every-tail}
+use Rattle.callsign.proofs.Sends.{raises, six-sent}
 use Rattle.callsign.proofs.Characters.{address-as}
 use Rattle.callsign.proofs.Made.{made-range, blank-range}
-
--- ---- a letter or digit, raised: computed at each byte
-
-is-byte : (c : ℕ) → isLetterOrDigit c ≡ true → c < 256
-unfolding within
-is-byte c e = go (ltb c 256) refl
-  where
-    go : (b : Bool) → ltb c 256 ≡ b → c < 256
-    go true h = ltb-true c 256 h
-    go false h =
-        let p : 256 ≤ c = ltb-false c 256 h in
-        let z : isLetterOrDigit c ≡ false = simp (lt-leb c 57 (omega arith), lt-leb c 90 (omega arith), lt-leb c 122 (omega arith), and-false) in
-        absurd (false≢true (sym z ∙ e))
-
-pub record Raised (c : ℕ) : Type 0 where
-  pub again : isLetterOrDigit (raised c) ≡ true
-  pub no-space : eqb (raised c) space ≡ false
-  pub settled : raised (raised c) ≡ raised c
-  pub ascii : raised c < 0x80
-
-fine : ℕ → Bool
-unfolding raised within
-fine c = not (isLetterOrDigit c) || (isLetterOrDigit (raised c) && not (eqb (raised c) space) && eqb (raised (raised c)) (raised c) && ltb (raised c) 0x80)
-
-tested : T (all 256 fine)
-unfolding fine raised within
-tested = tt
-
-pub raises : (c : ℕ) → isLetterOrDigit c ≡ true → Raised c
-unfolding fine
-raises c e =
-    go (isLetterOrDigit c) (isLetterOrDigit (raised c)) (eqb (raised c) space) (eqb (raised (raised c)) (raised c)) (ltb (raised c) 0x80)
-    (all-at 256 fine tested c (is-byte c e)) e refl refl refl refl
-  where
-    go : (x y z w v : Bool) → T (not x || (y && not z && w && v)) → x ≡ true → isLetterOrDigit (raised c) ≡ y → eqb (raised c) space ≡ z → eqb (raised (raised c)) (raised c) ≡ w
-        → ltb (raised c) 0x80 ≡ v → Raised c
-    go true true false true true t h a b d f = record { again = a; no-space = b; settled = eqb-true _ _ d; ascii = ltb-true _ _ f }
-    go true true false true false t h a b d f = absurd t
-    go true true false false v t h a b d f = absurd t
-    go true true true w v t h a b d f = absurd t
-    go true false z w v t h a b d f = absurd t
-    go false y z w v t h a b d f = absurd (false≢true h)
 
 -- ---- written and read
 
@@ -82,29 +43,18 @@ unfolding unpacked onto lastOf sent
 call-back [] zero e = refl
 call-back [] (suc k) e = rw (spaces k)
 call-back (c ∷ cs) k e =
-    let f = raises c (every-head isLetterOrDigit c cs e) in
+    let f = raises c (every-first isLetterOrDigit c cs e) in
     let half : raised c * 2 / 2 ≡ raised c = omega arith in
     let low : raised c * 2 % 2 ≡ 1 → ⊥ = omega arith in
-    rw (half, ne-eqb _ _ low, f .no-space, f .again, f .settled, call-back cs k (every-tail isLetterOrDigit c cs e))
+    rw (half, ne-eqb _ _ low, f .no-space, f .again, f .settled, call-back cs k (every-rest isLetterOrDigit c cs e))
 
 module _ (cs : List ℕ) (s : ℕ) (short : length cs ≤ 6) (good : every isLetterOrDigit cs ≡ true) where
-  filled : length cs + (6 - length cs) ≡ 6
-  filled = omega arith
-
-  abbrev gap : List ℕ
-  gap = replicate (6 - length cs) 64
-
-  six : length (map sent cs ++ replicate (6 - length cs) 64) ≡ 6
-  six =
-      length-append (map sent cs) (replicate (6 - length cs) 64) ∙ ap (λ (k : ℕ). k + length gap) (length-map cs sent)
-      ∙ ap (λ (k : ℕ). length cs + k) (length-replicate (6 - length cs) 64) ∙ filled
-
   bytes-back : readAddress (map sent cs ++ replicate (6 - length cs) 64 ++ s ∷ []) ≡ address-as (made (map raised cs) (ssidText (ssidOf s))) (heardOf s) (lastOf s)
   unfolding readAddress addressOf
   bytes-back =
       let x : List ℕ = map sent cs ++ replicate (6 - length cs) 64 in
-      let m : length (x ++ s ∷ []) ≡ 7 = length-append x (s ∷ []) ∙ ap (λ (k : ℕ). k + 1) six in
-      rw (eq-eqb (length (x ++ s ∷ [])) 7 m, take-at x (s ∷ []) 6 six, getD-at x s [] 0 6 six, call-back cs (6 - length cs) good)
+      let m : length (x ++ s ∷ []) ≡ 7 = length-append x (s ∷ []) ∙ ap (λ (k : ℕ). k + 1) (six-sent cs short) in
+      rw (eq-eqb (length (x ++ s ∷ [])) 7 m, take-at x (s ∷ []) 6 (six-sent cs short), getD-at x s [] 0 6 (six-sent cs short), call-back cs (6 - length cs) good)
 
 packed-back : (cs : List ℕ) (s : ℕ) → packedAs cs s .refusal ≡ 0 → readAddress (packedAs cs s .bytes) ≡ address-as (made (map raised cs) (ssidText (ssidOf s))) (heardOf s) (lastOf s)
 unfolding packedAs unwrittenBy
@@ -146,6 +96,28 @@ address-back c field last e = go (inRange c) e
     go true e = number-back (callPart c) (ssidNumber (ssidPart c)) field last (λ n q. ssid-small n (ssidPart c) q) e
     go false e = absurd (omega arith)
 
+-- an address that was written is seven bytes, since it reads back
+pub address-seven : (c : Callsign) (field : Field) (last : Bool) → writeAddress c field last .refusal ≡ 0 → length (writeAddress c field last .bytes) ≡ 7
+unfolding readAddress addressRefused
+address-seven c field last z = go (eqb (length b) 7) refl (ap (λ (a : AddressRead). a .refusal) (address-back c field last z))
+  where
+    b : List ℕ
+    b = writeAddress c field last .bytes
+
+    go : (k : Bool) → eqb (length b) 7 ≡ k → cond k (addressOf (unpacked (take 6 b)) (getD b 6 0)) (addressRefused 3) .refusal ≡ 0 → length b ≡ 7
+    go true e r = eqb-true (length b) 7 e
+    go false e r = absurd (omega arith)
+
+-- an address is accepted or refused with 3
+pub address-refusal : (s : List ℕ) → (readAddress s .refusal ≡ 0 → ⊥) → readAddress s .refusal ≡ 3
+unfolding readAddress addressRefused addressOf
+address-refusal s = go (eqb (length s) 7) (unpacked (take 6 s))
+  where
+    go : (b : Bool) (u : Unpacked) → (cond b (addressOf u (getD s 6 0)) (addressRefused 3) .refusal ≡ 0 → ⊥) → cond b (addressOf u (getD s 6 0)) (addressRefused 3) .refusal ≡ 3
+    go true malformed z = refl
+    go true (call cs) z = absurd (z refl)
+    go false u z = refl
+
 -- ---- what is read is in range
 
 abbrev pub isAscii : ℕ → Bool
@@ -153,7 +125,7 @@ isAscii c = ltb c 0x80
 
 pub ascii-utf8 : (cs : List ℕ) → every isAscii cs ≡ true → utf8 cs ≡ true
 ascii-utf8 [] e = utf8-none
-ascii-utf8 (c ∷ cs) e = ascii-front c cs (ltb-true c 0x80 (every-head isAscii c cs e)) ∙ ascii-utf8 cs (every-tail isAscii c cs e)
+ascii-utf8 (c ∷ cs) e = ascii-front c cs (ltb-true c 0x80 (every-first isAscii c cs e)) ∙ ascii-utf8 cs (every-rest isAscii c cs e)
 
 -- a call that is unpacked is short and ASCII
 Plain : ℕ → Unpacked → Type 0
@@ -204,7 +176,7 @@ joined-short a [] h k = omega arith
 joined-short a (x ∷ b) h k = omega (arith, length-append a (dash ∷ x ∷ b))
 
 unpacked-range : (u : Unpacked) (s : ℕ) → Plain 6 u → inRange (addressOf u s .call) ≡ true
-unfolding Plain addressOf addressRefused blankCall ssidOf
+unfolding Plain addressOf addressRefused ssidOf
 unpacked-range malformed s h = blank-range
 unpacked-range (call cs) s h =
     let f = fit-at (s / 2 % 16) (omega arith) in
@@ -218,7 +190,7 @@ plain-six b h = rw (sixth) at (plain (take 6 b))
 
 -- whatever read_address gives
 pub address-range : (b : List ℕ) → inRange (readAddress b .call) ≡ true
-unfolding readAddress addressRefused blankCall
+unfolding readAddress addressRefused
 address-range b = go (eqb (length b) 7) refl
   where
     go : (p : Bool) → eqb (length b) 7 ≡ p → inRange (cond p (addressOf (unpacked (take 6 b)) (getD b 6 0)) (addressRefused 3) .call) ≡ true

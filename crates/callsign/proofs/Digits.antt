@@ -2,27 +2,17 @@
 -- Assumes nothing.
 use mathlib.Core.Path.{_≡_, sym, ap, _∙_}
 use mathlib.Core.List.{List, [], _∷_, _++_, append-assoc}
-use Prim.Native.Nat.{ℕ, suc, _+_, _-_, _/_, _%_, _<_, _≤_}
+use Prim.Native.Nat.{ℕ, _+_, _-_, _/_, _%_, _<_, _≤_}
 use native.Mathlib.Omega.{arith}
 use borrow.Author.Tests.{ne-eqb, lt-ltb, le-ltb}
-use lib.ListN.{length, take, set, replicate, length-append}
-use lib.Seq.{length-take-le, take-all, set-at, append-snoc}
+use lib.ListN.{length, take, set, length-append}
+use lib.Seq.{length-take-le, take-all}
 use Rattle.laws.specs.Bytes.{dash, digit0}
 use Rattle.laws.specs.Lists.{padTo}
+use Rattle.laws.proofs.Lists.{pad-set}
 use Rattle.callsign.specs.declared.Callsign.{Callsign}
 use Rattle.callsign.specs.Text.{joined, callAs, made}
 use Rattle.callsign.specs.Address.{ssidOf, ssidText}
-
--- a byte more behind what is padded
-pub pad-set : (p : List ℕ) (n v : ℕ) → length p ≡ n → n < 16 → set (padTo 16 0 p) n v ≡ padTo 16 0 (p ++ v ∷ [])
-unfolding padTo
-pad-set p n v e h =
-    let m : length (p ++ v ∷ []) ≡ n + 1 = length-append p (v ∷ []) ∙ ap (λ (k : ℕ). k + 1) e in
-    let q : 16 - length p ≡ suc (16 - (n + 1)) = omega arith in
-    ap (λ (k : ℕ). set (p ++ replicate k 0) n v) q
-    ∙ set-at p 0 (replicate (16 - (n + 1)) 0) v n e
-    ∙ sym (append-snoc p v (replicate (16 - (n + 1)) 0))
-    ∙ ap (λ (k : ℕ). (p ++ v ∷ []) ++ replicate (16 - k) 0) (sym m)
 
 module _ (call text : List ℕ) (n ssid : ℕ) (six : length call ≡ 6) (h : n ≤ 6) (e : text ≡ padTo 16 0 (take n call)) where
   size : length (take n call) ≡ n
@@ -37,10 +27,10 @@ module _ (call text : List ℕ) (n ssid : ℕ) (six : length call ≡ 6) (h : n 
 
   module _ (z : ssid ≡ 0 → ⊥) where
     dashed : set text n dash ≡ padTo 16 0 (take n call ++ dash ∷ [])
-    dashed = ap (λ (l : List ℕ). set l n dash) e ∙ pad-set (take n call) n dash size (omega arith)
+    dashed = ap (λ (l : List ℕ). set l n dash) e ∙ pad-set 16 0 (take n call) n dash size (omega arith)
 
     digit-more : (v : ℕ) → set (set text n dash) (n + 1) v ≡ padTo 16 0 ((take n call ++ dash ∷ []) ++ v ∷ [])
-    digit-more v = ap (λ (l : List ℕ). set l (n + 1) v) dashed ∙ pad-set (take n call ++ dash ∷ []) (n + 1) v (more (take n call) dash n size) (omega arith)
+    digit-more v = ap (λ (l : List ℕ). set l (n + 1) v) dashed ∙ pad-set 16 0 (take n call ++ dash ∷ []) (n + 1) v (more (take n call) dash n size) (omega arith)
 
     pub one-digit : ssid < 10 → callAs (set (set text n dash) (n + 1) (digit0 + ssid)) n 1 ≡ made (take n call) (ssidText ssid)
     unfolding made joined ssidText
@@ -58,7 +48,7 @@ module _ (call text : List ℕ) (n ssid : ℕ) (six : length call ≡ 6) (h : n 
         let k : length p ≡ n + 2 = more (take n call ++ dash ∷ []) 49 (n + 1) (more (take n call) dash n size) ∙ two in
         rw (ne-eqb ssid 0 z, le-ltb ssid 10 l, size, tens, ones)
         (ap (λ (t : List ℕ). callAs t n 2)
-        (ap (λ (t : List ℕ). set t (n + 2) (digit0 + (ssid - 10))) (digit-more 49) ∙ pad-set p (n + 2) (digit0 + (ssid - 10)) k (omega arith)
+        (ap (λ (t : List ℕ). set t (n + 2) (digit0 + (ssid - 10))) (digit-more 49) ∙ pad-set 16 0 p (n + 2) (digit0 + (ssid - 10)) k (omega arith)
         ∙ ap (λ (t : List ℕ). padTo 16 0 t)
         (append-assoc (take n call ++ dash ∷ []) (49 ∷ []) ((digit0 + (ssid - 10)) ∷ []) ∙ append-assoc (take n call) (dash ∷ []) (49 ∷ (digit0 + (ssid - 10)) ∷ []))))
       where

@@ -11,7 +11,7 @@ use lib.Seq.{take-append-seam, drop-append-seam, getD-append-seam}
 use Rattle.laws.specs.Bytes.{dash}
 use Rattle.laws.specs.Lists.{padTo, zeros}
 use Rattle.callsign.specs.Utf8.{utf8}
-use Rattle.callsign.specs.Text.{joined, made, isZero}
+use Rattle.callsign.specs.Text.{joined, made, blankCall, isZero}
 use Rattle.callsign.specs.Range.{callPart, ssidPart, textLen, isDashed, inRange, textOf}
 use Rattle.callsign.proofs.Ranges.{bare-length, full-length, full-dashed, bare-dashed, to-range, utf8-none, zero-none}
 
@@ -82,6 +82,6 @@ made-range a b h u v z = to-range (made a b) (record {
   spare = made-spare a b;
 })
 
-pub blank-range : inRange (made [] []) ≡ true
-unfolding joined
+pub blank-range : inRange blankCall ≡ true
+unfolding blankCall joined
 blank-range = made-range [] [] (omega arith) utf8-none utf8-none zero-none

@@ -10,10 +10,11 @@ use lib.Dec.{eqb, leb}
 use borrow.Rule.Slice.PartAt.{part-to-end}
 use lib.ListN.{length, take, drop, getD, drop-of-length-le}
 use Rattle.laws.specs.Bytes.{within, plus, digit0, digit9, isDigit}
+use Rattle.laws.specs.Lists.{every}
 use Rattle.laws.proofs.Lists.{next}
 use Rattle.callsign.specs.declared.Number.{Number}
 use Rattle.callsign.specs.declared.Number.the-variants.{Unfit, Fits}
-use Rattle.callsign.specs.Packed.{every, decimal, fitNumber, digitsNumber, ssidNumber}
+use Rattle.callsign.specs.Packed.{decimal, fitNumber, digitsNumber, ssidNumber}
 
 decimal-grows : (v : ℕ) (l : List ℕ) → v ≤ decimal v l
 unfolding decimal

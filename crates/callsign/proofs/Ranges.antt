@@ -1,7 +1,7 @@
 -- Laws of the range: a callsign by its parts, the tests that the code makes, and what being in range gives.
 -- Assumes nothing.
 use mathlib.Core.Path.{_≡_, refl, sym, ap, _∙_}
-use mathlib.Core.Bool.{Bool, true, false, not, cond, _&&_, and-true, and-false, and-assoc, false≢true}
+use mathlib.Core.Bool.{Bool, true, false, not, cond, _&&_, and-true, and-false, and-assoc}
 use mathlib.Core.List.{List, [], _∷_, _++_}
 use Prim.Native.Nat.{ℕ, _+_, _-_, _<_, _≤_}
 use native.Mathlib.Nat.{add-zero}
@@ -9,14 +9,15 @@ use native.Mathlib.Numerals.{add-one}
 use native.Mathlib.Omega.{arith}
 use lib.Dec.{eqb, leb}
 use borrow.Author.Tests.{eqb-true, eqb-false, eq-eqb, ne-eqb, le-leb, lt-leb, leb-true, not-true, not-false}
-use lib.ListN.{length, take, drop, getD, length-drop}
+use lib.ListN.{length, take, drop, getD, length-append, length-take, length-drop}
 use lib.Seq.{length-take-le, take-add, take-suc, append-snoc, getD-take, getD-drop}
-use Rattle.laws.specs.Bytes.{dash, digit0}
+use Rattle.laws.specs.Bytes.{star, dash, digit0}
 use Rattle.laws.specs.Lists.{zeros}
+use Rattle.laws.proofs.Tests.{and-both}
 use Rattle.callsign.specs.declared.Callsign.{Callsign}
 use Rattle.callsign.specs.Utf8.{utf8, characters}
 use Rattle.callsign.specs.Text.{joined, isZero}
-use Rattle.callsign.specs.Range.{callPart, ssidPart, textLen, isDashed, inRange, rangeRefusal, textOf, sound}
+use Rattle.callsign.specs.Range.{callPart, ssidPart, textLen, isDashed, inRange, isBlankCall, rangeRefusal, textOf, withStar, sound}
 use Rattle.callsign.proofs.Unicode.{utf8-split}
 
 -- ---- an SSID that is `0` alone
@@ -40,10 +41,6 @@ utf8-none = refl
 pub zero-none : isZero [] ≡ false
 unfolding isZero
 zero-none = refl
-
--- the first bytes of an array
-pub prefix-length : (l : List ℕ) (n m : ℕ) → length l ≡ m → n ≤ m → n ≡ length (take n l)
-prefix-length l n m e h = sym (length-take-le n l (omega arith))
 
 -- ---- a callsign without an SSID
 
@@ -173,18 +170,14 @@ pub to-range : (c : Callsign) → Ranged c → inRange c ≡ true
 unfolding inRange
 to-range c r = rw (le-leb (textLen c) 16 (r .size), r .call, r .ssid, r .nonzero, r .dashed, r .spare)
 
-pub both : (a b : Bool) → (a && b) ≡ true → (a ≡ true) × (b ≡ true)
-both true b h = (refl, h)
-both false b h = absurd (false≢true h)
-
 pub from-range : (c : Callsign) → inRange c ≡ true → Ranged c
 unfolding inRange
 from-range c e =
-    let t₅ = both _ (zeros (drop (textLen c) (c .text))) e in
-    let t₄ = both _ (isDashed c) (t₅ .0) in
-    let t₃ = both _ (not (isZero (ssidPart c))) (t₄ .0) in
-    let t₂ = both _ (utf8 (ssidPart c)) (t₃ .0) in
-    let t₁ = both (leb (textLen c) 16) (utf8 (callPart c)) (t₂ .0) in
+    let t₅ = and-both _ (zeros (drop (textLen c) (c .text))) e in
+    let t₄ = and-both _ (isDashed c) (t₅ .0) in
+    let t₃ = and-both _ (not (isZero (ssidPart c))) (t₄ .0) in
+    let t₂ = and-both _ (utf8 (ssidPart c)) (t₃ .0) in
+    let t₁ = and-both (leb (textLen c) 16) (utf8 (callPart c)) (t₂ .0) in
     record {
       size = leb-true (textLen c) 16 (t₁ .0);
       call = t₁ .1;
@@ -231,6 +224,47 @@ module _ (c : Callsign) (e : inRange c ≡ true) where
         go : (b : Bool) → eqb (c .«ssid_len») 0 ≡ b → textOf c ≡ take (textLen c) (c .text)
         go true q = bare-text c (eqb-true (c .«ssid_len») 0 q)
         go false q = full-text (eqb-false (c .«ssid_len») 0 q)
+
+-- ---- how long the text of a callsign in range is
+
+take-le : (n : ℕ) (l : List ℕ) → length (take n l) ≤ n
+take-le n l = rw length-take (omega arith)
+
+joined-le : (a b : List ℕ) → length (joined a b) ≤ length a + 1 + length b
+unfolding joined
+joined-le a [] = omega arith
+joined-le a (x ∷ b) = rw (length-append a (dash ∷ x ∷ b)) (omega arith)
+
+text-le : (c : Callsign) → length (textOf c) ≤ c .«call_len» + 1 + c .«ssid_len»
+unfolding textOf callPart ssidPart
+text-le c =
+    let a = take-le (c .«call_len») (c .text) in
+    let b = take-le (c .«ssid_len») (drop (c .«call_len» + 1) (c .text)) in
+    let j = joined-le (callPart c) (ssidPart c) in
+    omega arith
+
+pub text-short : (c : Callsign) → inRange c ≡ true → length (textOf c) ≤ 16
+text-short c e = go (eqb (c .«ssid_len») 0) refl (from-range c e .size)
+  where
+    go : (b : Bool) → eqb (c .«ssid_len») 0 ≡ b → textLen c ≤ 16 → length (textOf c) ≤ 16
+    go true q m = let k = take-le (textLen c) (c .text) in rw (bare-text c (eqb-true (c .«ssid_len») 0 q)) (omega arith)
+    go false q m = let k = full-length c (eqb-false (c .«ssid_len») 0 q) in let x = text-le c in omega arith
+
+-- with its star
+pub star-short : (c : Callsign) (starred : Bool) → inRange c ≡ true → length (withStar (textOf c) starred) ≤ 17
+unfolding withStar
+star-short c true e = let m = text-short c e in rw (length-append (textOf c) (star ∷ [])) (omega arith)
+star-short c false e = let m = text-short c e in omega arith
+
+-- ---- nothing in it
+
+pub blank-is-in-range : (c : Callsign) → isBlankCall c ≡ true → inRange c ≡ true
+unfolding isBlankCall sound utf8 characters
+blank-is-in-range c e =
+    let b = and-both (eqb (c .«call_len») 0) (eqb (c .«ssid_len») 0 && zeros (c .text)) e in
+    let d = and-both (eqb (c .«ssid_len») 0) (zeros (c .text)) (b .1) in
+    let n = eqb-true (c .«call_len») 0 (b .0) in
+    sym (range-bare c (omega arith) true (eqb-true (c .«ssid_len») 0 (d .0)) (rw (n, d .1)))
 
 -- ---- the same where the code has made the test
 

@@ -1,69 +1,85 @@
 -- Laws of an address written: one character more, the seventh byte, and the range in front.
 -- Assumes nothing.
 use mathlib.Core.Path.{_≡_, refl, sym, ap, _∙_}
-use mathlib.Core.Bool.{Bool, true, false, not, _&&_, _||_, and-false}
+use mathlib.Core.Bool.{Bool, true, false, not, _&&_, _||_, and-false, false≢true}
 use mathlib.Core.List.{List, [], _∷_, _++_, map, append-assoc}
 use Prim.Native.Nat.{ℕ, suc, _+_, _-_, _*_, _%_, _<_, _≤_}
 use native.Mathlib.Omega.{arith}
 use native.Mathlib.Numerals.{add-one}
-use borrow.Author.Tests.{lt-ltb, le-ltb, ltb-true, not-true, not-false}
-use lib.Dec.{T, ltb}
+use borrow.Author.Tests.{lt-ltb, le-ltb, lt-leb, eqb-true, ltb-true, ltb-false, not-true, not-false}
+use lib.Dec.{T, eqb, ltb}
 use lib.ListN.{length, getD, take, drop, set, replicate, length-append, length-map, length-replicate, length-set, replicate-append-replicate}
 use lib.Seq.{take-suc, take-all, split-at, append-snoc, set-at, length-take-le}
-use Rattle.laws.specs.Bytes.{within, isLetterOrDigit, raised}
-use Rattle.laws.proofs.Every.{all-at}
+use Rattle.laws.specs.Bytes.{space, within, isLetterOrDigit, raised}
+use Rattle.laws.specs.Lists.{every}
+use Rattle.laws.proofs.Lists.{part-length}
+use Rattle.laws.proofs.Each.{every-snoc, every-fails}
+use Rattle.laws.proofs.Every.{all, all-at}
 use Rattle.callsign.specs.declared.AddressWritten.{AddressWritten}
 use Rattle.callsign.specs.declared.Callsign.{Callsign}
 use Rattle.callsign.specs.declared.Field.{Field}
 use Rattle.callsign.specs.declared.Number.{Number}
 use Rattle.callsign.specs.declared.Number.the-variants.{Unfit, Fits}
 use Rattle.callsign.specs.Range.{inRange, callPart, ssidPart}
-use Rattle.callsign.specs.Packed.{every, sent, ssidNumber, seventhOf, unwrittenBy, packedAs, packedBy, writeAddress}
-use Rattle.callsign.proofs.Ranges.{both, bare-ssid, length-over, from-range, found-in-range}
+use Rattle.callsign.specs.Packed.{sent, ssidNumber, seventhOf, unwrittenBy, packedAs, packedBy, writeAddress}
+use Rattle.callsign.proofs.Ranges.{bare-ssid, length-over, from-range, found-in-range}
 use Rattle.callsign.proofs.Numbers.{ssid-small}
 
--- ---- every character of a call
+-- ---- a letter or digit, raised: computed at each byte
 
-module _ (p : ℕ → Bool) where
-  every-more : (xs : List ℕ) (d : ℕ) → every p xs ≡ true → p d ≡ true → every p (xs ++ d ∷ []) ≡ true
-  unfolding every
-  every-more [] d a e = rw e
-  every-more (x ∷ xs) d a e = let h = both (p x) (every p xs) a in rw (h .0) (every-more xs d (h .1) e)
-
-  every-not : (xs : List ℕ) (d : ℕ) (ys : List ℕ) → p d ≡ false → every p (xs ++ d ∷ ys) ≡ false
-  unfolding every
-  every-not [] d ys e = rw e
-  every-not (x ∷ xs) d ys e = ap (λ (t : Bool). p x && t) (every-not xs d ys e) ∙ and-false (p x)
-
-  pub every-head : (x : ℕ) (xs : List ℕ) → every p (x ∷ xs) ≡ true → p x ≡ true
-  unfolding every
-  every-head x xs e = both (p x) (every p xs) e .0
-
-  pub every-tail : (x : ℕ) (xs : List ℕ) → every p (x ∷ xs) ≡ true → every p xs ≡ true
-  unfolding every
-  every-tail x xs e = both (p x) (every p xs) e .1
-
--- ---- a character has seven bits: computed at the 256 bytes
-
-narrow : (d : ℕ) → d < 256 → isLetterOrDigit d ≡ true → raised d < 128
-unfolding raised within
-narrow d h e = ltb-true (raised d) 128 (go (isLetterOrDigit d) (ltb (raised d) 128) (all-at 256 (λ k. not (isLetterOrDigit k) || ltb (raised k) 128) tt d h) e)
+is-byte : (c : ℕ) → isLetterOrDigit c ≡ true → c < 256
+unfolding within
+is-byte c e = go (ltb c 256) refl
   where
-    go : (x y : Bool) → T (not x || y) → x ≡ true → y ≡ true
-    go true true t e = refl
-    go true false t e = absurd t
-    go false true t e = refl
-    go false false t e = e
+    go : (b : Bool) → ltb c 256 ≡ b → c < 256
+    go true h = ltb-true c 256 h
+    go false h =
+        let p : 256 ≤ c = ltb-false c 256 h in
+        let z : isLetterOrDigit c ≡ false = simp (lt-leb c 57 (omega arith), lt-leb c 90 (omega arith), lt-leb c 122 (omega arith), and-false) in
+        absurd (false≢true (sym z ∙ e))
 
-shifted : (d u : ℕ) → d < 256 → isLetterOrDigit d ≡ true → u ≡ raised d → u * 2 % 256 ≡ sent d
+pub record Raised (c : ℕ) : Type 0 where
+  pub again : isLetterOrDigit (raised c) ≡ true
+  pub no-space : eqb (raised c) space ≡ false
+  pub settled : raised (raised c) ≡ raised c
+  pub ascii : raised c < 0x80
+
+fine : ℕ → Bool
+unfolding raised within
+fine c = not (isLetterOrDigit c) || (isLetterOrDigit (raised c) && not (eqb (raised c) space) && eqb (raised (raised c)) (raised c) && ltb (raised c) 0x80)
+
+tested : T (all 256 fine)
+unfolding fine raised within
+tested = tt
+
+pub raises : (c : ℕ) → isLetterOrDigit c ≡ true → Raised c
+unfolding fine
+raises c e =
+    go (isLetterOrDigit c) (isLetterOrDigit (raised c)) (eqb (raised c) space) (eqb (raised (raised c)) (raised c)) (ltb (raised c) 0x80)
+    (all-at 256 fine tested c (is-byte c e)) e refl refl refl refl
+  where
+    go : (x y z w v : Bool) → T (not x || (y && not z && w && v)) → x ≡ true → isLetterOrDigit (raised c) ≡ y → eqb (raised c) space ≡ z → eqb (raised (raised c)) (raised c) ≡ w
+        → ltb (raised c) 0x80 ≡ v → Raised c
+    go true true false true true t h a b d f = record { again = a; no-space = b; settled = eqb-true _ _ d; ascii = ltb-true _ _ f }
+    go true true false true false t h a b d f = absurd t
+    go true true false false v t h a b d f = absurd t
+    go true true true w v t h a b d f = absurd t
+    go true false z w v t h a b d f = absurd t
+    go false y z w v t h a b d f = absurd (false≢true h)
+
+shifted : (d u : ℕ) → isLetterOrDigit d ≡ true → u ≡ raised d → u * 2 % 256 ≡ sent d
 unfolding sent
-shifted d u h e q = let n : raised d < 128 = narrow d h e in omega arith
+shifted d u e q = let n = raises d e .ascii in omega arith
 
 -- ---- a loop's state: i characters are sent, and spaces stand behind them
 
 map-append : (xs ys : List ℕ) → map sent (xs ++ ys) ≡ map sent xs ++ map sent ys
 map-append [] ys = refl
 map-append (x ∷ xs) ys = ap (λ (l : List ℕ). sent x ∷ l) (map-append xs ys)
+
+-- the characters of a call and the spaces behind them are six bytes
+pub six-sent : (cs : List ℕ) → length cs ≤ 6 → length (map sent cs ++ replicate (6 - length cs) 64) ≡ 6
+six-sent cs h = rw (length-append, length-map, length-replicate) (omega arith)
 
 pub record Sent (cs bytes : List ℕ) (i : ℕ) : Type 0 where
   pub short : length cs ≤ 6
@@ -93,19 +109,19 @@ module _ (cs bytes : List ℕ) (i : ℕ) (so : Sent cs bytes i) where
           short = so .short;
           inside = omega arith;
           seven = length-set bytes i v ∙ so .seven;
-          good = ap (every isLetterOrDigit) n ∙ every-more isLetterOrDigit (take i cs) d (so .good) e;
+          good = ap (every isLetterOrDigit) n ∙ every-snoc isLetterOrDigit (take i cs) d (so .good) e;
           is = ap (λ (l : List ℕ). set l i v) b ∙ set-at p 64 rest v i front ∙ ap (λ (w : ℕ). p ++ w ∷ rest) ev
               ∙ sym (append-snoc p (sent d) rest) ∙ ap (λ (l : List ℕ). l ++ rest) (sym (ap (map sent) n ∙ map-append (take i cs) (d ∷ [])));
         }
 
     bad : isLetterOrDigit (getD cs i 0) ≡ false → every isLetterOrDigit cs ≡ false
-    bad e = ap (every isLetterOrDigit) (split-at cs i 0 more) ∙ every-not isLetterOrDigit (take i cs) (getD cs i 0) (drop (suc i) cs) e
+    bad e = ap (every isLetterOrDigit) (split-at cs i 0 more) ∙ every-fails isLetterOrDigit (take i cs) (getD cs i 0) (drop (suc i) cs) e
 
     -- as the code's tests leave it
-    pub sends : (l : Bool) (u : ℕ) → getD cs i 0 < 256 → l ≡ isLetterOrDigit (getD cs i 0) → not l ≡ false → u ≡ raised (getD cs i 0) → Sent cs (set bytes i (u * 2 % 256)) (i + 1)
-    sends l u h q n r =
+    pub sends : (l : Bool) (u : ℕ) → l ≡ isLetterOrDigit (getD cs i 0) → not l ≡ false → u ≡ raised (getD cs i 0) → Sent cs (set bytes i (u * 2 % 256)) (i + 1)
+    sends l u q n r =
         let e : isLetterOrDigit (getD cs i 0) ≡ true = sym q ∙ not-false l n in
-        goes (u * 2 % 256) e (shifted (getD cs i 0) u h e r)
+        goes (u * 2 % 256) e (shifted (getD cs i 0) u e r)
 
     pub not-sent : (r : AddressWritten) (s : ℕ) (l : Bool) → l ≡ isLetterOrDigit (getD cs i 0) → not l ≡ true → r ≡ unwrittenBy 13 → r ≡ packedAs cs s
     unfolding packedAs
@@ -122,11 +138,7 @@ module _ (cs bytes : List ℕ) (i : ℕ) (so : Sent cs bytes i) where
         let q : 7 - i ≡ (6 - length cs) + 1 = omega (arith, so .short, so .inside) in
         let z : bytes ≡ (p ++ r) ++ 64 ∷ [] = so .is ∙ ap (λ (l : List ℕ). map sent l ++ replicate (7 - i) 64) (take-all i cs over)
         ∙ ap (λ (k : ℕ). p ++ replicate k 64) q ∙ ap (λ (l : List ℕ). p ++ l) (sym (replicate-append-replicate (6 - length cs) 1 64)) ∙ sym (append-assoc p r (64 ∷ [])) in
-        let w : length (p ++ r) ≡ 6 = length-append p r ∙ ap (λ (k : ℕ). k + length r) (length-map cs sent) ∙ ap (λ (k : ℕ). length cs + k) (length-replicate (6 - length cs) 64) ∙ fill in
-        ap (λ (l : List ℕ). set l 6 v) z ∙ set-at (p ++ r) 64 [] v 6 w
-      where
-        fill : length cs + (6 - length cs) ≡ 6
-        fill = omega (arith, so .short)
+        ap (λ (l : List ℕ). set l 6 v) z ∙ set-at (p ++ r) 64 [] v 6 (six-sent cs (so .short))
 
     pub all-sent : (s : ℕ) → record { refusal = 0; bytes = set bytes 6 s } ≡ packedAs cs s
     unfolding packedAs
@@ -151,7 +163,7 @@ module _ (c : Callsign) (u : Bool) (e : u ≡ inRange c) where
     call-room = omega (arith, length-over c, from-range c in-range .size)
 
     pub call-size : c .«call_len» ≡ length (take (c .«call_len») (c .text))
-    call-size = sym (length-take-le (c .«call_len») (c .text) call-room)
+    call-size = part-length (c .text) (c .«call_len») call-room
 
     module _ (r : AddressWritten) (field : Field) (last : Bool) where
       by-number : (m : Number) → m ≡ ssidNumber (ssidPart c) → r ≡ packedBy (callPart c) m field last → r ≡ writeAddress c field last

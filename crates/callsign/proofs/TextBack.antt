@@ -3,7 +3,7 @@
 use mathlib.Core.Path.{_≡_, refl, sym, ap, _∙_}
 use mathlib.Core.Bool.{Bool, true, false, cond, not, false≢true}
 use mathlib.Core.List.{List, [], _∷_, _++_}
-use Prim.Native.Nat.{ℕ, zero, suc, _+_, _-_, _<_, _≤_}
+use Prim.Native.Nat.{ℕ, zero, suc, _-_, _<_, _≤_}
 use native.Mathlib.Omega.{arith}
 use borrow.Author.Tests.{eqb-true, eqb-false, ltb-false}
 use lib.Dec.{eqb, ltb}
@@ -12,17 +12,18 @@ use lib.Seq.{take-suc, take-length}
 use Rattle.laws.specs.Bytes.{star, dash, digit0}
 use Rattle.laws.specs.Lists.{indexOf}
 use Rattle.laws.proofs.Places.{index-split, index-le}
+use Rattle.laws.proofs.Tests.{and-both}
 use Rattle.callsign.specs.declared.CallRead.{CallRead}
 use Rattle.callsign.specs.Utf8.{utf8}
-use Rattle.callsign.specs.Text.{joined, made, blankCall, isZero, callRefused, callAccepted, parted, readUnstarred, readText}
+use Rattle.callsign.specs.Text.{joined, made, isZero, callRefused, callAccepted, parted, readUnstarred, readText}
 use Rattle.callsign.specs.Range.{inRange, textOf, withStar}
 use Rattle.callsign.proofs.Unicode.{utf8-split}
-use Rattle.callsign.proofs.Ranges.{both, utf8-none, zero-none, joined-full}
+use Rattle.callsign.proofs.Ranges.{utf8-none, zero-none, joined-full}
 use Rattle.callsign.proofs.Made.{made-range, made-written, blank-range}
 
 -- a refusal; no dash; `-0` dropped; call and SSID
 pub data Seen (t : List ℕ) (starred : Bool) : CallRead → Type 0 where
-  refused : (n : ℕ) → (n ≡ 0 → ⊥) → Seen t starred (callRefused n)
+  refused : (n : ℕ) → (n ≡ 0 → ⊥) → n ≤ 4 → Seen t starred (callRefused n)
   bare : length t ≤ 16 → utf8 t ≡ true → Seen t starred (callAccepted (made t []) starred false)
   zeroed : (a : List ℕ) → t ≡ a ++ dash ∷ digit0 ∷ [] → length t ≤ 16 → utf8 t ≡ true → Seen t starred (callAccepted (made a []) starred true)
   full : (a b : List ℕ) → t ≡ a ++ dash ∷ b → (length b ≡ 0 → ⊥) → isZero b ≡ false → length t ≤ 16 → utf8 t ≡ true → Seen t starred (callAccepted (made a b) starred false)
@@ -40,8 +41,8 @@ module _ (t : List ℕ) (starred : Bool) (h : length t ≤ 16) (v : utf8 t ≡ t
     where
       go : (p q z : Bool) → eqb (length b) 0 ≡ q → isZero b ≡ z
           → Seen t starred (cond p (callRefused 3) (cond q (callRefused 3) (cond z (callAccepted (made a []) starred true) (callAccepted (made a b) starred false))))
-      go true q z f g = refused 3 (λ o. omega arith)
-      go false true z f g = refused 3 (λ o. omega arith)
+      go true q z f g = refused 3 (λ o. omega arith) (omega arith)
+      go false true z f g = refused 3 (λ o. omega arith) (omega arith)
       go false false true f g = zeroed a (e ∙ ap (λ (l : List ℕ). a ++ dash ∷ l) (zero-is b g)) h v
       go false false false f g = full a b e (eqb-false (length b) 0 f) g h v
 
@@ -51,8 +52,8 @@ seen t starred = go (ltb 16 (length t)) (utf8 t) (eqb (indexOf dash t) (length t
   where
     go : (p q d : Bool) → ltb 16 (length t) ≡ p → utf8 t ≡ q → eqb (indexOf dash t) (length t) ≡ d
         → Seen t starred (cond p (callRefused 4) (cond (not q) (callRefused 3) (cond d (callAccepted (made t []) starred false) (parted (take (indexOf dash t) t) (drop (suc (indexOf dash t)) t) starred))))
-    go true q d e f g = refused 4 (λ o. omega arith)
-    go false false d e f g = refused 3 (λ o. omega arith)
+    go true q d e f g = refused 4 (λ o. omega arith) (omega arith)
+    go false false d e f g = refused 3 (λ o. omega arith) (omega arith)
     go false true true e f g = bare (ltb-false 16 (length t) e) f
     go false true false e f g =
         let n : indexOf dash t ≡ length t → ⊥ = eqb-false (indexOf dash t) (length t) g in
@@ -62,17 +63,26 @@ seen t starred = go (ltb 16 (length t)) (utf8 t) (eqb (indexOf dash t) (length t
 -- ---- in range
 
 sides : (t a b : List ℕ) → t ≡ a ++ dash ∷ b → utf8 t ≡ true → (utf8 a ≡ true) × (utf8 b ≡ true)
-sides t a b e v = both (utf8 a) (utf8 b) (sym (utf8-split dash (omega arith) a b) ∙ ap utf8 (sym e) ∙ v)
+sides t a b e v = and-both (utf8 a) (utf8 b) (sym (utf8-split dash (omega arith) a b) ∙ ap utf8 (sym e) ∙ v)
 
 seen-range : (t : List ℕ) (starred : Bool) (r : CallRead) → Seen t starred r → inRange (r .call) ≡ true
-unfolding callRefused callAccepted blankCall joined
-seen-range t starred r (refused n h) = blank-range
+unfolding callRefused callAccepted joined
+seen-range t starred r (refused n h m) = blank-range
 seen-range t starred r (bare h v) = made-range t [] h v utf8-none zero-none
 seen-range t starred r (zeroed a e h v) =
     made-range a [] (omega (arith, ap length e, length-append a (dash ∷ digit0 ∷ []))) (sides t a (digit0 ∷ []) e v .0) utf8-none zero-none
 seen-range t starred r (full a b e k z h v) =
     let s = sides t a b e v in
     made-range a b (rw (joined-full a b k, ← e) h) (s .0) (s .1) z
+
+-- ---- a refusal
+
+seen-low : (t : List ℕ) (starred : Bool) (r : CallRead) → Seen t starred r → r .refusal ≤ 4
+unfolding callRefused callAccepted
+seen-low t starred r (refused n h m) = m
+seen-low t starred r (bare h v) = omega arith
+seen-low t starred r (zeroed a e h v) = omega arith
+seen-low t starred r (full a b e k z h v) = omega arith
 
 -- ---- the text again
 
@@ -91,7 +101,7 @@ bare-written a = made-written a []
 
 seen-back : (t : List ℕ) (starred : Bool) (r : CallRead) → Seen t starred r → r .refusal ≡ 0 → asRead r ≡ withStar t starred
 unfolding callRefused callAccepted asRead withZero
-seen-back t starred r (refused n h) q = absurd (h q)
+seen-back t starred r (refused n h m) q = absurd (h q)
 seen-back t starred r (bare h v) q = ap (λ (l : List ℕ). withStar l starred) (bare-written t)
 seen-back t starred r (zeroed a e h v) q = ap (λ (l : List ℕ). withStar l starred) (ap (λ (l : List ℕ). l ++ dash ∷ digit0 ∷ []) (bare-written a) ∙ sym e)
 seen-back t starred r (full a b e k z h v) q = ap (λ (l : List ℕ). withStar l starred) (made-written a b ∙ joined-full a b k ∙ sym e)
@@ -112,6 +122,14 @@ text-range s = go (eqb (getD s (length s - 1) 0) star)
     go : (p : Bool) → inRange (cond p (readUnstarred (take (length s - 1) s) true) (readUnstarred s false) .call) ≡ true
     go true = seen-range _ true _ (seen (take (length s - 1) s) true)
     go false = seen-range _ false _ (seen s false)
+
+pub text-low : (s : List ℕ) → readText s .refusal ≤ 4
+unfolding readText
+text-low s = go (eqb (getD s (length s - 1) 0) star)
+  where
+    go : (p : Bool) → cond p (readUnstarred (take (length s - 1) s) true) (readUnstarred s false) .refusal ≤ 4
+    go true = seen-low _ true _ (seen (take (length s - 1) s) true)
+    go false = seen-low _ false _ (seen s false)
 
 pub text-back : (s : List ℕ) → readText s .refusal ≡ 0 → asRead (readText s) ≡ s
 unfolding readText withStar

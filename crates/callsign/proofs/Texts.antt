@@ -3,7 +3,7 @@
 use mathlib.Core.Path.{_≡_, refl, sym, ap, _∙_}
 use mathlib.Core.Bool.{Bool, true, false, not, cond}
 use mathlib.Core.List.{List, [], _∷_, _++_}
-use Prim.Native.Nat.{ℕ, zero, suc, _+_, _-_, _<_, _≤_}
+use Prim.Native.Nat.{ℕ, suc, _+_, _-_, _<_, _≤_}
 use native.Mathlib.Omega.{arith}
 use lib.Dec.{eqb}
 use borrow.Author.Tests.{eqb-false, eq-eqb, ne-eqb, lt-ltb, le-ltb, not-false}
@@ -11,6 +11,7 @@ use lib.ListN.{length, take, drop, getD, length-drop, length-take}
 use lib.Seq.{length-take-le, getD-drop}
 use Rattle.laws.specs.Bytes.{star, dash, digit0}
 use Rattle.laws.specs.Lists.{indexOf, padTo}
+use Rattle.laws.proofs.Lists.{part-length}
 use Rattle.laws.proofs.Places.{index-split, index-le}
 use Rattle.callsign.specs.declared.CallRead.{CallRead}
 use Rattle.callsign.specs.Utf8.{utf8}
@@ -110,18 +111,6 @@ module _ (t : List ℕ) (starred u : Bool) (d : ℕ) (h : length t ≤ 16) (e : 
         pub ssid-other : (r : CallRead) (x : List ℕ) → (getD t (d + 1) 0 ≡ digit0 → ⊥) → x ≡ padTo 16 0 t → r ≡ callAccepted (callAs x d (length t - d - 1)) starred false → r ≡ readUnstarred t starred
         ssid-other r x w q = ssid-kept r x (λ a b. w b) q
 
--- ---- bounds on a place that was found
-
-module _ (t : List ℕ) (b d : ℕ) (f : d ≡ indexOf b t) where
-  pub found-le : d ≤ length t
-  found-le = omega (arith, index-le b t)
-
-  pub found-room : (d ≡ length t → ⊥) → 1 ≤ length t - d
-  found-room h = omega (arith, index-le b t)
-
-  pub found-part : d ≡ length (take d t)
-  found-part = sym (length-take-le d t found-le)
-
 pub part-le : (t : List ℕ) (d n : ℕ) → length t ≤ n → length (take d t) ≤ n
 part-le t d n h = rw length-take (omega arith)
 
@@ -144,4 +133,4 @@ pub none-starred : (s : List ℕ) (r : CallRead) → length s ≡ 0 → r ≡ re
 none-starred s r h e = unstarred s r (no-last s h) e
 
 pub last-part : (s : List ℕ) → length s - 1 ≡ length (take (length s - 1) s)
-last-part s = sym (length-take-le (length s - 1) s (omega arith))
+last-part s = part-length s (length s - 1) (omega arith)

@@ -5,7 +5,7 @@ use mathlib.Core.Bool.{Bool, true}
 use mathlib.Core.List.{List, [], _∷_}
 use Prim.Native.Nat.{ℕ}
 use Rattle.laws.specs.Bytes.{within, raised}
-use Rattle.laws.specs.Lists.{padTo, zeros}
+use Rattle.laws.specs.Lists.{every, padTo, zeros}
 use Rattle.callsign.specs.declared.Callsign.{Callsign}
 use Rattle.callsign.specs.declared.Field.{Field}
 use Rattle.callsign.specs.declared.Field.the-variants.{Hop}
@@ -13,7 +13,7 @@ use Rattle.callsign.specs.Utf8.{after, characters, utf8}
 use Rattle.callsign.specs.Text.{joined, made, isZero, readText}
 use Rattle.callsign.specs.Range.{callPart, ssidPart, textLen, isDashed, inRange, rangeRefusal}
 use Rattle.callsign.specs.Address.{ssidOf, heardOf, lastOf, onto, areSpaces, unpacked, ssidText, addressOf, readAddress}
-use Rattle.callsign.specs.Packed.{every, decimal, fitNumber, digitsNumber, ssidNumber, bit, upperBits, seventhOf, sent, packedAs, packedBy, writeAddress}
+use Rattle.callsign.specs.Packed.{decimal, fitNumber, digitsNumber, ssidNumber, bit, upperBits, seventhOf, sent, packedAs, packedBy, writeAddress}
 use Rattle.callsign.proofs.Ranges.{accepted}
 use Rattle.callsign.proofs.Bits.{heardIn}
 use Rattle.callsign.proofs.Characters.{address-as}

@@ -15,7 +15,7 @@ use Rattle.callsign.specs.declared.AddressRead.{AddressRead}
 use Rattle.callsign.specs.declared.AddressWritten.{AddressWritten}
 use Rattle.callsign.specs.declared.Field.{Field}
 use Rattle.callsign.specs.Text.{blankCall, made, readText}
-use Rattle.callsign.specs.Range.{inRange, rangeRefusal, textOf, withStar}
+use Rattle.callsign.specs.Range.{inRange, isBlankCall, rangeRefusal, textOf, withStar}
 use Rattle.callsign.specs.Address.{ssidOf, heardOf, lastOf, ssidText, readAddress}
 use Rattle.callsign.specs.Packed.{writeAddress}
 
@@ -27,6 +27,9 @@ unique-read-text s r r′ = one-value r r′ (readText s)
 
 pub unique-in-range : (c : Callsign) (r r′ : Bool) → r ≡ inRange c → r′ ≡ inRange c → r ≡ r′
 unique-in-range c r r′ = one-value r r′ (inRange c)
+
+pub unique-is-blank : (c : Callsign) (r r′ : Bool) → r ≡ isBlankCall c → r′ ≡ isBlankCall c → r ≡ r′
+unique-is-blank c r r′ = one-value r r′ (isBlankCall c)
 
 pub unique-write-text : (c : Callsign) (starred : Bool) (out o o′ : List ℕ) (r r′ : Answer)
     → ends r o ≡ wrote (rangeRefusal c) (withStar (textOf c) starred) out

@@ -11,7 +11,7 @@ use lib.Seq.{length-take-le}
 use Rattle.laws.specs.Bytes.{star}
 use Rattle.laws.specs.Wrote.{Wrote, ends, refusedBy, overBy, wrote}
 use Rattle.laws.specs.declared.Answer.{Answer}
-use Rattle.laws.proofs.Wrote.{not-over, refuses}
+use Rattle.laws.proofs.Wrote.{not-over, passed-on}
 use Rattle.callsign.specs.declared.Callsign.{Callsign}
 use Rattle.callsign.specs.Range.{textLen, inRange, rangeRefusal, textOf, withStar}
 use Rattle.callsign.proofs.Ranges.{bare-length, full-length, found-in-range, text-in-use, accepted, rejected}
@@ -37,7 +37,7 @@ short-prefix l n m e h = rw (length-take-le n l (omega arith)) h
 module _ (c : Callsign) (u : Bool) (e : u ≡ inRange c) (starred : Bool) (out : List ℕ) where
   pub text-refused : (r : Answer) → not u ≡ true → r ≡ refusedBy 15 → ends r out ≡ wrote (rangeRefusal c) (withStar (textOf c) starred) out
   text-refused r h q =
-      rw q (refuses 15 (rangeRefusal c) (withStar (textOf c) starred) out (rejected c (sym e ∙ not-true u h)) (λ z. omega arith))
+      passed-on r 15 (rangeRefusal c) (withStar (textOf c) starred) out q (λ z. omega arith) (rejected c (sym e ∙ not-true u h))
 
   module _ (h : not u ≡ false) (long : length (c .text) ≡ 16) where
     in-range : inRange c ≡ true

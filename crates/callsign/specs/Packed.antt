@@ -8,6 +8,7 @@ use mathlib.Core.List.{List, [], _∷_, _++_, map}
 use lib.ListN.{length, replicate}
 use lib.Dec.{eqb, ltb, leb}
 use Rattle.laws.specs.Bytes.{space, plus, digit0, isDigit, isLetterOrDigit, raised}
+use Rattle.laws.specs.Lists.{every}
 use Rattle.callsign.specs.Range.{inRange, callPart, ssidPart}
 use Rattle.callsign.specs.declared.Callsign.{Callsign}
 use Rattle.callsign.specs.declared.AddressWritten.{AddressWritten}
@@ -15,11 +16,6 @@ use Rattle.callsign.specs.declared.Field.{Field}
 use Rattle.callsign.specs.declared.Field.the-variants.{Destination, Source, Hop}
 use Rattle.callsign.specs.declared.Number.{Number}
 use Rattle.callsign.specs.declared.Number.the-variants.{Unfit, Fits}
-
--- a test that holds of every byte
-unfoldable pub every : (ℕ → Bool) → List ℕ → Bool
-every p [] = true
-every p (x ∷ l) = p x && every p l
 
 -- ---- the SSID's number
 

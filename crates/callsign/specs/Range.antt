@@ -37,6 +37,10 @@ inRange c =
     && isDashed c
     && zeros (drop (textLen c) (c .text))
 
+-- no call, no SSID, no byte
+unfoldable pub isBlankCall : Callsign → Bool
+isBlankCall c = eqb (c .«call_len») 0 && (eqb (c .«ssid_len») 0 && zeros (c .text))
+
 -- 15 for a callsign out of range
 unfoldable pub rangeRefusal : Callsign → ℕ
 rangeRefusal c = cond (inRange c) 0 15

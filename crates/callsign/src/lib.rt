@@ -8,7 +8,7 @@ ghost use Rattle.laws.specs.Lists.{padTo, zeros};
 ghost use Rattle.laws.specs.Wrote.{ends, wrote};
 ghost use Rattle.callsign.specs.Utf8.{after, owed, utf8};
 ghost use Rattle.callsign.specs.Text.{callAs, made, blankCall, callRefused, callAccepted, readUnstarred, readText};
-ghost use Rattle.callsign.specs.Range.{inRange, rangeRefusal, sound, textOf, withStar};
+ghost use Rattle.callsign.specs.Range.{inRange, isBlankCall, rangeRefusal, sound, textOf, withStar};
 ghost use Rattle.callsign.specs.Address.{heardOf, lastOf, ssidOf, ssidText, addressRefused, readAddress};
 ghost use Rattle.callsign.specs.Packed.{digitsNumber, ssidNumber, upperBits, seventhOf, unwrittenBy, packedAs, writeAddress};
 
@@ -267,6 +267,20 @@ fn is_sound(text: [u8; 16], n: usize) -> bool
     } else {
         false
     }
+}
+
+// Whether a callsign has nothing in it.
+pub fn is_blank(c: Callsign) -> bool
+    ensures { λ r. ⌜ r ≡ isBlankCall c ⌝ }
+{
+    if c.call_len != 0 {
+        return false;
+    }
+    if c.ssid_len != 0 {
+        return false;
+    }
+    let text = c.text;
+    is_spare(text, 0)
 }
 
 // Whether a callsign is in range. The dash is ASCII, so the text is judged whole where the definition judges call and

@@ -11,7 +11,7 @@ use native.Mathlib.Nat.{suc-mul}
 use borrow.Author.Tests.{eqb-true, eqb-false, eq-eqb, ne-eqb}
 use lib.Dec.{eqb}
 use lib.ListN.{length, length-append}
-use Rattle.mic_e.proofs.Turn.{bool-cases}
+use Rattle.laws.proofs.Tests.{bool-cases}
 use Rattle.fields.specs.Each.{each, cell, row, allFields}
 use Rattle.fields.proofs.Each.{each-same, each-none, cell-none, row-none}
 use Rattle.fields.specs.Search.{fieldsOf, thirdAt}

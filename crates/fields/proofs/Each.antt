@@ -8,6 +8,7 @@ use Prim.Native.Nat.{ℕ, zero, suc, _≤_, _<_}
 use native.Mathlib.Nat.{eq-or-lt-of-le, le-of-suc-le-suc, not-suc-le-zero}
 use native.Mathlib.Omega.{arith}
 use lib.ListN.{length, length-append}
+use Rattle.laws.proofs.Tests.{not-so}
 use Rattle.fields.specs.Each.{each, field, cell, row, allFields}
 
 le-zero : (m : ℕ) → m ≤ 0 → m ≡ 0
@@ -55,19 +56,15 @@ module _ {A : Type 0} where
       (λ s. rw length-append (omega (arith, each-mono m n f (omega arith))))
       (eq-or-lt-of-le h)
 
-pub not-true : (b : Bool) → (b ≡ true → ⊥) → b ≡ false
-not-true true h = absurd (h refl)
-not-true false h = refl
-
 module _ (test : ℕ → ℕ → ℕ → Bool) (a b : ℕ) where
   -- no third byte passes; one does
   pub cell-none : ((c : ℕ) → c < 256 → test a b c ≡ true → ⊥) → cell test a b ≡ []
   unfolding cell
-  cell-none h = each-none 256 _ (λ c l. rw (not-true (test a b c) (h c l)))
+  cell-none h = each-none 256 _ (λ c l. rw (not-so (test a b c) (h c l)))
 
   pub cell-one : (m : ℕ) → m < 256 → test a b m ≡ true → ((c : ℕ) → c < 256 → test a b c ≡ true → c ≡ m) → cell test a b ≡ field a b m ∷ []
   unfolding cell
-  cell-one m l t h = each-one 256 m _ l (λ c q n. rw (not-true (test a b c) (λ e. n (h c q e)))) ∙ rw t
+  cell-one m l t h = each-one 256 m _ l (λ c q n. rw (not-so (test a b c) (λ e. n (h c q e)))) ∙ rw t
 
 -- no second and third byte pass
 pub row-none : (test : ℕ → ℕ → ℕ → Bool) (a : ℕ) → ((b c : ℕ) → b < 256 → c < 256 → test a b c ≡ true → ⊥) → row test a ≡ []

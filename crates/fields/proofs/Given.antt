@@ -11,6 +11,7 @@ use lib.Dec.{ltb, leb, eqb}
 use lib.IntN.{pos}
 use lib.ListN.{length}
 use borrow.Author.Tests.{le-leb, lt-ltb, eq-eqb, ltb-true, ltb-false}
+use Rattle.laws.proofs.Tests.{bool-cases}
 use Rattle.lonlat.specs.Angle.{signedOf, isMinus}
 use Rattle.mic_e.specs.Turn.{lessIf}
 use Rattle.mic_e.specs.Motion.{knots, degrees, readMotion}
@@ -18,7 +19,7 @@ use Rattle.mic_e.specs.Longitude.{offsetOf, wrapped, sizeOf, readLongitude}
 use Rattle.mic_e.specs.declared.Field.{Field}
 use Rattle.mic_e.proofs.MotionFacts.{Moves}
 use Rattle.mic_e.proofs.LongitudeFacts.{Lies}
-use Rattle.mic_e.proofs.Turn.{bool-cases, lessIf-split, wrapped-plain, wrapped-mid, wrapped-high, wrapped-past}
+use Rattle.mic_e.proofs.Turn.{lessIf-split, wrapped-plain, wrapped-mid, wrapped-high, wrapped-past}
 use Rattle.fields.specs.Each.{each, field, cell, allFields}
 use Rattle.fields.specs.Lists.{isMotion, isLongitude, sameAngle, motionFields, longitudeFields}
 use Rattle.fields.specs.Search.{hits, sameSide}

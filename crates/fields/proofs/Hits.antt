@@ -1,12 +1,13 @@
 -- What it takes for a field to be on a list, in plain arithmetic, both ways; and the third bytes that go with two others.
 -- Assumes nothing.
 use mathlib.Core.Path.{_≡_, refl, sym, ap, subst, _∙_}
-use mathlib.Core.Bool.{Bool, true, false, cond, _&&_, false≢true}
+use mathlib.Core.Bool.{Bool, true, false, cond, false≢true}
 use Prim.Native.Nat.{ℕ, _+_, _-_, _≤_, _<_}
 use native.Mathlib.Omega.{arith}
 use lib.Dec.{ltb, eqb}
 use lib.IntN.{ℤ, pos, negsuc, natAbs}
 use borrow.Author.Tests.{eqb-true, eq-eqb, ltb-true, ltb-false}
+use Rattle.laws.proofs.Tests.{and-both}
 use Rattle.lonlat.specs.Angle.{signedOf}
 use Rattle.mic_e.specs.Motion.{readMotion}
 use Rattle.mic_e.specs.Longitude.{offsetOf, sizeOf, readLongitude}
@@ -25,16 +26,12 @@ use Rattle.fields.specs.declared.Third.the-variants.{At, Nowhere}
 use Rattle.fields.specs.declared.Base.the-variants.{Size}
 use Rattle.fields.proofs.Each.{cell-none, cell-one}
 
-and-parts : (a b : Bool) → (a && b) ≡ true → (a ≡ true) × (b ≡ true)
-and-parts true b e = (refl, e)
-and-parts false b e = absurd (false≢true e)
-
 -- ---- motion
 
 is-motion : (s t : ℕ) (m : Motion) → isMotion s t m ≡ true → m ≡ Motion-read (record { 0 = s }) (record { 0 = t })
 unfolding isMotion
 is-motion s t (Motion-read v d) e =
-    let q = and-parts (eqb (v .0) s) (eqb (d .0) t) e in
+    let q = and-both (eqb (v .0) s) (eqb (d .0) t) e in
     rw (← eqb-true (v .0) s (q .0), ← eqb-true (d .0) t (q .1))
 is-motion s t Motion-refused e = absurd (false≢true e)
 

@@ -12,11 +12,12 @@ use borrow.Author.Tests.{ltb-true, ltb-false, eqb-true, eqb-false, lt-ltb, le-lt
 use lib.Dec.{eqb, leb, ltb, leb→le}
 use lib.ListN.{length, length-append}
 use Rattle.laws.proofs.Every.{all-at}
+use Rattle.laws.proofs.Tests.{bool-cases}
 use Rattle.mic_e.specs.Turn.{lessIf}
 use Rattle.mic_e.specs.Longitude.{offsetOf, wrapped, sizeOf}
 use Rattle.mic_e.specs.declared.Field.{Field}
 use Rattle.mic_e.proofs.LongitudeFacts.{Lies}
-use Rattle.mic_e.proofs.Turn.{bool-cases, lessIf-split, wrapped-plain, wrapped-mid, wrapped-high, wrapped-past}
+use Rattle.mic_e.proofs.Turn.{lessIf-split, wrapped-plain, wrapped-mid, wrapped-high, wrapped-past}
 use Rattle.fields.specs.Each.{each, row, allFields, cell}
 use Rattle.fields.specs.Search.{hits}
 use Rattle.fields.specs.declared.Target.the-variants.{Lying, Moving}

@@ -9,9 +9,10 @@ use native.Mathlib.Omega.{arith}
 use borrow.Author.Tests.{leb-true, leb-false}
 use lib.Dec.{leb}
 use lib.ListN.{length}
+use Rattle.laws.proofs.Tests.{bool-cases}
 use Rattle.mic_e.specs.Motion.{knots, degrees}
 use Rattle.mic_e.proofs.MotionFacts.{Moves}
-use Rattle.mic_e.proofs.Turn.{bool-cases, lessIf-split}
+use Rattle.mic_e.proofs.Turn.{lessIf-split}
 use Rattle.fields.specs.Each.{cell, row, allFields}
 use Rattle.fields.specs.Search.{hits}
 use Rattle.fields.specs.declared.Target.the-variants.{Moving}

@@ -9,6 +9,7 @@ use Prim.Native.Nat.{ℕ, _≤_, _<_}
 use native.Mathlib.Omega.{arith}
 use lib.ListN.{length}
 use lib.IntN.{ℤ, natAbs}
+use Rattle.laws.proofs.Tests.{bool-cases}
 use Rattle.lonlat.specs.Angle.{mostLongitude, isMinus}
 use Rattle.mic_e.specs.Motion.{mostSpeed, mostCourse, readMotion, motionField}
 use Rattle.mic_e.specs.Longitude.{readLongitude, hundredOf, longitudeField}
@@ -21,7 +22,6 @@ use Rattle.mic_e.proofs.Theorems.{motion-reads-back, longitude-reads-back}
 use Rattle.fields.specs.Lists.{isMotion, isLongitude, motionFields, longitudeFields}
 use Rattle.fields.specs.Search.{hits, sameSide}
 use Rattle.fields.specs.declared.Target.the-variants.{Moving}
-use Rattle.mic_e.proofs.Turn.{bool-cases}
 use Rattle.fields.proofs.MotionMost.{motion-few}
 use Rattle.fields.proofs.LongitudeMost.{longitude-fewest}
 use Rattle.fields.proofs.Sides.{on-side, off-side}

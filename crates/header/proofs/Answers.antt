@@ -5,31 +5,33 @@ use mathlib.Core.Path.{_≡_, refl}
 use mathlib.Core.Logic.{inl}
 use mathlib.Core.Bool.{Bool, true, false, cond}
 use mathlib.Core.List.{List, [], _∷_}
-use Prim.Native.Nat.{ℕ, zero, suc, _+_, _-_, _*_, _≤_}
+use Prim.Native.Nat.{ℕ, suc, _+_, _-_, _*_, _≤_}
 use native.Mathlib.Omega.{arith}
 use lib.Dec.{eqb, ltb}
 use borrow.Author.Tests.{eqb-true, eqb-false, le-leb}
 use lib.ListN.{length, take, drop, replicate, length-drop}
 use lib.Seq.{take-at, drop-at}
 use Rattle.laws.specs.Bytes.{colon, greater}
-use Rattle.laws.specs.Lists.{indexOf, padTo, zeros}
+use Rattle.laws.specs.Lists.{indexOf, every, padTo, zeros}
+use Rattle.laws.proofs.Each.{every-replicate}
 use Rattle.laws.proofs.Places.{index-le}
 use Rattle.callsign.specs.declared.Callsign.{Callsign}
 use Rattle.callsign.specs.Text.{joined, made, blankCall, readText}
 use Rattle.callsign.specs.Address.{readAddress}
-use Rattle.callsign.specs.Range.{inRange}
+use Rattle.callsign.specs.Range.{inRange, isBlankCall}
+use Rattle.callsign.proofs.Made.{blank-range}
 use Rattle.callsign.proofs.Theorems.{text-is-in-range, address-is-in-range}
 use Rattle.header.specs.declared.Hop.{Hop}
 use Rattle.header.specs.declared.HeaderRead.{HeaderRead}
 use Rattle.header.specs.Header.{Hops, blankHop, pathOf, hopsOf, headerOf, blankHeader, pathRead, refusedBy, accepted, unlessRefused}
 use Rattle.header.specs.Text.{fields, firstOf, othersOf, withPath, readRoute, readBefore, readTextHeader}
 use Rattle.header.specs.Frame.{startsWithPair, withPair, readSource, readFrameHeader}
-use Rattle.header.specs.Range.{everyHop, hopInRange, isBlank, pathInRange, headerInRange}
-use Rattle.header.proofs.Walks.{InText, InFrame, Sound, none, some, either-sound, blank-range, call-in-text, text-sound, carried-sound, address-in-frame, frame-sound}
+use Rattle.header.specs.Range.{hopInRange, isBlank, pathInRange, headerInRange}
+use Rattle.header.proofs.Walks.{InText, InFrame, Sound, none, some, either-sound, call-in-text, text-sound, carried-sound, address-in-frame, frame-sound}
 
 pub data Answered (ok : ℕ → Type 0) (s : List ℕ) : HeaderRead → Type 0 where
   no : (n : ℕ) → ok n → Answered ok s (refusedBy n)
-  yes : (from to : Callsign) (l : List Hop) (body : ℕ) → inRange from ≡ true → inRange to ≡ true → length l ≤ 8 → everyHop hopInRange l ≡ true → body ≤ length s
+  yes : (from to : Callsign) (l : List Hop) (body : ℕ) → inRange from ≡ true → inRange to ≡ true → length l ≤ 8 → every hopInRange l ≡ true → body ≤ length s
       → Answered ok s (accepted from to (pathOf l) body)
 
 module _ (ok : ℕ → Type 0) (s : List ℕ) where
@@ -100,7 +102,7 @@ module _ (s : List ℕ) where
       (λ e. yes from to l (14 + 7 * pathOf l .count + 2) a b k q (pair-within s (14 + 7 * pathOf l .count) e)) (λ e. no 2 two-in-frame))
 
   source-answered : (to : Callsign) → inRange to ≡ true → Answered InFrame s (readSource to s)
-  unfolding readSource everyHop
+  unfolding readSource every
   source-answered to b =
       let from = take 7 (drop 7 s) in
       either InFrame s (ltb (length s) 14) (λ e. no 2 two-in-frame) (λ e.
@@ -119,23 +121,22 @@ module _ (s : List ℕ) where
 
 -- ---- what every such answer has
 
-blanks : (k : ℕ) → everyHop isBlank (replicate k blankHop) ≡ true
-unfolding everyHop isBlank blankHop blankCall made joined padTo zeros
-blanks zero = refl
-blanks (suc k) = blanks k
+blanks : (k : ℕ) → every isBlank (replicate k blankHop) ≡ true
+unfolding isBlank isBlankCall blankHop blankCall made joined padTo zeros
+blanks k = every-replicate isBlank blankHop refl k
 
-pub path-range : (l : List Hop) → length l ≤ 8 → everyHop hopInRange l ≡ true → pathInRange (pathOf l) ≡ true
+pub path-range : (l : List Hop) → length l ≤ 8 → every hopInRange l ≡ true → pathInRange (pathOf l) ≡ true
 unfolding pathInRange pathOf hopsOf padTo
 path-range l m q =
     rw (le-leb (length l) 8 m, take-at l (replicate (8 - length l) blankHop) (length l) refl, q, drop-at l (replicate (8 - length l) blankHop) (length l) refl) (blanks (8 - length l))
 
-header-range : (from to : Callsign) (l : List Hop) → inRange from ≡ true → inRange to ≡ true → length l ≤ 8 → everyHop hopInRange l ≡ true → headerInRange (headerOf from to (pathOf l)) ≡ true
+header-range : (from to : Callsign) (l : List Hop) → inRange from ≡ true → inRange to ≡ true → length l ≤ 8 → every hopInRange l ≡ true → headerInRange (headerOf from to (pathOf l)) ≡ true
 unfolding headerInRange headerOf
 header-range from to l a b m q = rw (a, b) (path-range l m q)
 
 module _ (ok : ℕ → Type 0) (s : List ℕ) where
   pub answered-range : {r : HeaderRead} → Answered ok s r → headerInRange (r .header) ≡ true
-  unfolding refusedBy blankHeader accepted everyHop
+  unfolding refusedBy blankHeader accepted every
   answered-range (no n p) = header-range blankCall blankCall [] blank-range blank-range (omega arith) refl
   answered-range (yes from to l body a b m q k) = header-range from to l a b m q
 

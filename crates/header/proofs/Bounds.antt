@@ -1,37 +1,38 @@
 -- How long a written header is at most: 178 bytes of text, 72 of a frame; and what the writers' last step gives.
 -- Assumes nothing.
 use mathlib.Core.Path.{_≡_, sym, ap, _∙_}
-use mathlib.Core.Bool.{Bool, true, false, not, cond, _&&_}
+use mathlib.Core.Bool.{Bool, true, false, not, _&&_}
 use mathlib.Core.List.{List, [], _∷_, _++_}
 use Prim.Native.Nat.{ℕ, _+_, _*_, _≤_}
 use native.Mathlib.Omega.{arith}
 use borrow.Author.Tests.{not-true, not-false}
 use lib.ListN.{length, take, length-append, length-take}
-use lib.Seq.{length-take-le}
 use Rattle.laws.specs.Bytes.{colon}
 use Rattle.laws.specs.declared.Answer.{Answer}
 use Rattle.laws.specs.Wrote.{ends, refusedBy, overBy, wrote}
-use Rattle.laws.proofs.Wrote.{refuses, not-over}
-use Rattle.callsign.specs.Range.{inRange, textOf, withStar}
+use Rattle.laws.specs.Lists.{every}
+use Rattle.laws.proofs.Lists.{part-length}
+use Rattle.laws.proofs.Each.{every-first, every-rest}
+use Rattle.laws.proofs.Wrote.{passed-on, not-over}
+use Rattle.callsign.specs.Range.{textOf, withStar}
+use Rattle.callsign.proofs.Ranges.{text-short, star-short}
 use Rattle.header.specs.declared.Hop.{Hop}
 use Rattle.header.specs.declared.Header.{Header}
 use Rattle.header.specs.Header.{hopsOf}
 use Rattle.header.specs.Text.{anyHeard, hopsText, routeText, headerText}
-use Rattle.header.specs.Range.{everyHop, hopInRange, headerInRange, textRefusal}
+use Rattle.header.specs.Range.{hopInRange, headerInRange, textRefusal}
 use Rattle.header.specs.Written.{Filled, filled, added}
 use Rattle.header.proofs.Built.{added-length, added-len, added-front}
-use Rattle.header.proofs.Calls.{text-short, star-short}
-use Rattle.header.proofs.InRange.{both-true, from-fine, to-fine, route-count, route-hops}
+use Rattle.header.proofs.InRange.{from-fine, to-fine, route-count, route-hops}
 
 -- ---- text
 
-hops-bound : (l : List Hop) → everyHop hopInRange l ≡ true → length (hopsText l) ≤ 18 * length l
-unfolding everyHop hopsText
+hops-bound : (l : List Hop) → every hopInRange l ≡ true → length (hopsText l) ≤ 18 * length l
+unfolding hopsText
 hops-bound [] e = omega arith
 hops-bound (h ∷ l) e =
-    let b = both-true (inRange (h .call)) (everyHop hopInRange l) e in
-    let m = star-short (h .call) (h .heard && not (anyHeard l)) (b .0) in
-    let r = hops-bound l (b .1) in
+    let m = star-short (h .call) (h .heard && not (anyHeard l)) (every-first hopInRange h l e) in
+    let r = hops-bound l (every-rest hopInRange h l e) in
     omega (arith, length-append (withStar (textOf (h .call)) (h .heard && not (anyHeard l))) (hopsText l))
 
 module _ (h : Header) (e : headerInRange h ≡ true) where
@@ -59,7 +60,7 @@ range-held u h e t = sym e ∙ not-false u t
 
 pub text-out : (u : Bool) (h : Header) (r : Answer) (out : List ℕ) → u ≡ headerInRange h → not u ≡ true → r ≡ refusedBy 15 → ends r out ≡ wrote (textRefusal h) (headerText h) out
 unfolding textRefusal
-text-out u h r out e t q = rw q (refuses 15 (cond (headerInRange h) 0 15) (headerText h) out (rw (← e, not-true u t)) (λ z. omega arith))
+text-out u h r out e t q = passed-on r 15 (textRefusal h) (headerText h) out q (λ z. omega arith) (rw (← e, not-true u t))
 
 -- ---- what was put into the scratch array
 
@@ -74,7 +75,7 @@ module _ (v t l : List ℕ) (n m : ℕ) (q : filled t n ≡ added (filled v 0) l
   put-within = let x = put-count in let y = put-long in omega arith
 
   pub put-prefix : n ≡ length (take n t)
-  put-prefix = sym (length-take-le n t put-within)
+  put-prefix = part-length t n put-within
 
   pub put-front : take n t ≡ l
   put-front = rw (ap (λ (f : Filled). f .len) q, ap (λ (f : Filled). f .bytes) q) (added-front v l)

@@ -12,8 +12,8 @@ use borrow.Rule.Slice.PartAt.{part-to-end}
 use lib.ListN.{length, take, drop, set, length-append, length-drop, take-append-drop}
 use lib.Seq.{set-split, drop-drop, take-at, length-take-le, drop-length, drop-append-add}
 use Rattle.laws.specs.declared.Answer.{Answer}
-use Rattle.laws.specs.Wrote.{Wrote, ends, doneBy, wrote}
-use Rattle.laws.proofs.Wrote.{writes}
+use Rattle.laws.specs.Wrote.{ends, wrote}
+use Rattle.laws.proofs.Answers.{reported-is, bytes-are}
 use Rattle.header.specs.Written.{Filled, filled, added}
 
 -- ---- one piece after another
@@ -68,20 +68,14 @@ unfolding added
 added-byte v at x h = rw (set-split v at x h, add-one)
 
 module _ (v t last : List ℕ) (at k : ℕ) (w : Answer) (q : ends w last ≡ wrote k t (take (length v - at) (drop at v))) (z : k ≡ 0) (m : at + length t ≤ length v) where
-  left : take (length v - at) (drop at v) ≡ drop at v
-  left = part-to-end v at
-
-  fits : length t ≤ length (drop at v)
-  fits = rw length-drop (omega arith)
-
-  does : ends w last ≡ ends (doneBy (length t)) (t ++ drop (length t) (drop at v))
-  does = q ∙ rw left (sym (writes k (length t) t (drop at v) (t ++ drop (length t) (drop at v)) z refl fits refl))
+  fits : length t ≤ length (take (length v - at) (drop at v))
+  fits = rw (part-to-end v at, length-drop) (omega arith)
 
   says : w .reported ≡ length t
-  says = ap (λ (x : Wrote). x .answer .reported) does
+  says = reported-is w last t (take (length v - at) (drop at v)) k q z fits
 
   leaves : last ≡ t ++ drop (length t) (drop at v)
-  leaves = ap (λ (x : Wrote). x .buffer) does
+  leaves = bytes-are w last t (take (length v - at) (drop at v)) k q z fits ∙ rw (part-to-end v at)
 
   pub part-fits : length v < 2 ^ 64 → Fits w64 (at + w .reported)
   part-fits b = let e = says in record { fits = omega arith }

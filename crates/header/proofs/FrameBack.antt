@@ -17,14 +17,13 @@ use Rattle.callsign.specs.Address.{readAddress}
 use Rattle.callsign.specs.Packed.{writeAddress}
 use Rattle.callsign.proofs.Bits.{heardIn}
 use Rattle.callsign.proofs.Characters.{address-as}
-use Rattle.callsign.proofs.AddressBack.{inAddress}
+use Rattle.callsign.proofs.AddressBack.{inAddress, address-seven}
 use Rattle.callsign.proofs.Theorems.{address-reads-back}
 use Rattle.header.specs.declared.Hop.{Hop}
 use Rattle.header.specs.declared.Header.{Header}
 use Rattle.header.specs.Header.{these, before, pathOf, hopsOf, pathRead, accepted, unlessRefused}
 use Rattle.header.specs.Frame.{pair, startsWithPair, addressHop, addressThen, frameHops, withPair, readSource, readFrameHeader, isNone, hopAddresses, addresses, firstRefusal, joined, headerFrame}
 use Rattle.header.specs.Range.{headerInRange, frameRefusal}
-use Rattle.header.proofs.Calls.{address-seven}
 use Rattle.header.proofs.InRange.{route-count}
 use Rattle.header.proofs.Frames.{destination-read}
 use Rattle.header.proofs.Sent.{first-none, hops-length}

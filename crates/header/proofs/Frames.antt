@@ -1,6 +1,6 @@
 -- The header of a frame, place by place: destination, source, hops, and the control pair behind the addresses.
 -- Assumes nothing.
-use mathlib.Core.Path.{_≡_, refl, sym, ap, _∙_}
+use mathlib.Core.Path.{_≡_, refl, ap, _∙_}
 use mathlib.Core.Bool.{true, false}
 use mathlib.Core.List.{List, [], _∷_}
 use Prim.Native.Nat.{ℕ, _+_, _-_, _*_, _<_, _≤_}
@@ -8,7 +8,6 @@ use native.Mathlib.Omega.{arith}
 use borrow.Author.Tests.{eq-eqb, ne-eqb, lt-ltb, le-ltb}
 use borrow.Rule.Slice.PartAt.{part-to-end}
 use lib.ListN.{length, getD, take, drop, length-drop}
-use lib.Seq.{length-take-le}
 use Rattle.laws.proofs.Lists.{next}
 use Rattle.callsign.specs.declared.Callsign.{Callsign}
 use Rattle.callsign.specs.declared.AddressRead.{AddressRead}
@@ -110,9 +109,6 @@ module _ (to : Callsign) (s : List ℕ) (r : HeaderRead) where
       source-hops l e = rw (le-ltb (length s) 14 h, ← q, eq-eqb (from .refusal) 0 z, l, ← part-to-end s 14) (rw e at w)
 
 -- ---- the frame
-
-pub seven-front : (s : List ℕ) → 7 ≤ length s → 7 ≡ length (take 7 s)
-seven-front s h = sym (length-take-le 7 s h)
 
 module _ (s : List ℕ) (r : HeaderRead) (m : length s ≤ 512) where
   pub no-destination : length s < 7 → r ≡ refusedBy 2 → r ≡ readFrameHeader s

@@ -5,8 +5,9 @@ use mathlib.Core.List.{List, [], _∷_, _++_, append-assoc, append-nil}
 use Prim.Native.Nat.{ℕ, suc, _+_, _-_, _<_, _≤_}
 use native.Mathlib.Omega.{arith}
 use lib.ListN.{length, take, drop, set, replicate, length-append}
-use lib.Seq.{set-append-seam, take-at, drop-at, append-snoc}
+use lib.Seq.{take-at, drop-at}
 use Rattle.laws.specs.Lists.{padTo}
+use Rattle.laws.proofs.Lists.{pad-set}
 use Rattle.header.specs.declared.Hop.{Hop}
 use Rattle.header.specs.Header.{Hops, refused, these, before, blankHop, pathOf, pathRead}
 use Rattle.header.specs.Text.{carried, carriedBack}
@@ -25,13 +26,6 @@ after-one : (hs : List Hop) (h : Hop) (w : Hops) → after hs (before h w) ≡ a
 unfolding after before
 after-one hs h (refused n) = refl
 after-one hs h (these l) = ap these (sym (append-assoc hs (h ∷ []) l))
-
-pub padded-set : (l : List Hop) (h : Hop) → length l < 8 → set (padTo 8 blankHop l) (length l) h ≡ padTo 8 blankHop (l ++ h ∷ [])
-unfolding padTo
-padded-set l h m =
-    let e : 8 - length l ≡ suc (7 - length l) = omega arith in
-    let e′ : 8 - (length l + 1) ≡ 7 - length l = omega arith in
-    rw (e, length-append l (h ∷ []), e′) (set-append-seam l blankHop (replicate (7 - length l) blankHop) h ∙ sym (append-snoc l h (replicate (7 - length l) blankHop)))
 
 pub length-carried : (l : List Hop) → length (carried l) ≡ length l
 unfolding carried
@@ -62,7 +56,7 @@ module _ (whole rest : Hops) (hops : List Hop) (n : ℕ) (g : Going whole rest h
         done = g .done ++ h ∷ [];
         count = length-append (g .done) (h ∷ []) ∙ rw (g .count);
         few = omega arith;
-        held = rw (g .held, ← g .count) (padded-set (g .done) h (rw (g .count) m));
+        held = rw (g .held) (pad-set 8 blankHop (g .done) n h (g .count) m);
         agrees = g .agrees ∙ rw e (after-one (g .done) h later);
       }
 

@@ -2,15 +2,12 @@
 -- Assumes nothing.
 use mathlib.Core.Path.{_≡_, sym, _∙_}
 use mathlib.Core.List.{List}
-use Prim.Native.Nat.{ℕ, suc, _+_, _-_, _^_, _<_, _≤_}
+use Prim.Native.Nat.{ℕ, suc, _+_, _-_, _<_, _≤_}
 use native.Mathlib.Numerals.{add-one}
 use native.Mathlib.Omega.{arith}
-use mir.Val.{Fits}
-use mir.Syntax.{w64}
 use borrow.Author.Tests.{eq-eqb, ne-eqb, le-ltb}
 use borrow.Rule.Slice.PartAt.{part-to-end}
 use lib.ListN.{length, take, drop}
-use lib.Seq.{length-take-le}
 use Rattle.laws.specs.Bytes.{comma, colon, greater}
 use Rattle.laws.specs.Lists.{indexOf}
 use Rattle.laws.proofs.Places.{index-le}
@@ -22,18 +19,6 @@ use Rattle.header.specs.declared.HeaderRead.{HeaderRead}
 use Rattle.header.specs.Header.{refused, pathRead, refusedBy, unlessRefused}
 use Rattle.header.specs.Text.{fields, firstOf, othersOf, textHops, carried, carriedBack, withPath, readRoute, readBefore, readTextHeader}
 use Rattle.header.proofs.TextHops.{fields-one, fields-two, fields-some, no-parts}
-
--- ---- a place that a search found
-
-module _ (b : ℕ) (t : List ℕ) (d : ℕ) (f : d ≡ indexOf b t) where
-  pub found-part : d ≡ length (take d t)
-  found-part = sym (length-take-le d t (omega (arith, index-le b t)))
-
-  pub found-next : (d ≡ length t → ⊥) → d + 1 ≤ length t
-  found-next h = omega (arith, index-le b t)
-
-  pub found-fits : (d ≡ length t → ⊥) → length t < 2 ^ 64 → Fits w64 (d + 1)
-  found-fits h m = record { fits = omega (arith, index-le b t) }
 
 rest-at : (t : List ℕ) (d : ℕ) → take (length t - (d + 1)) (drop (d + 1) t) ≡ drop (suc d) t
 rest-at t d = part-to-end t (d + 1) ∙ rw add-one

@@ -1,10 +1,8 @@
 pub mod Stars
-pub mod EveryHop
 pub mod Going
 pub mod TextHops
 pub mod Heads
 pub mod Built
-pub mod Calls
 pub mod InRange
 pub mod TextWritten
 pub mod Bounds

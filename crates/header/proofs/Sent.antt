@@ -12,10 +12,11 @@ use lib.ListN.{length, take, drop, getD, length-append, length-take}
 use lib.Seq.{slice, slice-cons, slice-empty, length-slice}
 use Rattle.laws.specs.declared.Answer.{Answer}
 use Rattle.laws.specs.Wrote.{ends, refusedBy, overBy, wrote}
-use Rattle.laws.proofs.Wrote.{refuses, not-over}
+use Rattle.laws.proofs.Wrote.{passed-on, not-over}
 use Rattle.callsign.specs.declared.AddressWritten.{AddressWritten}
 use Rattle.callsign.specs.declared.Field.the-variants.{Destination, Source, Hop as HopField}
 use Rattle.callsign.specs.Packed.{writeAddress}
+use Rattle.callsign.proofs.AddressBack.{address-seven}
 use Rattle.header.specs.declared.Hop.{Hop}
 use Rattle.header.specs.declared.Header.{Header}
 use Rattle.header.specs.Header.{hopsOf}
@@ -24,7 +25,6 @@ use Rattle.header.specs.Range.{headerInRange, frameRefusal}
 use Rattle.header.specs.Written.{Filled, filled, added, Placed, placed, addedAll}
 use Rattle.header.proofs.Built.{added-added, added-none, added-length, added-len, part-added}
 use Rattle.header.proofs.Bounds.{put-within, put-prefix, put-front}
-use Rattle.header.proofs.Calls.{address-seven}
 use Rattle.header.proofs.InRange.{route-count}
 
 -- ---- one address
@@ -272,7 +272,7 @@ frame-bound h z = go (headerInRange h) refl z
 
 pub frame-out : (u : Bool) (h : Header) (r : Answer) (out : List ℕ) → u ≡ headerInRange h → not u ≡ true → r ≡ refusedBy 15 → ends r out ≡ wrote (frameRefusal h) (headerFrame h) out
 unfolding frameRefusal
-frame-out u h r out e t q = rw q (refuses 15 (cond (headerInRange h) (firstRefusal (addresses h)) 15) (headerFrame h) out (rw (← e, not-true u t)) (λ z. omega arith))
+frame-out u h r out e t q = passed-on r 15 (frameRefusal h) (headerFrame h) out q (λ z. omega arith) (rw (← e, not-true u t))
 
 module _ (h : Header) (v : List ℕ) (r : ℕ) (b : List ℕ) (n : ℕ) (e : headerInRange h ≡ true) (q : placed r b n ≡ addedAll (filled v 0) (addresses h)) where
   its-refusal : frameRefusal h ≡ r
@@ -280,7 +280,7 @@ module _ (h : Header) (v : List ℕ) (r : ℕ) (b : List ℕ) (n : ℕ) (e : hea
   its-refusal = rw e (sym (ap (λ (x : Placed). x .refusal) q ∙ refusal-is (filled v 0) (addresses h)))
 
   pub frame-refused : (a : Answer) (out : List ℕ) → (r ≡ 0 → ⊥) → a ≡ refusedBy r → ends a out ≡ wrote (frameRefusal h) (headerFrame h) out
-  frame-refused a out z w = rw w (refuses r (frameRefusal h) (headerFrame h) out its-refusal z)
+  frame-refused a out z w = passed-on a r (frameRefusal h) (headerFrame h) out w z its-refusal
 
   module _ (z : r ≡ 0) (room : 70 ≤ length v) where
     fine : firstRefusal (addresses h) ≡ 0

@@ -15,7 +15,7 @@ use lib.ListN.{length, length-drop, take, drop, set, replicate}
 use lib.Seq.{take-length}
 use Rattle.laws.specs.Bytes.{comma}
 use Rattle.laws.specs.Lists.{indexOf}
-use Rattle.laws.proofs.Places.{index-le}
+use Rattle.laws.proofs.Places.{index-le, found-next}
 use Rattle.header.specs.declared.Hop.{Hop}
 use Rattle.header.specs.declared.HopRead.{HopRead}
 use Rattle.header.specs.declared.PathRead.{PathRead}
@@ -111,14 +111,11 @@ module _ (s t : List ℕ) (hops : List Hop) (n : ℕ) (g : Reading s t hops n) w
         let p : fields t ≡ take e t ∷ [] = fields-one t (sym f ∙ l) ∙ rw (l, take-length) in
         record { going = rw (← no-parts (8 - (n + 1))) (goes [] p z) }
 
-    pub hop-next : (e ≡ length t → ⊥) → e + 1 ≤ length t
-    hop-next l = omega (arith, index-le comma t)
-
     pub hop-fits : (e ≡ length t → ⊥) → length s < 2 ^ 64 → Fits w64 (e + 1)
-    hop-fits l b = let w = g .within in let x = hop-next l in record { fits = omega arith }
+    hop-fits l b = let w = g .within in let x = found-next comma t e f l in record { fits = omega arith }
 
     pub hop-less : (e ≡ length t → ⊥) → length (take (length t - (e + 1)) (drop (e + 1) t)) < length t
-    hop-less l = let x = hop-next l in rw (part-to-end t (e + 1), length-drop) (omega arith)
+    hop-less l = let x = found-next comma t e f l in rw (part-to-end t (e + 1), length-drop) (omega arith)
 
     pub hop-more : h .refusal ≡ 0 → (e ≡ length t → ⊥) → Reading s (take (length t - (e + 1)) (drop (e + 1) t)) (set hops n (h .hop)) (n + 1)
     hop-more z l =

@@ -12,16 +12,17 @@ use lib.Dec.{eqb}
 use lib.ListN.{length, take, getD, set, length-set, length-append}
 use lib.Seq.{slice, slice-cons, slice-empty, getD-take, length-take-le}
 use Rattle.laws.specs.Bytes.{comma, greater}
+use Rattle.laws.specs.Lists.{every}
 use Rattle.callsign.specs.Range.{inRange, textOf, withStar}
+use Rattle.callsign.proofs.Ranges.{text-short, star-short}
 use Rattle.header.specs.declared.Hop.{Hop}
 use Rattle.header.specs.declared.Header.{Header}
 use Rattle.header.specs.Header.{hopsOf}
-use Rattle.header.specs.Range.{everyHop, hopInRange, headerInRange}
+use Rattle.header.specs.Range.{hopInRange, headerInRange}
 use Rattle.header.specs.Text.{anyHeard, hopsText, routeText}
 use Rattle.header.specs.Written.{Filled, filled, added, heardUpTo}
 use Rattle.header.proofs.Stars.{star-at}
 use Rattle.header.proofs.Built.{added-added, added-none, added-length, added-len, added-byte}
-use Rattle.header.proofs.Calls.{text-short, star-short}
 use Rattle.header.proofs.InRange.{hop-fine, from-fine, to-fine}
 
 -- i of the hops are put, and at is the place behind them
@@ -36,7 +37,7 @@ pub putting-start : (text₀ : List ℕ) (from : ℕ) (hops : List Hop) (n : ℕ
 putting-start text₀ from hops n k = record { few = k; up = omega arith; small = omega arith; whole = refl; rest = refl }
 
 module _ (text₀ : List ℕ) (from : ℕ) (hops : List Hop) (n : ℕ) (text : List ℕ) (at i : ℕ) (d : Hop) (last : ℕ)
-    (e : everyHop hopInRange (take n hops) ≡ true) (f : length hops ≡ 8) (g : Putting text₀ from hops n text at i) (lt : i < n) (room : from + 144 ≤ length text₀)
+    (e : every hopInRange (take n hops) ≡ true) (f : length hops ≡ 8) (g : Putting text₀ from hops n text at i) (lt : i < n) (room : from + 144 ≤ length text₀)
     (el : last ≡ heardUpTo (take n hops)) where
   abbrev hop : Hop
   hop = getD hops i d

@@ -5,13 +5,14 @@ ghost use mathlib.Core.Bool.{true, _||_};
 ghost use mathlib.Core.List.{[], _∷_, _++_};
 ghost use Prim.Native.Nat.{_+_, _≤_};
 ghost use lib.ListN.{length, take, drop};
+ghost use Rattle.laws.specs.Lists.{every};
 ghost use Rattle.laws.specs.Wrote.{ends, wrote};
 ghost use Rattle.callsign.specs.Range.{inRange, textOf, withStar};
 ghost use Rattle.callsign.specs.Packed.{writeAddress};
 ghost use Rattle.header.specs.Header.{blankHop, blankHeader, refusedBy, pathRead, refused};
 ghost use Rattle.header.specs.Text.{fields, isQ, readHop, textHops, carried, carriedBack, withPath, readRoute, readBefore, readTextHeader, hopsText, routeText, headerText};
 ghost use Rattle.header.specs.Frame.{frameHops, withPair, readSource, readFrameHeader, hopAddresses, addresses, headerFrame};
-ghost use Rattle.header.specs.Range.{everyHop, hopInRange, isBlank, pathInRange, headerInRange, textRefusal, frameRefusal};
+ghost use Rattle.header.specs.Range.{hopInRange, isBlank, pathInRange, headerInRange, textRefusal, frameRefusal};
 ghost use Rattle.header.specs.Written.{filled, added, placed, addedAll, heardUpTo};
 use callsign::Callsign;
 use callsign::Field;
@@ -387,27 +388,21 @@ pub fn read_frame(s: &[u8]) -> HeaderRead
 
 // ---- the range
 
-// A hop with nothing in it. A callsign in range whose lengths are 0 is all zero.
+// A hop with nothing in it, and not heard.
 fn is_blank(h: Hop) -> bool
     ensures { λ r. ⌜ r ≡ isBlank h ⌝ }
 {
-    let call = h.call;
-    if call.call_len != 0 {
-        return false;
-    }
-    if call.ssid_len != 0 {
-        return false;
-    }
     if h.heard {
         return false;
     }
-    callsign::in_range(call)
+    let call = h.call;
+    callsign::is_blank(call)
 }
 
 // Whether the callsigns of the first n hops are in range.
 fn calls_in_range(hops: [Hop; 8], n: usize) -> bool
     requires { ⌜ n ≤ 8 ⌝ }
-    ensures { λ r. ⌜ r ≡ everyHop hopInRange (take n hops) ⌝ }
+    ensures { λ r. ⌜ r ≡ every hopInRange (take n hops) ⌝ }
 {
     let mut i: usize = 0;
     while i < n {
@@ -424,7 +419,7 @@ fn calls_in_range(hops: [Hop; 8], n: usize) -> bool
 // Whether the hops from n on are blank.
 fn spare_blank(hops: [Hop; 8], n: usize) -> bool
     requires { ⌜ n ≤ 8 ⌝ }
-    ensures { λ r. ⌜ r ≡ everyHop isBlank (drop n hops) ⌝ }
+    ensures { λ r. ⌜ r ≡ every isBlank (drop n hops) ⌝ }
 {
     let mut i = n;
     while i < 8 {
@@ -498,7 +493,7 @@ fn put_call(c: Callsign, starred: bool, text: &mut [u8], at: usize) -> usize
 
 // Puts each of the first n hops after a comma, with a star after the last that was heard.
 fn put_hops(hops: [Hop; 8], n: usize, text: &mut [u8], from: usize) -> usize
-    requires { ⌜ (n ≤ 8) × (everyHop hopInRange (take n hops) ≡ true) × (from + 144 ≤ length (now text)) ⌝ }
+    requires { ⌜ (n ≤ 8) × (every hopInRange (take n hops) ≡ true) × (from + 144 ≤ length (now text)) ⌝ }
     ensures { λ r. ⌜ filled (now (text .exit)) r ≡ added (filled (now (text .entry)) from) (hopsText (take n hops)) ⌝ }
 {
     let last = heard_up_to(hops, n);

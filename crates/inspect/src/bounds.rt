@@ -1,12 +1,12 @@
 // Request B: the bounds of an angle as floats, and its box on the page.
 use crate::put;
-use crate::words;
-use crate::words::Angle;
-use crate::words::Count;
+use crate::request;
 use lonlat::Latitude;
 use lonlat::Longitude;
 use position::BoundsAnswer;
 use position::PageBox;
+use words::Count;
+use words::Number;
 
 fn put_bounds(b: BoundsAnswer, page: PageBox, out: &mut [u8], at: usize) -> usize {
     let mut end = put::count(b"", b.refusal as usize, out, at);
@@ -18,7 +18,7 @@ fn put_bounds(b: BoundsAnswer, page: PageBox, out: &mut [u8], at: usize) -> usiz
 
 // `LIMIT`, the end of `B ANGLE BLANKS LIMIT`
 fn bounds_of(angle: i32, blanks: u8, limit: &[u8], out: &mut [u8], at: usize) -> usize {
-    let which = words::either(limit, b"lat", b"lon");
+    let which = request::either(limit, b"lat", b"lon");
     if which == 0 {
         let bounds = position::latitude_bounds(Latitude(angle), blanks);
         return put_bounds(
@@ -42,12 +42,12 @@ fn bounds_of(angle: i32, blanks: u8, limit: &[u8], out: &mut [u8], at: usize) ->
 
 // `B ANGLE BLANKS LIMIT`
 pub fn answer(s: &[u8], out: &mut [u8], at: usize) -> usize {
-    let read = words::signed(words::first(s));
-    let Angle::Is(angle) = read else {
+    let read = words::read_number(words::first(s));
+    let Number::Is(angle) = read else {
         return at;
     };
     let s = words::rest(s);
-    let read = words::number(words::first(s), 255);
+    let read = words::read_count(words::first(s), 255);
     let Count::Is(blanks) = read else {
         return at;
     };

@@ -1,18 +1,18 @@
 // Requests M and L: the fields that read as a motion or as a longitude.
 use crate::put;
-use crate::words;
-use crate::words::Angle;
-use crate::words::Count;
+use crate::request;
 use lonlat::Longitude;
 use mic_e::Course;
 use mic_e::Speed;
+use words::Count;
+use words::Number;
 
 // What a lister or writer answered, and the whole buffer afterwards.
 pub fn put_answer(w: laws::Answer, buffer: &[u8], out: &mut [u8], at: usize) -> usize {
     let mut end = put::count(b"", w.refusal as usize, out, at);
     end = put::count(b" ", w.reported, out, end);
     end = put::count(b" ", w.needed, out, end);
-    end = put::byte(b' ', out, end);
+    end = words::put_byte(b' ', out, end);
     put::hex(buffer, out, end)
 }
 
@@ -38,11 +38,11 @@ fn list_longitude(
 
 // `COURSE ROOM`, the rest of `M SPEED COURSE ROOM`
 fn motion_of(speed: u32, s: &[u8], out: &mut [u8], at: usize) -> usize {
-    let read = words::number(words::first(s), 0xffff_ffff);
+    let read = words::read_count(words::first(s), 0xffff_ffff);
     let Count::Is(course) = read else {
         return at;
     };
-    let read = words::number(words::rest(s), 512);
+    let read = words::read_count(words::rest(s), 512);
     let Count::Is(most) = read else {
         return at;
     };
@@ -54,7 +54,7 @@ fn motion_of(speed: u32, s: &[u8], out: &mut [u8], at: usize) -> usize {
 
 // `M SPEED COURSE ROOM`
 pub fn motion(s: &[u8], out: &mut [u8], at: usize) -> usize {
-    let read = words::number(words::first(s), 0xffff_ffff);
+    let read = words::read_count(words::first(s), 0xffff_ffff);
     let Count::Is(speed) = read else {
         return at;
     };
@@ -70,7 +70,7 @@ fn longitude_of(
     out: &mut [u8],
     at: usize,
 ) -> usize {
-    let read = words::number(s, 512);
+    let read = words::read_count(s, 512);
     let Count::Is(most) = read else {
         return at;
     };
@@ -82,14 +82,14 @@ fn longitude_of(
 
 // `L ANGLE OFFSET SIDE ROOM`
 pub fn longitude(s: &[u8], out: &mut [u8], at: usize) -> usize {
-    let read = words::signed(words::first(s));
-    let Angle::Is(angle) = read else {
+    let read = words::read_number(words::first(s));
+    let Number::Is(angle) = read else {
         return at;
     };
     let s = words::rest(s);
-    let offset = words::either(words::first(s), b"0", b"100");
+    let offset = request::either(words::first(s), b"0", b"100");
     let s = words::rest(s);
-    let side = words::either(words::first(s), b"E", b"W");
+    let side = request::either(words::first(s), b"E", b"W");
     if 1 < offset {
         return at;
     }

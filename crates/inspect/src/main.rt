@@ -4,7 +4,7 @@ mod bounds;
 mod list;
 mod put;
 mod read;
-mod words;
+mod request;
 mod write;
 
 // How much of the input is held, how much of the output is in use, and whether the rest of an over-long request is
@@ -55,9 +55,9 @@ fn answer(over: bool, request: &[u8], out: &mut [u8], used: usize) -> usize {
     let at = roomy(out, used);
     let end = answered(request, out, at);
     if end == at {
-        return put::text(b"bad request\n", out, at);
+        return words::put(b"bad request\n", out, at);
     }
-    put::byte(b'\n', out, end)
+    words::put_byte(b'\n', out, end)
 }
 
 // Answers the requests of input that have an LF; `held` is then the place behind the last one.
@@ -87,27 +87,10 @@ fn serve(input: &[u8], out: &mut [u8], used: usize, passing: bool) -> State {
     }
 }
 
-// Moves the bytes from the place `from` up to `to` to the front of input; answers how many they are.
-fn shift(input: &mut [u8], from: usize, to: usize) -> usize {
-    if input.len() < to {
-        return 0;
-    }
-    if to < from {
-        return 0;
-    }
-    let n = to - from;
-    let mut i: usize = 0;
-    while i < n {
-        input[i] = input[from + i];
-        i += 1;
-    }
-    n
-}
-
 // Answers what is held, and keeps the request begun; one that is too long already is answered and passed over.
 fn step(input: &mut [u8], out: &mut [u8], held: usize, used: usize, passing: bool) -> State {
     let after = serve(words::cut(input, held), out, used, passing);
-    let kept = shift(input, after.held, held);
+    let kept = words::shift(input, after.held, held);
     if 4096 < kept {
         let end = answer(after.passing, words::cut(input, kept), out, after.used);
         return State {

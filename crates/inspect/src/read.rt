@@ -1,7 +1,7 @@
 // Requests T and F: a line or a frame read, its record shown, and the record written again.
 use crate::put;
-use crate::words;
-use crate::words::Bytes;
+use crate::request;
+use crate::request::Bytes;
 use callsign::Callsign;
 use header::Hop;
 use header::Path;
@@ -12,47 +12,25 @@ use packet::Record;
 use packet::Report;
 use position::Place;
 
-// The number of a message: the standard ones, the custom ones, and the last two.
-fn message_number(m: Message) -> u8 {
-    match m {
-        Message::M0 => 0,
-        Message::M1 => 1,
-        Message::M2 => 2,
-        Message::M3 => 3,
-        Message::M4 => 4,
-        Message::M5 => 5,
-        Message::M6 => 6,
-        Message::C0 => 7,
-        Message::C1 => 8,
-        Message::C2 => 9,
-        Message::C3 => 10,
-        Message::C4 => 11,
-        Message::C5 => 12,
-        Message::C6 => 13,
-        Message::Emergency => 14,
-        Message::Unknown => 15,
-    }
-}
-
 fn put_message(m: Message, out: &mut [u8], at: usize) -> usize {
-    let n = message_number(m);
+    let n = mic_e::message_number(m);
     if n < 14 {
         let names = b"M0M1M2M3M4M5M6C0C1C2C3C4C5C6";
         let from = (n as usize) * 2;
-        return put::text(words::cut(words::tail(names, from), 2), out, at);
+        return words::put(words::cut(words::tail(names, from), 2), out, at);
     }
     if n == 14 {
-        return put::text(b"emergency", out, at);
+        return words::put(b"emergency", out, at);
     }
-    put::text(b"unknown", out, at)
+    words::put(b"unknown", out, at)
 }
 
 // The answer 0 and the kind.
 fn put_kind(kind: Kind, out: &mut [u8], at: usize) -> usize {
     match kind {
-        Kind::Unknown => put::text(b"0 unknown", out, at),
-        Kind::Position => put::text(b"0 position", out, at),
-        Kind::MicE => put::text(b"0 mic-e", out, at),
+        Kind::Unknown => words::put(b"0 unknown", out, at),
+        Kind::Position => words::put(b"0 position", out, at),
+        Kind::MicE => words::put(b"0 mic-e", out, at),
     }
 }
 
@@ -60,7 +38,7 @@ fn put_kind(kind: Kind, out: &mut [u8], at: usize) -> usize {
 fn put_call(label: &[u8], c: Callsign, out: &mut [u8], at: usize) -> usize {
     let n = capture::text_len(c);
     let text = c.text;
-    let end = put::text(label, out, at);
+    let end = words::put(label, out, at);
     put::hex(words::cut(&text, n), out, end)
 }
 
@@ -68,13 +46,13 @@ fn put_call(label: &[u8], c: Callsign, out: &mut [u8], at: usize) -> usize {
 fn put_hop(hop: Hop, first: bool, out: &mut [u8], at: usize) -> usize {
     let call = hop.call;
     let end = put_call(words::cut(b",", !first as usize), call, out, at);
-    put::text(words::cut(b"*", hop.heard as usize), out, end)
+    words::put(words::cut(b"*", hop.heard as usize), out, end)
 }
 
 fn put_hops(path: Path, out: &mut [u8], at: usize) -> usize {
-    let mut end = put::text(b" hops=", out, at);
+    let mut end = words::put(b" hops=", out, at);
     if path.count == 0 {
-        return put::byte(b'-', out, end);
+        return words::put_byte(b'-', out, end);
     }
     let mut i: usize = 0;
     while i < 8 {
@@ -104,10 +82,10 @@ fn put_symbol(p: Place, flag: bool, out: &mut [u8], at: usize) -> usize {
 
 // Only Mic-E has a message.
 fn put_word(kind: Kind, m: Message, out: &mut [u8], at: usize) -> usize {
-    let end = put::text(b" message=", out, at);
+    let end = words::put(b" message=", out, at);
     match kind {
-        Kind::Unknown => put::byte(b'-', out, end),
-        Kind::Position => put::byte(b'-', out, end),
+        Kind::Unknown => words::put_byte(b'-', out, end),
+        Kind::Position => words::put_byte(b'-', out, end),
         Kind::MicE => put_message(m, out, end),
     }
 }
@@ -133,9 +111,9 @@ fn put_body(r: Record, out: &mut [u8], at: usize) -> usize {
 // What a writer answered, and what it wrote.
 fn put_written(label: &[u8], w: laws::Answer, bytes: &[u8], out: &mut [u8], at: usize) -> usize {
     let mut end = put::count(label, w.refusal as usize, out, at);
-    end = put::byte(b':', out, end);
+    end = words::put_byte(b':', out, end);
     if w.refusal != 0 {
-        return put::byte(b'-', out, end);
+        return words::put_byte(b'-', out, end);
     }
     put::hex(words::cut(bytes, w.reported), out, end)
 }
@@ -187,7 +165,7 @@ fn put_read(read: PacketRead, line: &[u8], out: &mut [u8], at: usize) -> usize {
 // `T HEX` and `F HEX`
 pub fn answer(frame: bool, s: &[u8], out: &mut [u8], at: usize) -> usize {
     let mut bytes = [0u8; 2048];
-    let read = words::unhex(s, &mut bytes);
+    let read = request::unhex(s, &mut bytes);
     let Bytes::Are(n) = read else {
         return at;
     };

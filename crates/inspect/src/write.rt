@@ -1,10 +1,7 @@
 // Request W: a record made by hand, written as a line or a frame. Words that make no record give one that is not good.
 use crate::list::put_answer;
-use crate::put;
-use crate::words;
-use crate::words::Angle;
-use crate::words::Bytes;
-use crate::words::Count;
+use crate::request;
+use crate::request::Bytes;
 use callsign::Callsign;
 use header::Header;
 use header::Hop;
@@ -19,6 +16,8 @@ use packet::Kind;
 use packet::Record;
 use packet::Report;
 use position::Place;
+use words::Count;
+use words::Number;
 
 struct CallWord {
     good: bool,
@@ -65,10 +64,10 @@ fn no_call() -> CallWord {
 // Call and SSID as they were given. What a text of sixteen bytes cannot hold is cut off it: the lengths tell.
 fn joined(call: &[u8], ssid: &[u8]) -> CallWord {
     let mut text = [0u8; 16];
-    let mut end = put::text(call, &mut text, 0);
-    end = put::text(words::cut(b"-", ssid.len()), &mut text, end);
+    let mut end = words::put(call, &mut text, 0);
+    end = words::put(words::cut(b"-", ssid.len()), &mut text, end);
     let room = if end <= 16 { 16 - end } else { 0 };
-    put::text(words::cut(ssid, room), &mut text, end);
+    words::put(words::cut(ssid, room), &mut text, end);
     let made = Callsign {
         text,
         call_len: call.len(),
@@ -88,11 +87,11 @@ fn call_word(s: &[u8]) -> CallWord {
     }
     let mut call = [0u8; 16];
     let mut ssid = [0u8; 16];
-    let read = words::unhex(words::cut(s, slash), &mut call);
+    let read = request::unhex(words::cut(s, slash), &mut call);
     let Bytes::Are(n) = read else {
         return no_call();
     };
-    let read = words::unhex(words::tail(words::tail(s, slash), 1), &mut ssid);
+    let read = request::unhex(words::tail(words::tail(s, slash), 1), &mut ssid);
     let Bytes::Are(k) = read else {
         return no_call();
     };
@@ -265,7 +264,7 @@ fn place_made(
 
 // A number below 256, or 256 for a word that is none.
 fn byte_word(s: &[u8]) -> u32 {
-    let read = words::number(s, 255);
+    let read = words::read_count(s, 255);
     let Count::Is(n) = read else {
         return 256;
     };
@@ -299,13 +298,13 @@ fn symbol_word(latitude: i32, longitude: i32, s: &[u8]) -> PlaceWord {
 
 // `LAT LON BLANKS TABLE CODE`, and more behind it
 fn place_word(s: &[u8]) -> PlaceWord {
-    let read = words::signed(words::first(s));
-    let Angle::Is(latitude) = read else {
+    let read = words::read_number(words::first(s));
+    let Number::Is(latitude) = read else {
         return place_made(false, 0, 0, 0, 0, 0);
     };
     let s = words::rest(s);
-    let read = words::signed(words::first(s));
-    let Angle::Is(longitude) = read else {
+    let read = words::read_number(words::first(s));
+    let Number::Is(longitude) = read else {
         return place_made(false, 0, 0, 0, 0, 0);
     };
     symbol_word(latitude, longitude, words::rest(s))
@@ -330,11 +329,11 @@ fn report_word(mic_e: bool, current: bool, s: &[u8]) -> ReportWord {
         return report_made(false, Message::M0, 0, 0, false);
     };
     let s = words::rest(s);
-    let read = words::number(words::first(s), 0xffff_ffff);
+    let read = words::read_count(words::first(s), 0xffff_ffff);
     let Count::Is(speed) = read else {
         return report_made(false, Message::M0, 0, 0, false);
     };
-    let read = words::number(words::rest(s), 0xffff_ffff);
+    let read = words::read_count(words::rest(s), 0xffff_ffff);
     let Count::Is(course) = read else {
         return report_made(false, Message::M0, 0, 0, false);
     };
@@ -376,11 +375,11 @@ fn parts_word(kind: Kind, mic_e: bool, flag: bool, s: &[u8]) -> RecordWord {
     if !named.good {
         return no_record();
     }
-    let placed = place_word(words::skip(s, 3));
+    let placed = place_word(request::skip(s, 3));
     if !placed.good {
         return no_record();
     }
-    let told = report_word(mic_e, mic_e & flag, words::skip(s, 8));
+    let told = report_word(mic_e, mic_e & flag, request::skip(s, 8));
     if !told.good {
         return no_record();
     }
@@ -397,7 +396,7 @@ fn record_word(s: &[u8]) -> RecordWord {
     let KindWord::Is(kind) = read else {
         return no_record();
     };
-    let flag = words::either(words::first(words::rest(s)), b"0", b"1");
+    let flag = request::either(words::first(words::rest(s)), b"0", b"1");
     if 1 < flag {
         return no_record();
     }
@@ -405,7 +404,7 @@ fn record_word(s: &[u8]) -> RecordWord {
         kind,
         check::same(word, b"mic-e"),
         flag == 1,
-        words::skip(s, 2),
+        request::skip(s, 2),
     )
 }
 
@@ -430,7 +429,7 @@ fn write_into(
 // `COMMENT` and what follows
 fn written(frame: bool, room: usize, s: &[u8], out: &mut [u8], at: usize) -> usize {
     let mut comment = [0u8; 2048];
-    let read = words::unhex(words::first(s), &mut comment);
+    let read = request::unhex(words::first(s), &mut comment);
     let Bytes::Are(n) = read else {
         return at;
     };
@@ -446,12 +445,12 @@ fn written(frame: bool, room: usize, s: &[u8], out: &mut [u8], at: usize) -> usi
 
 // `W WHERE ROOM COMMENT KIND FLAG FROM TO HOPS LAT LON BLANKS TABLE CODE MESSAGE SPEED COURSE`
 pub fn answer(s: &[u8], out: &mut [u8], at: usize) -> usize {
-    let form = words::either(words::first(s), b"text", b"frame");
+    let form = request::either(words::first(s), b"text", b"frame");
     if 1 < form {
         return at;
     }
     let s = words::rest(s);
-    let read = words::number(words::first(s), 600);
+    let read = words::read_count(words::first(s), 600);
     let Count::Is(room) = read else {
         return at;
     };

@@ -77,7 +77,7 @@ module _ {A : Type 0} (p : A → Bool) where
 
   -- ---- a loop that tests the elements of an array up to the place m; u is what a call answered of the next
 
-  module _ (b : Bool) (l : List A) (m i : ℕ) (z : A) (e : b ≡ every p (slice i m l)) (h : i < m) (k : m ≤ length l) where
+  module _ (b : Bool) (l : List A) (m size i : ℕ) (z : A) (e : b ≡ every p (slice i m l)) (h : i < m) (k : m ≤ size) (f : length l ≡ size) where
     opened : b ≡ (p (getD l i z) && every p (slice (i + 1) m l))
     unfolding every
     opened = e ∙ rw (slice-cons i m l z h (omega arith), add-one)

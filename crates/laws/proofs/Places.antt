@@ -3,14 +3,19 @@
 use mathlib.Core.Path.{_≡_, refl, sym, ap, _∙_}
 use mathlib.Core.Bool.{Bool, true, false, cond}
 use mathlib.Core.List.{List, [], _∷_, _++_}
-use Prim.Native.Nat.{ℕ, zero, suc, _+_, _<_, _≤_}
+use Prim.Native.Nat.{ℕ, zero, suc, _+_, _-_, _^_, _<_, _≤_}
 use native.Mathlib.Nat.{not-suc-le-zero, le-of-suc-le-suc}
 use native.Mathlib.Numerals.{add-one}
 use native.Mathlib.Omega.{arith}
+use mir.Val.{Fits}
+use mir.Syntax.{w64}
 use lib.Dec.{eqb}
 use borrow.Author.Tests.{eqb-true, eq-eqb, ne-eqb}
 use lib.ListN.{length, take, drop, getD, drop-of-length-le}
 use Rattle.laws.specs.Lists.{indexOf, zeros}
+use Rattle.laws.proofs.Lists.{part-length}
+
+-- ---- the first place of a byte
 
 -- the text around the first b
 pub index-split : (b : ℕ) (t : List ℕ) → indexOf b t < length t → t ≡ take (indexOf b t) t ++ b ∷ drop (suc (indexOf b t)) t
@@ -33,6 +38,27 @@ index-le b (x ∷ l) = go (eqb x b) (index-le b l)
     go : (k : Bool) → indexOf b l ≤ length l → cond k 0 (suc (indexOf b l)) ≤ suc (length l)
     go true r = omega arith
     go false r = omega arith
+
+-- a place d that the search for b gave; short of the length, there is a byte at it
+
+module _ (b : ℕ) (t : List ℕ) (d : ℕ) (f : d ≡ indexOf b t) where
+  pub found-le : d ≤ length t
+  found-le = omega (arith, index-le b t)
+
+  pub found-part : d ≡ length (take d t)
+  found-part = part-length t d found-le
+
+  module _ (h : d ≡ length t → ⊥) where
+    pub found-next : d + 1 ≤ length t
+    found-next = omega (arith, index-le b t)
+
+    pub found-room : 1 ≤ length t - d
+    found-room = omega (arith, index-le b t)
+
+    pub found-fits : length t < 2 ^ 64 → Fits w64 (d + 1)
+    found-fits m = record { fits = omega (arith, index-le b t) }
+
+-- ---- zeros
 
 zeros-suc : (l : List ℕ) (i : ℕ) → getD l i 0 ≡ 0 → zeros (drop i l) ≡ zeros (drop (suc i) l)
 unfolding zeros

@@ -2,7 +2,7 @@
 -- Assumes nothing.
 use mathlib.Core.Path.{_≡_, refl}
 use mathlib.Core.Logic.{_⊎_, inl, inr}
-use mathlib.Core.Bool.{Bool, true, false, cond, _&&_, _||_, false≢true}
+use mathlib.Core.Bool.{Bool, true, false, cond, _&&_, _||_, false≢true, true≢false}
 use Prim.Native.Nat.{ℕ, _≤_}
 use lib.Dec.{leb}
 use borrow.Author.Tests.{leb-true, le-leb}
@@ -30,6 +30,15 @@ and-both a b e = (and-first a b e, and-second a b e)
 pub or-either : (a b : Bool) → (a || b) ≡ true → (a ≡ true) ⊎ (b ≡ true)
 or-either true b e = inl refl
 or-either false b e = inr e
+
+pub or-neither : (a b : Bool) → (a || b) ≡ false → (a ≡ false) × (b ≡ false)
+or-neither true b e = absurd (true≢false e)
+or-neither false b e = (refl, e)
+
+-- what holds of both that a test picks from holds of the one picked
+pub picked : {A : Type 0} (P : A → Bool → Type 0) (x y : A) → P x true → P y false → (t : Bool) → P (cond t x y) t
+picked P x y p q true = p
+picked P x y p q false = q
 
 -- past a refusal in front: where the whole is another answer, the test failed
 pub guard : {A : Type 0} (t : Bool) (r x y : A) → (r ≡ y → ⊥) → cond t r x ≡ y → (t ≡ false) × (x ≡ y)

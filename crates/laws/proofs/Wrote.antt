@@ -3,7 +3,6 @@
 use mathlib.Core.Path.{_≡_, refl, sym, ap, _∙_}
 use mathlib.Core.List.{List, [], _++_}
 use Prim.Native.Nat.{ℕ, zero, suc, _+_, _<_, _≤_}
-use native.Mathlib.Omega.{arith}
 use lib.ListN.{length, drop}
 use lib.Seq.{paste, take-at, take-length, drop-append-add, drop-drop}
 use borrow.Author.Tests.{lt-ltb, le-ltb}
@@ -30,6 +29,10 @@ done-as r k m bytes out out′ z e h w = rw (z, e, le-ltb (length out) m h, w)
 pub refuses : (n r : ℕ) (bytes out : List ℕ) → r ≡ n → (n ≡ 0 → ⊥) → ends (refusedBy n) out ≡ wrote r bytes out
 unfolding wrote
 refuses n r bytes out e h = refused-as n r (length bytes) bytes out e h
+
+-- a refusal that a call answered
+pub passed-on : (a : Answer) (n r : ℕ) (bytes out : List ℕ) → a ≡ refusedBy n → (n ≡ 0 → ⊥) → r ≡ n → ends a out ≡ wrote r bytes out
+passed-on a n r bytes out q h e = rw q (refuses n r bytes out e h)
 
 pub no-room : (r m : ℕ) (bytes out : List ℕ) → r ≡ 0 → length bytes ≡ m → length out < m → ends (noRoom m) out ≡ wrote r bytes out
 unfolding wrote

@@ -12,7 +12,8 @@ use lib.Signed.{ltZ, nonNeg}
 use mir.Syntax.{w32, w64}
 use mir.Val.{Fits, SFits, toZ, ofZ}
 use mir.Facts.{toZ-ofZ, toZ-pos, sfits-widen, fits-natAbs}
-use Rattle.lonlat.specs.Angle.{mostLongitude, signedOf, isMinus, longitudeOf}
+use Rattle.lonlat.specs.Angle.{mostLongitude, signedOf, isMinus, sidesOf, longitudeOf}
+use Rattle.lonlat.specs.declared.Sides.{Sides}
 use Rattle.lonlat.specs.declared.LongitudeMade.the-variants.{Made, OutOfRange}
 
 -- ---- a side and a size
@@ -58,6 +59,16 @@ longitude-made size west h = rw (le-ltb mostLongitude size h)
 pub longitude-out : (size : ℕ) (west : Bool) → mostLongitude < size → longitudeOf size west ≡ OutOfRange
 unfolding longitudeOf
 longitude-out size west h = rw (lt-ltb mostLongitude size h)
+
+-- what the code has once it has taken an angle apart: z is the angle as it has it
+module _ (angle z : ℤ) (back : z ≡ angle) (p : Sides) (e : p ≡ sidesOf z) where
+  pub parts-size : p .size ≡ natAbs angle
+  unfolding sidesOf
+  parts-size = ap (λ (q : Sides). q .size) e ∙ ap natAbs back
+
+  pub parts-minus : p .minus ≡ isMinus angle
+  unfolding sidesOf
+  parts-minus = ap (λ (q : Sides). q .minus) e ∙ ap isMinus back
 
 -- ---- the machine's numbers: apart
 

@@ -1,31 +1,21 @@
--- Laws of digit places: tests of every byte, the last places as one byte, and the value that digits write.
+-- Laws of digit places: the last places as one byte, and the value that digits write.
 -- Assumes nothing.
 use mathlib.Core.Path.{_≡_, refl, sym, ap, _∙_}
-use mathlib.Core.Bool.{Bool, true, false, false≢true, _&&_}
+use mathlib.Core.Bool.{true, false}
 use mathlib.Core.List.{List, [], _∷_, _++_}
-use Prim.Native.Nat.{ℕ, zero, suc, _+_, _-_, _*_, _/_, _%_, _^_, _<_, _≤_}
+use Prim.Native.Nat.{ℕ, _+_, _-_, _*_, _/_, _%_, _^_, _<_, _≤_}
 use native.Mathlib.Nat.{pow-succ', pow-le-pow-right}
 use native.Mathlib.Numerals.{add-one}
 use native.Mathlib.Omega.{arith}
-use borrow.Author.Tests.{le-leb, lt-leb, leb-true}
-use lib.Dec.{leb}
+use borrow.Author.Tests.{le-leb, lt-leb}
 use lib.ListN.{length, take, drop, getD, replicate, length-append, length-replicate, getD-replicate, take-append-drop, length-drop}
 use lib.Seq.{length-take-le, take-at, getD-append-add}
 use Rattle.laws.specs.Bytes.{within, isDigit, digit0, digit9}
+use Rattle.laws.specs.Lists.{every}
 use Rattle.laws.proofs.Lists.{next}
-use Rattle.lonlat.specs.Digits.{every, lastAs, numberAfter, numberOf, degreesOf, minutesOf, hundredthsOf, valueOf}
-
--- ---- every byte
-
-module _ (test : ℕ → Bool) (t : List ℕ) (i : ℕ) where
-  -- a turn of a loop that tests each byte
-  pub every-more : i < length t → test (getD t i 0) ≡ true → every test t ≡ every test (drop i t) → every test t ≡ every test (drop (i + 1) t)
-  unfolding every
-  every-more h p e = e ∙ rw (next 0 t i h, p)
-
-  pub every-not : i < length t → test (getD t i 0) ≡ false → every test t ≡ every test (drop i t) → every test t ≡ false
-  unfolding every
-  every-not h p e = e ∙ rw (next 0 t i h, p)
+use Rattle.laws.proofs.Tests.{within-low, within-high}
+use Rattle.laws.proofs.Each.{every-first, every-rest, every-drop}
+use Rattle.lonlat.specs.Digits.{lastAs, numberAfter, numberOf, degreesOf, minutesOf, hundredthsOf, valueOf}
 
 -- ---- the last n as b
 
@@ -52,10 +42,6 @@ module _ (b n : ℕ) (t : List ℕ) (few : n ≤ length t) where
 
 -- ---- numbers
 
-pub digit-within : (b : ℕ) → digit0 ≤ b → b ≤ digit9 → isDigit b ≡ true
-unfolding within
-digit-within b h k = rw (le-leb digit0 b h, le-leb b digit9 k)
-
 pub digit-below : (b : ℕ) → b < digit0 → isDigit b ≡ false
 unfolding within
 digit-below b h = rw (lt-leb digit0 b h)
@@ -79,34 +65,7 @@ pub record IsDigit (b : ℕ) : Type 0 where
   pub high : b ≤ digit9
 
 pub a-digit : (b : ℕ) → isDigit b ≡ true → IsDigit b
-unfolding within
-a-digit b e = go (leb digit0 b) (leb b digit9) refl refl e
-  where
-    go : (p q : Bool) → leb digit0 b ≡ p → leb b digit9 ≡ q → (p && q) ≡ true → IsDigit b
-    go true true e f g = record { low = leb-true digit0 b e; high = leb-true b digit9 f }
-    go true false e f g = absurd (false≢true g)
-    go false q e f g = absurd (false≢true g)
-
-pub and-first : (p q : Bool) → (p && q) ≡ true → p ≡ true
-and-first true q e = refl
-and-first false q e = e
-
-pub and-second : (p q : Bool) → (p && q) ≡ true → q ≡ true
-and-second true q e = e
-and-second false q e = absurd (false≢true e)
-
-pub every-first : (test : ℕ → Bool) (b : ℕ) (t : List ℕ) → every test (b ∷ t) ≡ true → test b ≡ true
-unfolding every
-every-first test b t e = and-first (test b) (every test t) e
-
-pub every-rest : (test : ℕ → Bool) (b : ℕ) (t : List ℕ) → every test (b ∷ t) ≡ true → every test t ≡ true
-unfolding every
-every-rest test b t e = and-second (test b) (every test t) e
-
-pub every-drop : (test : ℕ → Bool) (k : ℕ) (t : List ℕ) → every test t ≡ true → every test (drop k t) ≡ true
-every-drop test zero t e = e
-every-drop test (suc k) [] e = e
-every-drop test (suc k) (b ∷ t) e = every-drop test k t (every-rest test b t e)
+a-digit b e = record { low = within-low digit0 digit9 b e; high = within-high digit0 digit9 b e }
 
 number-append : (v : ℕ) (s t : List ℕ) → numberAfter v (s ++ t) ≡ numberAfter (numberAfter v s) t
 unfolding numberAfter

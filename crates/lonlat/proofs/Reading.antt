@@ -11,7 +11,7 @@ use lib.Dec.{eqb, leb}
 use lib.IntN.{ℤ}
 use lib.ListN.{length, take, drop, getD}
 use Rattle.laws.specs.Bytes.{space, digit0, point, capitalN, capitalS, capitalE, capitalW, isDigit}
-use Rattle.laws.specs.Lists.{indexOf}
+use Rattle.laws.specs.Lists.{indexOf, every}
 use Rattle.laws.proofs.Places.{index-le}
 use Rattle.lonlat.specs.Angle.{mostLatitude, mostLongitude, signedOf}
 use Rattle.lonlat.specs.declared.Size.{Size}
@@ -22,7 +22,7 @@ use Rattle.lonlat.specs.declared.LatitudeRead.{LatitudeRead}
 use Rattle.lonlat.specs.declared.LatitudeRead.the-variants as lat
 use Rattle.lonlat.specs.declared.LongitudeRead.{LongitudeRead}
 use Rattle.lonlat.specs.declared.LongitudeRead.the-variants as lon
-use Rattle.lonlat.specs.Digits.{every, lastAs, valueOf, sizeOf, fits, angleIn}
+use Rattle.lonlat.specs.Digits.{lastAs, valueOf, sizeOf, fits, angleIn}
 use Rattle.lonlat.specs.Latitude.{isBlank, blanksIn, restBlank, keptOf, countedDigits, latitudeWith, latitudeIn, latitudePlaces, readLatitude}
 use Rattle.lonlat.specs.Longitude.{longitudeWith, longitudeIn, longitudePlaces, readLongitude}
 

@@ -1,70 +1,42 @@
 -- Laws of written texts that callers cite: their places, and what digits and then blanks say.
 -- Assumes nothing.
-use mathlib.Core.Path.{_≡_, refl, ap, _∙_}
+use mathlib.Core.Path.{_≡_, refl, ap, subst, _∙_}
 use mathlib.Core.Bool.{Bool, true, false}
 use mathlib.Core.List.{List, [], _∷_, _++_}
 use Prim.Native.Nat.{ℕ, zero, suc, _+_, _-_, _/_, _%_, _<_, _≤_}
-use native.Mathlib.Nat.{not-suc-le-zero, le-of-suc-le-suc}
 use native.Mathlib.Omega.{arith}
 use borrow.Author.Tests.{le-leb, le-ltb, ne-eqb}
 use lib.Dec.{eqb}
 use lib.IntN.{ℤ, natAbs}
 use lib.ListN.{length, take, getD, replicate}
 use lib.Seq.{length-take-le, drop-append-seam}
-use Rattle.laws.specs.Bytes.{space, digit0, point, isDigit, within, capitalS}
-use Rattle.laws.specs.Lists.{indexOf}
+use Rattle.laws.specs.Bytes.{space, digit0, digit9, point, isDigit, within, capitalS}
+use Rattle.laws.specs.Lists.{indexOf, every}
+use Rattle.laws.proofs.Lists.{elements-all}
+use Rattle.laws.proofs.Tests.{within-yes}
+use Rattle.laws.proofs.Each.{every-first, every-rest, every-append, every-snoc, every-take, every-replicate, every-at, every-weaker}
 use Rattle.lonlat.specs.Angle.{mostLatitude}
-use Rattle.lonlat.specs.Digits.{every, lastAs, angleIn, digitOf, digitsOf, placesOf, textOf}
+use Rattle.lonlat.specs.Digits.{lastAs, angleIn, digitOf, digitsOf, placesOf, textOf}
 use Rattle.lonlat.specs.Latitude.{isBlank, isDigitOrBlank, blanksIn, restBlank, countedDigits, isNorthOrSouth, latitudeWith, latitudeIn, latitudePlaces, readLatitude, blankedPlaces, northOrSouth, latitudeText}
 use Rattle.lonlat.specs.Longitude.{longitudeIn, readLongitude, eastOrWest, longitudeText}
 use Rattle.lonlat.proofs.Cut.{up-to-five}
-use Rattle.lonlat.proofs.Digits.{a-digit, digit-within, every-first, every-rest, last-length, last-start}
-
--- ---- every byte of a list made of parts
-
-module _ (test : ℕ → Bool) where
-  pub every-append : (s t : List ℕ) → every test s ≡ true → every test t ≡ true → every test (s ++ t) ≡ true
-  unfolding every
-  every-append [] t e f = f
-  every-append (b ∷ s) t e f = rw (every-first test b s e) (every-append s t (every-rest test b s e) f)
-
-  pub every-take : (k : ℕ) (t : List ℕ) → every test t ≡ true → every test (take k t) ≡ true
-  unfolding every
-  every-take zero t e = refl
-  every-take (suc k) [] e = refl
-  every-take (suc k) (b ∷ t) e = rw (every-first test b t e) (every-take k t (every-rest test b t e))
-
-  pub every-replicate : (b : ℕ) → test b ≡ true → (n : ℕ) → every test (replicate n b) ≡ true
-  unfolding every
-  every-replicate b e zero = refl
-  every-replicate b e (suc n) = rw e (every-replicate b e n)
-
-  -- the last n as b
-  pub every-last : (b n : ℕ) (t : List ℕ) → test b ≡ true → every test t ≡ true → every test (lastAs b n t) ≡ true
-  unfolding lastAs
-  every-last b n t e f = every-append (take (length t - n) t) (replicate n b) (every-take (length t - n) t f) (every-replicate b e n)
-
-  -- the byte at a place
-  pub every-at : (t : List ℕ) (i : ℕ) → every test t ≡ true → i < length t → test (getD t i 0) ≡ true
-  every-at [] i e h = absurd (not-suc-le-zero h)
-  every-at (b ∷ t) zero e h = every-first test b t e
-  every-at (b ∷ t) (suc i) e h = every-at t i (every-rest test b t e) (le-of-suc-le-suc h)
-
-pub every-weaker : (test other : ℕ → Bool) → ((b : ℕ) → test b ≡ true → other b ≡ true) → (t : List ℕ) → every test t ≡ true → every other t ≡ true
-unfolding every
-every-weaker test other w [] e = refl
-every-weaker test other w (b ∷ t) e = rw (w b (every-first test b t e)) (every-weaker test other w t (every-rest test b t e))
+use Rattle.lonlat.proofs.Digits.{a-digit, last-length, last-start}
 
 -- ---- digits
 
+-- every byte, the last n of them as b
+pub every-last : (test : ℕ → Bool) (b n : ℕ) (t : List ℕ) → test b ≡ true → every test t ≡ true → every test (lastAs b n t) ≡ true
+unfolding lastAs
+every-last test b n t e f = every-append test (take (length t - n) t) (replicate n b) (every-take test (length t - n) t f) (every-replicate test b e n)
+
 pub digit-is : (v : ℕ) → isDigit (digitOf v) ≡ true
 unfolding digitOf
-digit-is v = digit-within (digit0 + v % 10) (omega arith) (omega arith)
+digit-is v = within-yes digit0 digit9 (digit0 + v % 10) (omega arith) (omega arith)
 
 pub digits-are : (k v : ℕ) → every isDigit (digitsOf k v) ≡ true
 unfolding digitsOf every
 digits-are zero v = refl
-digits-are (suc k) v = every-append isDigit (digitsOf k (v / 10)) (digitOf v ∷ []) (digits-are k (v / 10)) (rw (digit-is v))
+digits-are (suc k) v = every-snoc isDigit (digitsOf k (v / 10)) (digitOf v) (digits-are k (v / 10)) (digit-is v)
 
 pub places-are : (k size : ℕ) → every isDigit (placesOf k size) ≡ true
 unfolding placesOf
@@ -124,66 +96,38 @@ module _ (t : List ℕ) (digits : every isDigit t ≡ true) (n : ℕ) (some : n 
 
 -- ---- texts: the places and the letter again, and what the whole reads as
 
--- a list of six or of seven, by its elements
-data Six : List ℕ → Type 0 where
-  six : (a b c d e f : ℕ) → Six (a ∷ b ∷ c ∷ d ∷ e ∷ f ∷ [])
+module _ (t : List ℕ) (letter : ℕ) where
+  module _ (six : length t ≡ 6) where
+    six-length : length (textOf t letter) ≡ 8
+    unfolding textOf
+    six-length = subst (λ (u : List ℕ). length (textOf u letter) ≡ 8) (elements-all 0 t 6 six) refl
 
-data Seven : List ℕ → Type 0 where
-  seven : (a b c d e f g : ℕ) → Seven (a ∷ b ∷ c ∷ d ∷ e ∷ f ∷ g ∷ [])
+    six-again : latitudePlaces (textOf t letter) ≡ t
+    unfolding textOf
+    six-again = subst (λ (u : List ℕ). latitudePlaces (textOf u letter) ≡ u) (elements-all 0 t 6 six) refl
 
-by-six : (t : List ℕ) → length t ≡ 6 → Six t
-by-six [] h = absurd (omega arith)
-by-six (a ∷ []) h = absurd (omega arith)
-by-six (a ∷ b ∷ []) h = absurd (omega arith)
-by-six (a ∷ b ∷ c ∷ []) h = absurd (omega arith)
-by-six (a ∷ b ∷ c ∷ d ∷ []) h = absurd (omega arith)
-by-six (a ∷ b ∷ c ∷ d ∷ e ∷ []) h = absurd (omega arith)
-by-six (a ∷ b ∷ c ∷ d ∷ e ∷ f ∷ []) h = six a b c d e f
-by-six (a ∷ b ∷ c ∷ d ∷ e ∷ f ∷ g ∷ t) h = absurd (omega arith)
+    six-letter : getD (textOf t letter) 7 0 ≡ letter
+    unfolding textOf
+    six-letter = subst (λ (u : List ℕ). getD (textOf u letter) 7 0 ≡ letter) (elements-all 0 t 6 six) refl
 
-by-seven : (t : List ℕ) → length t ≡ 7 → Seven t
-by-seven [] h = absurd (omega arith)
-by-seven (a ∷ t) h = go (by-six t (omega arith))
-  where
-    go : {t : List ℕ} → Six t → Seven (a ∷ t)
-    go (six b c d e f g) = seven a b c d e f g
+    pub latitude-of-text : readLatitude (textOf t letter) ≡ latitudeIn t letter
+    unfolding readLatitude textOf
+    latitude-of-text = subst (λ (u : List ℕ). readLatitude (textOf u letter) ≡ latitudeIn u letter) (elements-all 0 t 6 six) refl
 
-module _ (letter : ℕ) where
-  six-length : {t : List ℕ} → Six t → length (textOf t letter) ≡ 8
-  unfolding textOf
-  six-length (six a b c d e f) = refl
+  module _ (seven : length t ≡ 7) where
+    seven-length : length (textOf t letter) ≡ 9
+    unfolding textOf
+    seven-length = subst (λ (u : List ℕ). length (textOf u letter) ≡ 9) (elements-all 0 t 7 seven) refl
 
-  six-again : {t : List ℕ} → Six t → latitudePlaces (textOf t letter) ≡ t
-  unfolding textOf
-  six-again (six a b c d e f) = refl
-
-  six-letter : {t : List ℕ} → Six t → getD (textOf t letter) 7 0 ≡ letter
-  unfolding textOf
-  six-letter (six a b c d e f) = refl
-
-  six-read : {t : List ℕ} → Six t → readLatitude (textOf t letter) ≡ latitudeIn t letter
-  unfolding readLatitude textOf
-  six-read (six a b c d e f) = refl
-
-  seven-length : {t : List ℕ} → Seven t → length (textOf t letter) ≡ 9
-  unfolding textOf
-  seven-length (seven a b c d e f g) = refl
-
-  seven-read : (blanks : ℕ) → blanks ≤ 5 → {t : List ℕ} → Seven t → readLongitude (textOf t letter) blanks ≡ longitudeIn (lastAs digit0 blanks t) letter
-  unfolding readLongitude textOf
-  seven-read blanks few (seven a b c d e f g) = rw (le-ltb 5 blanks few)
+    pub longitude-of-text : (blanks : ℕ) → blanks ≤ 5 → readLongitude (textOf t letter) blanks ≡ longitudeIn (lastAs digit0 blanks t) letter
+    unfolding readLongitude textOf
+    longitude-of-text blanks few =
+        subst (λ (u : List ℕ). readLongitude (textOf u letter) blanks ≡ longitudeIn (lastAs digit0 blanks u) letter) (elements-all 0 t 7 seven) (rw (le-ltb 5 blanks few))
 
 -- the eight bytes that Mic-E makes
 pub latitude-of-eight : (a b c d e f letter : ℕ) → readLatitude (a ∷ b ∷ c ∷ d ∷ point ∷ e ∷ f ∷ letter ∷ []) ≡ latitudeIn (a ∷ b ∷ c ∷ d ∷ e ∷ f ∷ []) letter
 unfolding readLatitude
 latitude-of-eight a b c d e f letter = refl
-
-module _ (t : List ℕ) (letter : ℕ) where
-  pub latitude-of-text : length t ≡ 6 → readLatitude (textOf t letter) ≡ latitudeIn t letter
-  latitude-of-text h = six-read letter (by-six t h)
-
-  pub longitude-of-text : length t ≡ 7 → (blanks : ℕ) → blanks ≤ 5 → readLongitude (textOf t letter) blanks ≡ longitudeIn (lastAs digit0 blanks t) letter
-  longitude-of-text h blanks few = seven-read letter blanks few (by-seven t h)
 
 module _ (blanks size : ℕ) where
   -- each of the six places written is a digit or a blank
@@ -197,20 +141,20 @@ module _ (blanks size : ℕ) where
     blanked-six = last-length space blanks (placesOf 2 size) (rw (six-places size) few) ∙ six-places size
 
     pub blanked-at : (i : ℕ) → i < 6 → isDigitOrBlank (getD (blankedPlaces blanks size) i 0) ≡ true
-    blanked-at i h = every-at isDigitOrBlank (blankedPlaces blanks size) i blanked-each (rw blanked-six h)
+    blanked-at i h = every-at isDigitOrBlank (blankedPlaces blanks size) i 0 blanked-each (rw blanked-six h)
 
 module _ (angle : ℤ) (blanks : ℕ) (few : blanks ≤ 6) where
   pub latitude-text-length : length (latitudeText angle blanks) ≡ 8
   unfolding latitudeText
-  latitude-text-length = six-length (northOrSouth angle) (by-six (blankedPlaces blanks (natAbs angle)) (blanked-six blanks (natAbs angle) few))
+  latitude-text-length = six-length (blankedPlaces blanks (natAbs angle)) (northOrSouth angle) (blanked-six blanks (natAbs angle) few)
 
   pub latitude-text-places : latitudePlaces (latitudeText angle blanks) ≡ blankedPlaces blanks (natAbs angle)
   unfolding latitudeText
-  latitude-text-places = six-again (northOrSouth angle) (by-six (blankedPlaces blanks (natAbs angle)) (blanked-six blanks (natAbs angle) few))
+  latitude-text-places = six-again (blankedPlaces blanks (natAbs angle)) (northOrSouth angle) (blanked-six blanks (natAbs angle) few)
 
   pub latitude-text-letter : getD (latitudeText angle blanks) 7 0 ≡ northOrSouth angle
   unfolding latitudeText
-  latitude-text-letter = six-letter (northOrSouth angle) (by-six (blankedPlaces blanks (natAbs angle)) (blanked-six blanks (natAbs angle) few))
+  latitude-text-letter = six-letter (blankedPlaces blanks (natAbs angle)) (northOrSouth angle) (blanked-six blanks (natAbs angle) few)
 
 -- up to five blanks leave the first byte a digit
 pub latitude-text-first : (angle : ℤ) (blanks : ℕ) → blanks ≤ 5 → isDigit (getD (latitudeText angle blanks) 0 0) ≡ true
@@ -221,4 +165,4 @@ latitude-text-first angle =
 
 pub longitude-text-length : (angle : ℤ) → length (longitudeText angle) ≡ 9
 unfolding longitudeText
-longitude-text-length angle = seven-length (eastOrWest angle) (by-seven (placesOf 3 (natAbs angle)) (seven-places (natAbs angle)))
+longitude-text-length angle = seven-length (placesOf 3 (natAbs angle)) (eastOrWest angle) (seven-places (natAbs angle))

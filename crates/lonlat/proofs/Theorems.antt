@@ -10,7 +10,8 @@ use lib.Dec.{eqb, leb, ltb}
 use lib.IntN.{ℤ, pos, natAbs}
 use lib.ListN.{length, getD}
 use Rattle.laws.specs.Bytes.{digit0, digit9, point, isDigit, within, capitalN, capitalS, capitalE, capitalW}
-use Rattle.laws.specs.Lists.{indexOf}
+use Rattle.laws.specs.Lists.{indexOf, every}
+use Rattle.laws.proofs.Tests.{and-second, picked}
 use Rattle.lonlat.specs.Angle.{mostLatitude, mostLongitude, widthOf, cutTo, cutAngle, signedOf, isMinus}
 use Rattle.lonlat.specs.declared.AngleRead.{AngleRead}
 use Rattle.lonlat.specs.declared.AngleRead.the-variants.{Of, Bad}
@@ -18,11 +19,10 @@ use Rattle.lonlat.specs.declared.Latitude.{Latitude}
 use Rattle.lonlat.specs.declared.Longitude.{Longitude}
 use Rattle.lonlat.specs.declared.LatitudeRead.the-variants as lat
 use Rattle.lonlat.specs.declared.LongitudeRead.the-variants as lon
-use Rattle.lonlat.specs.Digits.{every, lastAs, numberAfter, numberOf, degreesOf, minutesOf, hundredthsOf, valueOf, fits, angleIn, placesOf}
+use Rattle.lonlat.specs.Digits.{lastAs, numberAfter, numberOf, degreesOf, minutesOf, hundredthsOf, valueOf, fits, angleIn, placesOf}
 use Rattle.lonlat.specs.Latitude.{blanksIn, restBlank, countedDigits, isNorthOrSouth, latitudeWith, latitudeIn, latitudePlaces, readLatitude, blankedPlaces, northOrSouth, latitudeText}
 use Rattle.lonlat.specs.Longitude.{isEastOrWest, longitudeWith, longitudeIn, longitudePlaces, readLongitude, eastOrWest, longitudeText}
 use Rattle.lonlat.proofs.Angle.{rejoined, size-signed}
-use Rattle.lonlat.proofs.Digits.{and-second}
 use Rattle.lonlat.proofs.Texts.{every-last, places-are, six-places, seven-places, blanked-six, blanked-latitude, latitude-of-text, longitude-of-text}
 use Rattle.lonlat.proofs.Cut.{latitude-cut, longitude-cut}
 
@@ -165,35 +165,19 @@ latitude-back size blanks letter h few e =
 module _ (angle : ℤ) where
   north-or-south : isNorthOrSouth (northOrSouth angle) ≡ true
   unfolding northOrSouth
-  north-or-south = go (isMinus angle)
-    where
-      go : (b : Bool) → isNorthOrSouth (cond b capitalS capitalN) ≡ true
-      go true = refl
-      go false = refl
+  north-or-south = picked (λ letter b. isNorthOrSouth letter ≡ true) capitalS capitalN refl refl (isMinus angle)
 
   south-minus : eqb (northOrSouth angle) capitalS ≡ isMinus angle
   unfolding northOrSouth
-  south-minus = go (isMinus angle)
-    where
-      go : (b : Bool) → eqb (cond b capitalS capitalN) capitalS ≡ b
-      go true = refl
-      go false = refl
+  south-minus = picked (λ letter b. eqb letter capitalS ≡ b) capitalS capitalN refl refl (isMinus angle)
 
   east-or-west : isEastOrWest (eastOrWest angle) ≡ true
   unfolding eastOrWest
-  east-or-west = go (isMinus angle)
-    where
-      go : (b : Bool) → isEastOrWest (cond b capitalW capitalE) ≡ true
-      go true = refl
-      go false = refl
+  east-or-west = picked (λ letter b. isEastOrWest letter ≡ true) capitalW capitalE refl refl (isMinus angle)
 
   west-minus : eqb (eastOrWest angle) capitalW ≡ isMinus angle
   unfolding eastOrWest
-  west-minus = go (isMinus angle)
-    where
-      go : (b : Bool) → eqb (cond b capitalW capitalE) capitalW ≡ b
-      go true = refl
-      go false = refl
+  west-minus = picked (λ letter b. eqb letter capitalW ≡ b) capitalW capitalE refl refl (isMinus angle)
 
   pub cut-whole : (blanks : ℕ) → natAbs angle % widthOf blanks ≡ 0 → cutAngle blanks angle ≡ angle
   unfolding cutAngle

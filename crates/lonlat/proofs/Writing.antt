@@ -1,6 +1,6 @@
 -- What each answer of the writers must show, and the text that they build.
 -- Assumes nothing.
-use mathlib.Core.Path.{_≡_, refl, ap, _∙_}
+use mathlib.Core.Path.{_≡_, refl, ap, subst, _∙_}
 use mathlib.Core.Bool.{cond}
 use mathlib.Core.List.{List, [], _∷_}
 use Prim.Native.Nat.{ℕ, _/_, _%_, _<_, _≤_}
@@ -11,26 +11,22 @@ use lib.ListN.{length, getD}
 use Rattle.laws.specs.Bytes.{space, point, capitalN, capitalS, capitalE, capitalW}
 use Rattle.laws.specs.Wrote.{ends, refusedBy, wrote}
 use Rattle.laws.specs.declared.Answer.{Answer}
+use Rattle.laws.proofs.Lists.{elements-all}
 use Rattle.laws.proofs.Wrote.{refuses}
 use Rattle.lonlat.specs.declared.Sides.{Sides}
-use Rattle.lonlat.specs.Angle.{mostLatitude, mostLongitude, isMinus, sidesOf}
+use Rattle.lonlat.specs.Angle.{mostLatitude, mostLongitude, sidesOf}
 use Rattle.lonlat.specs.Digits.{lastAs, digitOf, digitsOf, placesOf, textOf}
 use Rattle.lonlat.specs.Latitude.{northOrSouth, blankedPlaces, latitudeText, latitudeRefusal}
 use Rattle.lonlat.specs.Longitude.{eastOrWest, longitudeText, longitudeRefusal}
+use Rattle.lonlat.proofs.Angle.{parts-size, parts-minus}
 use Rattle.lonlat.proofs.Digits.{last-length}
 
 -- ---- texts
 
 six-text : (t : List ℕ) (letter : ℕ) → length t ≡ 6 → getD t 0 0 ∷ getD t 1 0 ∷ getD t 2 0 ∷ getD t 3 0 ∷ point ∷ getD t 4 0 ∷ getD t 5 0 ∷ letter ∷ [] ≡ textOf t letter
 unfolding textOf
-six-text [] letter h = absurd (omega arith)
-six-text (a ∷ []) letter h = absurd (omega arith)
-six-text (a ∷ b ∷ []) letter h = absurd (omega arith)
-six-text (a ∷ b ∷ c ∷ []) letter h = absurd (omega arith)
-six-text (a ∷ b ∷ c ∷ d ∷ []) letter h = absurd (omega arith)
-six-text (a ∷ b ∷ c ∷ d ∷ e ∷ []) letter h = absurd (omega arith)
-six-text (a ∷ b ∷ c ∷ d ∷ e ∷ f ∷ []) letter h = refl
-six-text (a ∷ b ∷ c ∷ d ∷ e ∷ f ∷ g ∷ t) letter h = absurd (omega arith)
+six-text t letter h =
+    subst (λ (u : List ℕ). getD t 0 0 ∷ getD t 1 0 ∷ getD t 2 0 ∷ getD t 3 0 ∷ point ∷ getD t 4 0 ∷ getD t 5 0 ∷ letter ∷ [] ≡ textOf u letter) (elements-all 0 t 6 h) refl
 
 -- the six places of a latitude: a to f are the digits as computed
 module _ (size blanks letter a b c d e f : ℕ) (few : blanks ≤ 6)
@@ -62,12 +58,7 @@ module _ (size letter a b c d e f g : ℕ)
 
 module _ (angle z : ℤ) (back : z ≡ angle) (p : Sides) (e : p ≡ sidesOf z) where
   sized : p .size ≡ natAbs angle
-  unfolding sidesOf
-  sized = ap (λ (q : Sides). q .size) e ∙ ap natAbs back
-
-  sided : p .minus ≡ isMinus angle
-  unfolding sidesOf
-  sided = ap (λ (q : Sides). q .minus) e ∙ ap isMinus back
+  sized = parts-size angle z back p e
 
   module _ (blanks : ℕ) (r : Answer) (out : List ℕ) where
     pub latitude-far : mostLatitude < p .size → r ≡ refusedBy 15 → ends r out ≡ wrote (latitudeRefusal angle blanks) (latitudeText angle blanks) out
@@ -87,7 +78,7 @@ module _ (angle z : ℤ) (back : z ≡ angle) (p : Sides) (e : p ≡ sidesOf z) 
       pub latitude-wrote : blanks ≤ 5 → (letter : ℕ) → letter ≡ cond (p .minus) capitalS capitalN → (text : List ℕ) → text ≡ textOf (blankedPlaces blanks (p .size)) letter
           → (out′ : List ℕ) → ends r out′ ≡ wrote 0 text out → ends r out′ ≡ wrote (latitudeRefusal angle blanks) (latitudeText angle blanks) out
       unfolding latitudeRefusal latitudeText northOrSouth
-      latitude-wrote few letter l text f out′ g = rw (le-ltb mostLatitude (natAbs angle) near′, le-ltb 5 blanks few, ← sized, ← sided, ← l, ← f) g
+      latitude-wrote few letter l text f out′ g = rw (le-ltb mostLatitude (natAbs angle) near′, le-ltb 5 blanks few, ← sized, ← parts-minus angle z back p e, ← l, ← f) g
 
   module _ (r : Answer) (out : List ℕ) where
     pub longitude-far : mostLongitude < p .size → r ≡ refusedBy 15 → ends r out ≡ wrote (longitudeRefusal angle) (longitudeText angle) out
@@ -101,4 +92,4 @@ module _ (angle z : ℤ) (back : z ≡ angle) (p : Sides) (e : p ≡ sidesOf z) 
     unfolding longitudeRefusal longitudeText eastOrWest
     longitude-wrote near letter l text f out′ g =
         let k : natAbs angle ≤ mostLongitude = omega (arith, sized) in
-        rw (le-ltb mostLongitude (natAbs angle) k, ← sized, ← sided, ← l, ← f) g
+        rw (le-ltb mostLongitude (natAbs angle) k, ← sized, ← parts-minus angle z back p e, ← l, ← f) g

@@ -2,21 +2,17 @@
 -- hundredths, a letter. `dd` or `ddd` mm hh are its digit places, the point and the letter apart.
 -- Assumes nothing.
 use Prim.Native.Nat.{ℕ, zero, suc, _+_, _-_, _*_, _/_, _%_}
-use mathlib.Core.Bool.{Bool, true, cond, _&&_}
+use mathlib.Core.Bool.{Bool, cond, _&&_}
 use mathlib.Core.List.{List, [], _∷_, _++_}
 use lib.ListN.{length, take, drop, replicate}
 use lib.Dec.{leb}
 use Rattle.laws.specs.Bytes.{digit0, point, isDigit}
+use Rattle.laws.specs.Lists.{every}
 use Rattle.lonlat.specs.Angle.{signedOf}
 use Rattle.lonlat.specs.declared.AngleRead.{AngleRead}
 use Rattle.lonlat.specs.declared.AngleRead.the-variants.{Of, Bad}
 use Rattle.lonlat.specs.declared.Size.{Size}
 use Rattle.lonlat.specs.declared.Size.the-variants.{Hundredths, NoDigit}
-
--- each of a list passes the test
-unfoldable pub every : (ℕ → Bool) → List ℕ → Bool
-every test [] = true
-every test (b ∷ t) = test b && every test t
 
 -- the last n of t as b, whichever bytes stand there
 unfoldable pub lastAs : ℕ → ℕ → List ℕ → List ℕ

@@ -4,9 +4,10 @@ ghost use Prim.Native.Nat.{_≤_};
 ghost use lib.ListN.{length};
 ghost use mathlib.Core.Bool.{cond, _||_};
 ghost use lib.Dec.{eqb};
+ghost use Rattle.laws.specs.Lists.{every};
 ghost use Rattle.laws.specs.Wrote.{ends, wrote};
 ghost use Rattle.lonlat.specs.Angle.{mostLongitude, signedOf, sidesOf, longitudeOf};
-ghost use Rattle.lonlat.specs.Digits.{every, lastAs, sizeOf, angleIn, digitOf, placesOf, textOf};
+ghost use Rattle.lonlat.specs.Digits.{lastAs, sizeOf, angleIn, digitOf, placesOf, textOf};
 ghost use Rattle.lonlat.specs.Latitude.{isBlank, keptOf, latitudeIn, readLatitude, blankedPlaces, latitudeText, latitudeRefusal};
 ghost use Rattle.lonlat.specs.Longitude.{longitudeIn, readLongitude, longitudeText, longitudeRefusal};
 

@@ -1,19 +1,20 @@
 -- The destination as written reads as what it was written for.
 -- Assumes nothing.
 use mathlib.Core.Path.{_≡_, refl, ap, _∙_}
-use mathlib.Core.Bool.{Bool, true, false, not, cond}
+use mathlib.Core.Bool.{Bool, true, not, cond}
 use mathlib.Core.List.{List}
-use Prim.Native.Nat.{ℕ, zero, suc, _%_, _<_, _≤_}
+use Prim.Native.Nat.{ℕ, _%_, _<_, _≤_}
 use native.Mathlib.Omega.{arith}
 use lib.Dec.{eqb}
 use lib.IntN.{ℤ, natAbs}
 use lib.ListN.{length, getD}
 use Rattle.laws.specs.Bytes.{capitalN, capitalS}
+use Rattle.laws.proofs.Tests.{picked}
 use Rattle.lonlat.specs.Angle.{mostLatitude, widthOf, isMinus}
 use Rattle.lonlat.specs.Latitude.{isDigitOrBlank, latitudeIn, latitudePlaces, readLatitude, blankedPlaces, northOrSouth, latitudeText}
 use Rattle.lonlat.proofs.Texts.{latitude-of-eight, latitude-of-text, blanked-six, blanked-at, latitude-text-places, latitude-text-letter}
 use Rattle.lonlat.proofs.Theorems.{latitude-reads-back}
-use Rattle.mic_e.specs.Character.{isCharacter}
+use Rattle.mic_e.specs.Character.{flagBit}
 use Rattle.mic_e.specs.Longitude.{hundredOf}
 use Rattle.mic_e.specs.Message.{messageOf, messageBy, isOne, isCustom, isStandard, bitsOf}
 use Rattle.mic_e.specs.Destination.{areCharacters, textIn, destinationWith, readDestination, charactersOf, destinationBytes}
@@ -21,7 +22,7 @@ use Rattle.mic_e.specs.declared.Bits.{Bits}
 use Rattle.mic_e.specs.declared.Message.{Message}
 use Rattle.mic_e.specs.declared.Message.the-variants.{M0, M1, M2, M3, M4, M5, M6, C0, C1, C2, C3, C4, C5, C6, Emergency, Unknown}
 use Rattle.mic_e.specs.declared.DestinationRead.the-variants.{Read}
-use Rattle.mic_e.proofs.CharacterFacts.{Carries, Flags, carries, flags, last-character}
+use Rattle.mic_e.proofs.CharacterFacts.{Carries, carries, bit-back, flag-last, flag-back}
 
 -- the bits of a message as written read as the message
 pub message-reads-back : (m : Message) → messageOf (bitsOf m .first) (bitsOf m .second) (bitsOf m .third) ≡ m
@@ -46,19 +47,11 @@ message-reads-back Unknown = refl
 -- the letter's flag
 is-north : (angle : ℤ) → eqb (northOrSouth angle) capitalN ≡ not (isMinus angle)
 unfolding northOrSouth
-is-north angle = go (isMinus angle)
-  where
-    go : (b : Bool) → eqb (cond b capitalS capitalN) capitalN ≡ not b
-    go true = refl
-    go false = refl
+is-north angle = picked (λ letter b. eqb letter capitalN ≡ not b) capitalS capitalN refl refl (isMinus angle)
 
 letter-back : (angle : ℤ) → cond (eqb (northOrSouth angle) capitalN) capitalN capitalS ≡ northOrSouth angle
 unfolding northOrSouth
-letter-back angle = go (isMinus angle)
-  where
-    go : (b : Bool) → cond (eqb (cond b capitalS capitalN) capitalN) capitalN capitalS ≡ cond b capitalS capitalN
-    go true = refl
-    go false = refl
+letter-back angle = picked (λ letter b. cond (eqb letter capitalN) capitalN capitalS ≡ letter) capitalS capitalN refl refl (isMinus angle)
 
 module _ (angle : ℤ) (blanks : ℕ) (few : blanks ≤ 5) (bits : Bits) (hundred west : Bool) where
   t : List ℕ
@@ -87,25 +80,25 @@ module _ (angle : ℤ) (blanks : ℕ) (few : blanks ≤ 5) (bits : Bits) (hundre
   c2 : Carries (bits .third) (getD t 2 0)
   c2 = carries (bits .third) (getD t 2 0) (shown 2 (omega arith))
 
-  c3 : Flags (eqb (getD t 7 0) capitalN) (getD t 3 0)
-  c3 = flags (eqb (getD t 7 0) capitalN) (getD t 3 0) (shown 3 (omega arith))
+  c3 : Carries (flagBit (eqb (getD t 7 0) capitalN)) (getD t 3 0)
+  c3 = carries (flagBit (eqb (getD t 7 0) capitalN)) (getD t 3 0) (shown 3 (omega arith))
 
-  c4 : Flags hundred (getD t 5 0)
-  c4 = flags hundred (getD t 5 0) (shown 4 (omega arith))
+  c4 : Carries (flagBit hundred) (getD t 5 0)
+  c4 = carries (flagBit hundred) (getD t 5 0) (shown 4 (omega arith))
 
-  c5 : Flags west (getD t 6 0)
-  c5 = flags west (getD t 6 0) (shown 5 (omega arith))
+  c5 : Carries (flagBit west) (getD t 6 0)
+  c5 = carries (flagBit west) (getD t 6 0) (shown 5 (omega arith))
 
   all-stand : areCharacters call ≡ true
   unfolding call charactersOf areCharacters
-  all-stand = rw (c0 .stands, c1 .stands, c2 .stands, c3 .last, c4 .last, c5 .last)
+  all-stand = rw (c0 .stands, c1 .stands, c2 .stands, flag-last _ _ c3, flag-last _ _ c4, flag-last _ _ c5)
 
   -- the text that the characters carry says what the text as written says
   text-back : readLatitude (textIn call) ≡ latitudeIn (blankedPlaces blanks (natAbs angle)) (northOrSouth angle)
   unfolding call charactersOf textIn
   text-back =
       latitude-of-eight _ _ _ _ _ _ _
-      ∙ rw (c0 .shown, c1 .shown, c2 .shown, c3 .shown, c4 .shown, c5 .shown, c3 .flag, letter, letter-back angle, six)
+      ∙ rw (c0 .shown, c1 .shown, c2 .shown, c3 .shown, c4 .shown, c5 .shown, flag-back _ _ c3, letter, letter-back angle, six)
 
   reads : natAbs angle ≤ mostLatitude → natAbs angle % widthOf blanks ≡ 0
       → readDestination call
@@ -113,7 +106,7 @@ module _ (angle : ℤ) (blanks : ℕ) (few : blanks ≤ 5) (bits : Bits) (hundre
   unfolding readDestination destinationWith call charactersOf latitudeText
   reads near width =
       let e = latitude-of-text (blankedPlaces blanks (natAbs angle)) (northOrSouth angle) (blanked-six blanks (natAbs angle) (omega arith)) in
-      rw (all-stand, text-back, ← e, latitude-reads-back angle blanks few near width, c0 .bit, c1 .bit, c2 .bit, c3 .flag, c4 .flag, c5 .flag, letter, is-north angle)
+      rw (all-stand, text-back, ← e, latitude-reads-back angle blanks few near width, bit-back _ _ c0, bit-back _ _ c1, bit-back _ _ c2, flag-back _ _ c3, flag-back _ _ c4, flag-back _ _ c5, letter, is-north angle)
 
 -- the destination as written, of a latitude that is a multiple of the width that its blanks leave, reads as the same
 pub destination-reads-back : (latitude : ℤ) (blanks : ℕ) (m : Message) (longitude : ℤ)
@@ -133,17 +126,3 @@ destination-length latitude blanks m longitude = refl
 pub destination-stands : (latitude : ℤ) (blanks : ℕ) (m : Message) (longitude : ℤ) → blanks ≤ 5 → areCharacters (destinationBytes latitude blanks m longitude) ≡ true
 unfolding destinationBytes call t
 destination-stands latitude blanks m longitude few = all-stand latitude blanks few (bitsOf m) (hundredOf longitude) (isMinus longitude)
-
-pub destination-character : (latitude : ℤ) (blanks : ℕ) (m : Message) (longitude : ℤ) → blanks ≤ 5
-    → (i : ℕ) → i < 6 → isCharacter (getD (destinationBytes latitude blanks m longitude) i 0) ≡ true
-unfolding destinationBytes charactersOf t
-destination-character latitude blanks m longitude few i h = go i h
-  where
-    go : (i : ℕ) → i < 6 → isCharacter (getD (charactersOf (latitudeText latitude blanks) (bitsOf m) (hundredOf longitude) (isMinus longitude)) i 0) ≡ true
-    go zero k = c0 latitude blanks few (bitsOf m) (hundredOf longitude) (isMinus longitude) .stands
-    go (suc zero) k = c1 latitude blanks few (bitsOf m) (hundredOf longitude) (isMinus longitude) .stands
-    go (suc (suc zero)) k = c2 latitude blanks few (bitsOf m) (hundredOf longitude) (isMinus longitude) .stands
-    go (suc (suc (suc zero))) k = last-character _ (c3 latitude blanks few (bitsOf m) (hundredOf longitude) (isMinus longitude) .last)
-    go (suc (suc (suc (suc zero)))) k = last-character _ (c4 latitude blanks few (bitsOf m) (hundredOf longitude) (isMinus longitude) .last)
-    go (suc (suc (suc (suc (suc zero))))) k = last-character _ (c5 latitude blanks few (bitsOf m) (hundredOf longitude) (isMinus longitude) .last)
-    go (suc (suc (suc (suc (suc (suc n)))))) k = absurd (omega arith)

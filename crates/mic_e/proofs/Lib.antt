@@ -1,6 +1,5 @@
 pub mod Turn
 pub mod Tests
-pub mod Answers
 pub mod Range
 pub mod MotionFacts
 pub mod LongitudeFacts

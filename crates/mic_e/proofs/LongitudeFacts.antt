@@ -8,13 +8,13 @@ use Prim.Native.Nat.{ℕ, _+_, _-_, _/_, _%_, _≤_, _<_}
 use native.Mathlib.Omega.{arith}
 use lib.Dec.{ltb}
 use borrow.Author.Tests.{ltb-true, ltb-false, le-ltb}
+use Rattle.laws.proofs.Tests.{bool-cases, guard}
 use Rattle.lonlat.specs.Angle.{mostLongitude, signedOf}
 use Rattle.lonlat.specs.declared.Longitude.{Longitude}
 use Rattle.mic_e.specs.Turn.{lessIf}
 use Rattle.mic_e.specs.Longitude.{offsetOf, wrapped, sizeOf, readLongitude, degreesByte, hundredFor, minutesByte, longitudeField}
 use Rattle.mic_e.specs.declared.LongitudeField.the-variants.{Read, Refused}
-use Rattle.mic_e.proofs.Tests.{guard}
-use Rattle.mic_e.proofs.Turn.{bool-cases, lessIf-split, wrapped-plain, wrapped-mid, wrapped-high}
+use Rattle.mic_e.proofs.Turn.{lessIf-split, wrapped-plain, wrapped-mid, wrapped-high}
 use Rattle.mic_e.proofs.MotionFacts.{Bytes}
 
 pub record Lies (size offset a b c : ℕ) : Type 0 where

@@ -7,13 +7,13 @@ use Prim.Native.Nat.{ℕ, _+_, _-_, _*_, _/_, _%_, _≤_, _<_}
 use native.Mathlib.Omega.{arith}
 use lib.Dec.{ltb}
 use borrow.Author.Tests.{ltb-true, ltb-false, le-ltb}
+use Rattle.laws.proofs.Tests.{bool-cases, guard}
 use Rattle.mic_e.specs.Motion.{mostSpeed, mostCourse, knots, degrees, readMotion, tensOf, motionField}
 use Rattle.mic_e.specs.declared.Field.{Field}
 use Rattle.mic_e.specs.declared.Speed.{Speed}
 use Rattle.mic_e.specs.declared.Course.{Course}
 use Rattle.mic_e.specs.declared.Motion.the-variants.{Read, Refused}
-use Rattle.mic_e.proofs.Tests.{guard}
-use Rattle.mic_e.proofs.Turn.{bool-cases, lessIf-split}
+use Rattle.mic_e.proofs.Turn.{lessIf-split}
 
 pub record Moves (speed course a b c : ℕ) : Type 0 where
   pub a-from : 28 ≤ a

@@ -1,18 +1,15 @@
 -- Laws of the turns that are taken off: what is left, and that it is no more.
 -- Assumes nothing.
-use mathlib.Core.Path.{_≡_, refl}
+use mathlib.Core.Path.{_≡_}
 use mathlib.Core.Logic.{⊎-elim, _⊎_, inl, inr}
 use mathlib.Core.Bool.{Bool, true, false, cond}
 use Prim.Native.Nat.{ℕ, _+_, _-_, _≤_, _<_}
 use native.Mathlib.Omega.{arith}
 use lib.Dec.{leb, ltb}
 use borrow.Author.Tests.{leb-true, leb-false, lt-ltb, le-ltb}
+use Rattle.laws.proofs.Tests.{bool-cases}
 use Rattle.mic_e.specs.Turn.{lessIf}
 use Rattle.mic_e.specs.Longitude.{offsetOf, wrapped}
-
-pub bool-cases : (b : Bool) → (b ≡ true) ⊎ (b ≡ false)
-bool-cases true = inl refl
-bool-cases false = inr refl
 
 -- a turn is off, or there was none
 pub lessIf-split : (k v : ℕ) → (lessIf k v + k ≡ v) ⊎ ((lessIf k v ≡ v) × (v < k))

@@ -10,7 +10,7 @@ use Rattle.mic_e.specs.declared.Bit.the-variants.{Zero, Custom, Standard
 -- ---- read
 
 unfoldable pub isCharacter : ℕ → Bool
-isCharacter c = isDigit c || within capitalA capitalL c || within capitalP capitalZ c
+isCharacter c = isDigit c || (within capitalA capitalL c || within capitalP capitalZ c)
 
 -- "The last three refuse `A-K`"
 unfoldable pub isLast : ℕ → Bool

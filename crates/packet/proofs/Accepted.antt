@@ -6,9 +6,10 @@ use Prim.Native.Nat.{_<_, _≤_}
 use lib.Dec.{leb, ltb}
 use lib.IntN.{natAbs}
 use borrow.Author.Tests.{leb-true, ltb-true}
+use Rattle.laws.proofs.Tests.{and-first, and-second}
 use Rattle.callsign.specs.declared.Callsign.{Callsign}
+use Rattle.callsign.specs.Range.{isBlankCall}
 use Rattle.lonlat.specs.Angle.{mostLongitude}
-use Rattle.lonlat.proofs.Digits.{and-first, and-second}
 use Rattle.header.specs.Range.{headerInRange}
 use Rattle.position.specs.declared.Place.{Place}
 use Rattle.position.specs.Position.{placeInRange, symbolsInRange, positionRefusal}
@@ -20,7 +21,7 @@ use Rattle.packet.specs.declared.Kind.the-variants.{Unknown, Position, M
 use Rattle.packet.specs.declared.Report.{Report}
 use Rattle.packet.specs.declared.Record.{Record}
 use Rattle.packet.specs.Record.{headerOf}
-use Rattle.packet.specs.Range.{isNoCall, isNoReport, isShort, motionInRange, positionInRange, micEInRange, partsInRange, recordInRange}
+use Rattle.packet.specs.Range.{isNoReport, isShort, motionInRange, positionInRange, micEInRange, partsInRange, recordInRange}
 use Rattle.packet.specs.Written.{informationOf, bodyRefusal}
 
 pub parts-held : (r : Record) → recordInRange r ≡ true → partsInRange (r .kind) (r .to) (r .place) (r .messaging) (r .«mic_e») ≡ true
@@ -43,7 +44,7 @@ module _ (place : Place) (report : Report) (e : positionInRange place report ≡
 
 -- the facts of its range
 pub record Reported (to : Callsign) (place : Place) (messaging : Bool) (report : Report) : Type 0 where
-  pub no-call : isNoCall to ≡ true
+  pub no-call : isBlankCall to ≡ true
   pub no-messaging : not messaging ≡ true
   pub near : placeInRange place ≡ true
   pub short : natAbs (place .longitude .0) < mostLongitude
@@ -58,12 +59,12 @@ module _ (to : Callsign) (place : Place) (messaging : Bool) (report : Report) (e
       let a₆ = leb (report .course .0) mostCourse in
       let a₄ = ltb (natAbs (place .longitude .0)) mostLongitude in
       let a₃ = placeInRange place in
-      let e₂ = and-second (isNoCall to) (not messaging && (a₃ && (a₄ && (a₅ && a₆)))) e in
+      let e₂ = and-second (isBlankCall to) (not messaging && (a₃ && (a₄ && (a₅ && a₆)))) e in
       let e₃ = and-second (not messaging) (a₃ && (a₄ && (a₅ && a₆))) e₂ in
       let e₄ = and-second a₃ (a₄ && (a₅ && a₆)) e₃ in
       let e₅ = and-second a₄ (a₅ && a₆) e₄ in
       record {
-        no-call = and-first (isNoCall to) (not messaging && (a₃ && (a₄ && (a₅ && a₆)))) e;
+        no-call = and-first (isBlankCall to) (not messaging && (a₃ && (a₄ && (a₅ && a₆)))) e;
         no-messaging = and-first (not messaging) (a₃ && (a₄ && (a₅ && a₆))) e₂;
         near = and-first a₃ (a₄ && (a₅ && a₆)) e₃;
         short = ltb-true (natAbs (place .longitude .0)) mostLongitude (and-first a₄ (a₅ && a₆) e₄);

@@ -133,6 +133,3 @@ call-six to x e w = rw e w
 
 pub six-in : (l : List ℕ) → length l ≡ 16 → 6 ≤ length l
 six-in l f = omega arith
-
-pub six-long : (l : List ℕ) → length l ≡ 16 → 6 ≡ length (take 6 l)
-six-long l f = omega (arith, length-take 6 l)

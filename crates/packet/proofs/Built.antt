@@ -8,21 +8,19 @@ use native.Mathlib.Omega.{arith}
 use lib.IntN.{natAbs}
 use lib.ListN.{length, take}
 use lib.Seq.{take-length}
-use borrow.Author.Tests.{lt-ltb, eqb-true}
-use lib.Dec.{eqb}
-use Rattle.laws.specs.Lists.{zeros}
+use borrow.Author.Tests.{lt-ltb}
+use Rattle.laws.specs.Lists.{every}
 use Rattle.laws.specs.Bytes.{digit0, digit9, capitalA, capitalK, capitalL, capitalP, capitalZ, within, isDigit}
+use Rattle.laws.proofs.Tests.{and-first, and-second, within-high}
 use Rattle.callsign.specs.declared.Callsign.{Callsign}
-use Rattle.callsign.specs.Text.{made, joined, isZero, blankCall}
+use Rattle.callsign.specs.Text.{made, joined, blankCall}
 use Rattle.callsign.specs.Range.{inRange}
 use Rattle.callsign.specs.Address.{ssidOf, ssidText}
-use Rattle.callsign.specs.Packed.{every}
+use Rattle.callsign.proofs.Ranges.{utf8-none, zero-none, blank-is-in-range}
 use Rattle.callsign.proofs.Made.{made-range}
 use Rattle.callsign.proofs.AddressBack.{isAscii, ascii-utf8}
 use Rattle.lonlat.specs.Angle.{mostLatitude, mostLongitude}
-use Rattle.lonlat.proofs.Digits.{and-first, and-second}
 use Rattle.header.specs.Range.{headerInRange}
-use Rattle.header.proofs.Calls.{range-zero}
 use Rattle.position.specs.declared.Place.{Place}
 use Rattle.position.specs.Position.{placeInRange}
 use Rattle.position.proofs.Reach.{latitude-near, reach-near, reach-few}
@@ -30,7 +28,6 @@ use Rattle.mic_e.specs.declared.Message.{Message}
 use Rattle.mic_e.specs.declared.DestinationWritten.{DestinationWritten}
 use Rattle.mic_e.specs.Character.{isCharacter, isLast}
 use Rattle.mic_e.specs.Destination.{areCharacters, charactersOf, destinationBytes, writeDestination}
-use Rattle.mic_e.proofs.Tests.{to}
 use Rattle.mic_e.proofs.DestinationFacts.{destination-stands, destination-length}
 use Rattle.mic_e.proofs.Theorems.{destination-written}
 use Rattle.packet.specs.declared.Kind.{Kind}
@@ -38,7 +35,7 @@ use Rattle.packet.specs.declared.Kind.the-variants.{Unknown, Position, M
 use Rattle.packet.specs.declared.Report.{Report}
 use Rattle.packet.specs.declared.Record.{Record}
 use Rattle.packet.specs.Record.{headerOf}
-use Rattle.packet.specs.Range.{isNoCall, partsInRange}
+use Rattle.packet.specs.Range.{partsInRange}
 use Rattle.packet.specs.Written.{writtenTo, writtenHeader}
 use Rattle.packet.proofs.Accepted.{mic-e-held}
 
@@ -60,10 +57,10 @@ character-ascii : (c : ℕ) → isCharacter c ≡ true → isAscii c ≡ true
 unfolding isCharacter
 character-ascii c e = lt-ltb c 0x80 (go (isDigit c) (within capitalA capitalL c) (within capitalP capitalZ c) refl refl refl e)
   where
-    go : (p q r : Bool) → isDigit c ≡ p → within capitalA capitalL c ≡ q → within capitalP capitalZ c ≡ r → (p || q || r) ≡ true → c < 0x80
-    go true q r f g h t = omega (arith, to digit0 digit9 c f)
-    go false true r f g h t = omega (arith, to capitalA capitalL c g)
-    go false false true f g h t = omega (arith, to capitalP capitalZ c h)
+    go : (p q r : Bool) → isDigit c ≡ p → within capitalA capitalL c ≡ q → within capitalP capitalZ c ≡ r → (p || (q || r)) ≡ true → c < 0x80
+    go true q r f g h t = omega (arith, within-high digit0 digit9 c f)
+    go false true r f g h t = omega (arith, within-high capitalA capitalL c g)
+    go false false true f g h t = omega (arith, within-high capitalP capitalZ c h)
     go false false false f g h t = absurd (let z : _≡_ {A = ℕ} 0 1 = cc in omega arith)
 
 last-ascii : (c : ℕ) → isLast c ≡ true → isAscii c ≡ true
@@ -94,14 +91,6 @@ six-short : (l : List ℕ) → length l ≡ 6 → length (joined l []) ≤ 16
 unfolding joined
 six-short l h = omega arith
 
-none-ascii : every isAscii [] ≡ true
-unfolding every
-none-ascii = refl
-
-none-zero : isZero [] ≡ false
-unfolding isZero
-none-zero = refl
-
 -- ---- the header
 
 module _ (place : Place) (message : Message) (near : placeInRange place ≡ true) (short : natAbs (place .longitude .0) < mostLongitude) where
@@ -123,17 +112,7 @@ module _ (place : Place) (message : Message) (near : placeInRange place ≡ true
   destination-range =
       let bytes = destinationBytes (place .latitude .0) (place .blanks) message (place .longitude .0) in
       let six = destination-length (place .latitude .0) (place .blanks) message (place .longitude .0) in
-      rw bytes-are (made-range bytes [] (six-short bytes six) (ascii-utf8 bytes plain) (ascii-utf8 [] none-ascii) none-zero)
-
--- no call, no SSID and no byte are in range
-none-range : (c : Callsign) → isNoCall c ≡ true → inRange c ≡ true
-unfolding isNoCall
-none-range c e =
-    let e₂ = and-second (eqb (c .«call_len») 0) (eqb (c .«ssid_len») 0 && zeros (c .text)) e in
-    sym (range-zero c
-    (eqb-true (c .«call_len») 0 (and-first (eqb (c .«call_len») 0) (eqb (c .«ssid_len») 0 && zeros (c .text)) e))
-    (eqb-true (c .«ssid_len») 0 (and-first (eqb (c .«ssid_len») 0) (zeros (c .text)) e₂)))
-    ∙ and-second (eqb (c .«ssid_len») 0) (zeros (c .text)) e₂
+      rw bytes-are (made-range bytes [] (six-short bytes six) (ascii-utf8 bytes plain) utf8-none zero-none)
 
 to-same : (kind : Kind) (to : Callsign) (place : Place) (messaging : Bool) (report : Report) → partsInRange kind to place messaging report ≡ true
     → inRange (writtenTo kind to place report) ≡ inRange to
@@ -142,7 +121,7 @@ to-same Unknown to place messaging report e = refl
 to-same Position to place messaging report e = refl
 to-same MicE to place messaging report e =
     let h = mic-e-held to place messaging report e in
-    destination-range place (report .message) (h .near) (h .short) ∙ sym (none-range to (h .no-call))
+    destination-range place (report .message) (h .near) (h .short) ∙ sym (blank-is-in-range to (h .no-call))
 
 -- the header that is written is in range where the record's own is
 pub header-same : (r : Record) → partsInRange (r .kind) (r .to) (r .place) (r .messaging) (r .«mic_e») ≡ true → headerInRange (writtenHeader r) ≡ headerInRange (headerOf r)

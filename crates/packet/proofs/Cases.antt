@@ -7,7 +7,7 @@ use mathlib.Core.List.{List, [], _∷_, _++_}
 use Prim.Native.Nat.{ℕ}
 use lib.IntN.{pos}
 use Rattle.laws.specs.Bytes.{comma, point, slash, dash, digit0, colon, greater, bang, capitalE, capitalN, within}
-use Rattle.laws.specs.Lists.{indexOf, padTo}
+use Rattle.laws.specs.Lists.{indexOf, every, padTo}
 use Rattle.callsign.specs.Utf8.{after, characters, utf8}
 use Rattle.callsign.specs.Text.{joined, made, isZero, callAccepted, parted, readUnstarred, readText as readCall}
 use Rattle.callsign.specs.Range.{callPart, ssidPart, textOf as callText, withStar}
@@ -16,7 +16,7 @@ use Rattle.header.specs.Text.{onFirst, fields, firstOf, othersOf, isQ, hopOf, r
 use Rattle.header.specs.Text.{withPath, readRoute, readBefore, readTextHeader, hopsText, routeText, headerText}
 use Rattle.header.proofs.Theorems.{P11-text, P11-hops}
 use Rattle.lonlat.specs.Angle.{signedOf, isMinus}
-use Rattle.lonlat.specs.Digits.{every, lastAs, numberAfter, numberOf, degreesOf, minutesOf, hundredthsOf, valueOf, sizeOf, fits, angleIn, digitOf, digitsOf, placesOf, textOf}
+use Rattle.lonlat.specs.Digits.{lastAs, numberAfter, numberOf, degreesOf, minutesOf, hundredthsOf, valueOf, sizeOf, fits, angleIn, digitOf, digitsOf, placesOf, textOf}
 use Rattle.lonlat.specs.Latitude.{blanksIn, restBlank, countedDigits, latitudeWith, latitudeIn, readLatitude, northOrSouth, blankedPlaces, latitudeText}
 use Rattle.lonlat.specs.Longitude.{longitudeWith, longitudeIn, readLongitude, eastOrWest, longitudeText}
 use Rattle.position.specs.Position.{isNumeric, isUncompressed, withLongitude, withLatitude, readPosition, positionText}

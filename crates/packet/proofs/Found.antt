@@ -1,7 +1,7 @@
 -- What a body that is read has: parts in range but for two cases, and a comment within the input.
 -- Assumes nothing.
 use mathlib.Core.Path.{_≡_, refl}
-use mathlib.Core.Bool.{Bool, true, false, not, cond, _&&_}
+use mathlib.Core.Bool.{Bool, true, false, not, cond, and-true, Bool·not-not}
 use mathlib.Core.List.{List, [], _∷_}
 use Prim.Native.Nat.{ℕ, _+_, _-_, _≤_}
 use native.Mathlib.Omega.{arith}
@@ -12,7 +12,7 @@ use lib.ListN.{length}
 use Rattle.laws.specs.Lists.{padTo, zeros}
 use Rattle.callsign.specs.declared.Callsign.{Callsign}
 use Rattle.callsign.specs.Text.{made, joined, blankCall}
-use Rattle.callsign.specs.Range.{callPart}
+use Rattle.callsign.specs.Range.{callPart, isBlankCall}
 use Rattle.lonlat.specs.Angle.{mostLatitude, mostLongitude}
 use Rattle.position.specs.Reach.{inReach}
 use Rattle.position.specs.Position.{fixedBytes, readPosition, placeInRange, symbolsInRange}
@@ -33,18 +33,10 @@ use Rattle.packet.specs.declared.Opening.{Opening}
 use Rattle.packet.specs.declared.Opening.the-variants.{Unported, Untimed, Mic, Other}
 use Rattle.packet.specs.declared.Body.{Body}
 use Rattle.packet.specs.Record.{noReport, noComment}
-use Rattle.packet.specs.Range.{isNoPlace, isNoReport, isNoCall, isShort, motionInRange, isExcepted, unknownInRange, positionInRange, micEInRange, partsInRange}
+use Rattle.packet.specs.Range.{isNoPlace, isNoReport, isShort, motionInRange, isExcepted, unknownInRange, positionInRange, micEInRange, partsInRange}
 use Rattle.packet.specs.Body.{openingOf, bodyRefused, bodyUnknown, positionBody, reportBody, micEBody, bodyAfter, readBody}
 use Rattle.packet.specs.Packet.{keptTo}
 use Rattle.packet.proofs.Longer.{position-long, information-long}
-
-not-not : (b : Bool) → not (not b) ≡ b
-not-not true = refl
-not-not false = refl
-
-and-true : (b : Bool) → (b && true) ≡ b
-and-true true = refl
-and-true false = refl
 
 no-report : isNoReport noReport ≡ true
 unfolding isNoReport noReport messageNumber
@@ -68,7 +60,7 @@ module _ (to : Callsign) where
         → partsInRange Position (keptTo Position to) (readPosition info .place) messaging noReport ≡ not (isExcepted Position (readPosition info .place))
     unfolding partsInRange isExcepted positionInRange
     place-found z =
-        rw (read-position-answered info .near z, no-report, and-true (symbolsInRange (readPosition info .place)), not-not (symbolsInRange (readPosition info .place)))
+        rw (read-position-answered info .near z, no-report, and-true (symbolsInRange (readPosition info .place)), Bool·not-not (symbolsInRange (readPosition info .place)))
 
     pub position-found : Found to (at + length info) (positionBody (readPosition info) messaging at (length info))
     unfolding positionBody
@@ -99,7 +91,7 @@ module _ (to : Callsign) where
         (record { latitude = d .latitude; longitude = i .longitude; blanks = d .blanks; table = i .table; code = i .code }) false
         (record { message = d .message; speed = i .speed; course = i .course; current = current })
         ≡ not (isExcepted MicE (record { latitude = d .latitude; longitude = i .longitude; blanks = d .blanks; table = i .table; code = i .code }))
-    unfolding partsInRange keptTo isExcepted micEInRange isNoCall blankCall made joined padTo zeros placeInRange inReach motionInRange isShort
+    unfolding partsInRange keptTo isExcepted micEInRange isBlankCall blankCall made joined padTo zeros placeInRange inReach motionInRange isShort
     report-range i e =
         let a = read-destination-found call d q in
         let b = read-information-found info (d .hundred) (d .west) i e in
@@ -110,7 +102,7 @@ module _ (to : Callsign) where
           le-leb (i .speed .0) mostSpeed (b .slow),
           le-leb (i .course .0) mostCourse (b .turned),
           and-true,
-          not-not,
+          Bool·not-not,
         )
 
     report-found : (x : InformationRead) → readInformation info (d .hundred) (d .west) ≡ x → Found to (at + length info) (reportBody d x current at (length info))

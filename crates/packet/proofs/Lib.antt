@@ -2,7 +2,6 @@ pub mod Tests
 pub mod Longer
 pub mod Bodies
 pub mod Packets
-pub mod Fills
 pub mod Writing
 pub mod Ranges
 pub mod Accepted

@@ -8,6 +8,8 @@ use native.Mathlib.Omega.{arith}
 use lib.ListN.{length, take, replicate}
 use Rattle.laws.specs.declared.Answer.{Answer}
 use Rattle.laws.specs.Wrote.{ends, refusedBy, overBy, wrote}
+use Rattle.laws.proofs.Wrote.{passed-on}
+use Rattle.laws.proofs.Answers.{refusal-is, reported-is, front-is}
 use Rattle.header.specs.declared.Header.{Header}
 use Rattle.header.specs.Text.{headerText}
 use Rattle.header.specs.Frame.{headerFrame, firstRefusal, addresses}
@@ -19,8 +21,6 @@ use Rattle.packet.specs.declared.Record.{Record}
 use Rattle.packet.specs.Record.{headerOf}
 use Rattle.packet.specs.Range.{partsInRange, recordInRange, rangeRefusal}
 use Rattle.packet.specs.Written.{most, writtenHeader, bodyRefusal, bytesOf, textBytes, frameBytes, orElse, kindRefusal, recordRefusal, textRefusal, frameRefusal, earlyByKind, earlyRefusal}
-use Rattle.mic_e.proofs.Answers.{refusal-is}
-use Rattle.packet.proofs.Fills.{counted, front, passed-on}
 use Rattle.packet.proofs.Accepted.{body-held}
 use Rattle.packet.proofs.Built.{header-same}
 
@@ -106,12 +106,12 @@ module _ (r : Record) (comment : List ℕ) (refusal : ℕ) (header : List ℕ) (
     sent = sym says ∙ d
 
     reported : h .reported ≤ 200
-    reported = let s = small sent in omega (arith, counted h refusal header scratch head w sent (room sent))
+    reported = let s = small sent in omega (arith, reported-is h head header scratch refusal w sent (room sent))
 
     written : (out last : List ℕ) (a : Answer)
         → ends a last ≡ wrote (overBy most (bytesOf (take (h .reported) head) r comment)) (bytesOf (take (h .reported) head) r comment) out
         → ends a last ≡ wrote whole (bytesOf header r comment) out
-    written out last a q = rw (first, or-none refusal (overBy most (bytesOf header r comment)) sent, ← front h refusal header scratch head w sent (room sent)) q
+    written out last a q = rw (first, or-none refusal (overBy most (bytesOf header r comment)) sent, ← front-is h head header scratch refusal w sent (room sent)) q
 
 module _ (r : Record) (k : ℕ) (e : k ≡ earlyRefusal r) where
   module _ (comment out : List ℕ) (a : Answer) (h : k ≡ 0 → ⊥) (q : a ≡ refusedBy k) where

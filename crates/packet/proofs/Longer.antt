@@ -9,6 +9,7 @@ use borrow.Author.Tests.{ne-eqb, ltb-false}
 use lib.Dec.{ltb}
 use lib.IntN.{natAbs}
 use lib.ListN.{length, take, getD, length-append}
+use Rattle.laws.proofs.Tests.{guard}
 use Rattle.lonlat.specs.Angle.{mostLatitude}
 use Rattle.lonlat.specs.Latitude.{readLatitude, latitudeText}
 use Rattle.lonlat.specs.Longitude.{longitudeText}
@@ -23,7 +24,6 @@ use Rattle.mic_e.specs.Destination.{readDestination}
 use Rattle.mic_e.specs.Information.{readInformation, informationBytes, informationOf}
 use Rattle.mic_e.specs.Motion.{readMotion}
 use Rattle.mic_e.specs.Longitude.{readLongitude}
-use Rattle.mic_e.proofs.Tests.{guard}
 
 -- ---- read
 

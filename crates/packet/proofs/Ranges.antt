@@ -11,7 +11,7 @@ use Rattle.packet.specs.declared.Record.{Record}
 use Rattle.packet.specs.Record.{headerOf}
 use Rattle.packet.specs.Range.{partsInRange, recordInRange}
 use Rattle.packet.specs.Written.{earlyByKind, earlyRefusal}
-use Rattle.mic_e.proofs.Tests.{and-failed, and-held}
+use Rattle.laws.proofs.Picks.{and-failed, and-held}
 
 module _ (r : Record) (h : Header) (u : Bool) (e : h ≡ headerOf r) (q : u ≡ headerInRange h) where
   judged : u ≡ headerInRange (headerOf r)

@@ -17,7 +17,6 @@ use Rattle.lonlat.specs.Angle.{mostLatitude, widthOf}
 use Rattle.position.specs.declared.Place.{Place}
 use Rattle.position.proofs.Reach.{latitude-near, reach-near, reach-few}
 use Rattle.mic_e.specs.declared.DestinationRead.the-variants as destination
-use Rattle.mic_e.specs.declared.InformationRead.the-variants as information
 use Rattle.mic_e.specs.Destination.{readDestination, writeDestination}
 use Rattle.mic_e.specs.Information.{informationBytes}
 use Rattle.mic_e.proofs.Range.{in-all}

@@ -1,28 +1,25 @@
--- Chains of `&&` from what the code's tests leave: a flag, the size of an angle, and an empty callsign.
+-- Chains of `&&` from what the code's tests leave, among them a number that a call gave and the size of an angle.
 -- Assumes nothing.
-use mathlib.Core.Path.{_≡_, sym, ap, _∙_}
-use mathlib.Core.Bool.{Bool, true, false, not, _&&_}
+use mathlib.Core.Path.{_≡_, ap, _∙_}
+use mathlib.Core.Bool.{Bool, true, false, _&&_}
 use Prim.Native.Nat.{ℕ}
 use lib.Dec.{eqb, ltb}
 use lib.IntN.{ℤ, natAbs}
 use mir.Val.{SFits, toZ, ofZ}
 use mir.Syntax.{w32}
 use borrow.Author.Tests.{eq-eqb, ne-eqb}
-use Rattle.callsign.specs.declared.Callsign.{Callsign}
-use Rattle.callsign.specs.Range.{inRange}
-use Rattle.header.proofs.Calls.{range-zero}
-use Rattle.mic_e.proofs.Tests.{and-failed, and-held}
-use Rattle.packet.specs.Range.{isNoCall}
+use Rattle.laws.proofs.Picks.{and-failed, and-held, flag-set, flag-unset}
 use Rattle.lonlat.specs.declared.Sides.{Sides}
 use Rattle.lonlat.specs.Angle.{sidesOf}
 use Rattle.lonlat.proofs.Angle.{back}
 
--- a flag that must be false
-pub flag-stop : (m b : Bool) → m ≡ true → false ≡ (not m && b)
-flag-stop m b p = rw p
+-- a number that a call gave
+module _ (n a : ℕ) (b : Bool) (e : n ≡ a) where
+  pub number-stop : (n ≡ 0 → ⊥) → false ≡ (eqb a 0 && b)
+  number-stop h = rw (← e, ne-eqb n 0 h)
 
-pub flag-go : (m r b : Bool) → m ≡ false → r ≡ b → r ≡ (not m && b)
-flag-go m r b p q = rw p q
+  pub number-go : (r : Bool) → n ≡ 0 → r ≡ b → r ≡ (eqb a 0 && b)
+  number-go r h q = rw (← e, eq-eqb n 0 h) q
 
 module _ (s : Sides) (a : ℤ) (b r : Bool) (f : SFits w32 a) (e : s ≡ sidesOf (toZ w32 (ofZ w32 a))) where
   size : s .size ≡ natAbs a
@@ -30,17 +27,12 @@ module _ (s : Sides) (a : ℤ) (b r : Bool) (f : SFits w32 a) (e : s ≡ sidesOf
   size = ap (λ (x : Sides). x .size) e ∙ ap natAbs (back a f)
 
   pub size-stop : (s .size ≡ 0 → ⊥) → false ≡ (eqb (natAbs a) 0 && b)
-  size-stop h = rw (← size, ne-eqb (s .size) 0 h)
+  size-stop = number-stop (s .size) (natAbs a) b size
 
   pub size-go : s .size ≡ 0 → r ≡ b → r ≡ (eqb (natAbs a) 0 && b)
-  size-go h q = rw (← size, eq-eqb (s .size) 0 h) q
+  size-go = number-go (s .size) (natAbs a) b size r
 
 pub size-below : (s : Sides) (a : ℤ) (n : ℕ) → SFits w32 a → s ≡ sidesOf (toZ w32 (ofZ w32 a)) → ltb (s .size) n ≡ ltb (natAbs a) n
 size-below s a n f e = rw (size s a true true f e)
 
--- a callsign without call and SSID is in range where its bytes are zero
-pub call-none : (c : Callsign) (u : Bool) → c .«call_len» ≡ 0 → c .«ssid_len» ≡ 0 → u ≡ inRange c → u ≡ isNoCall c
-unfolding isNoCall
-call-none c u e f q = rw (eq-eqb (c .«call_len») 0 e, eq-eqb (c .«ssid_len») 0 f) (q ∙ sym (range-zero c e f))
-
-pub ruleset tests = (and-failed, and-held, flag-stop, flag-go, size-stop, size-go)
+pub ruleset tests = (and-failed, and-held, flag-set, flag-unset, number-stop, number-go, size-stop, size-go)

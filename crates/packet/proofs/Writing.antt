@@ -2,7 +2,7 @@
 -- Assumes nothing.
 use mathlib.Core.Path.{_≡_, refl, sym, ap, _∙_}
 use mathlib.Core.Bool.{Bool, true, false, cond}
-use mathlib.Core.List.{List, [], _∷_, _++_, append-assoc}
+use mathlib.Core.List.{List, [], _∷_, _++_, append-assoc, append-nil}
 use Prim.Native.Nat.{ℕ, _+_, _-_, _≤_}
 use native.Mathlib.Omega.{arith}
 use mir.Val.{Fits}
@@ -13,6 +13,7 @@ use lib.ListN.{length, take, drop, length-append, length-drop}
 use lib.Seq.{take-at, length-take-le}
 use Rattle.laws.specs.declared.Answer.{Answer}
 use Rattle.laws.specs.Bytes.{bang, equals, backquote, apostrophe}
+use Rattle.laws.proofs.Answers.{bytes-are, reported-is, filled}
 use Rattle.laws.specs.Wrote.{ends, doneBy, overBy, wroteAs, wrote}
 use Rattle.position.specs.declared.Place.{Place}
 use Rattle.position.specs.Position.{positionText, positionRefusal}
@@ -23,15 +24,13 @@ use Rattle.packet.specs.declared.Kind.the-variants.{Unknown, Position, M
 use Rattle.packet.specs.declared.Report.{Report}
 use Rattle.packet.specs.declared.Record.{Record}
 use Rattle.packet.specs.Written.{most, informationOf, positionBytes, micEBytes, bodyBytes, bodyRefusal, bytesOf}
-use Rattle.mic_e.proofs.Answers.{bytes-are}
-use Rattle.packet.proofs.Fills.{counted, exact}
 
 -- ---- the fixed bytes of a body, from the type byte on
 
 module _ (place : Place) (messaging : Bool) (a : Answer) (out last : List ℕ) (e : ends a last ≡ wrote (positionRefusal place) (positionText place) out)
     (z : positionRefusal place ≡ 0) (m : 19 ≡ length out) where
   behind : last ++ [] ≡ positionText place
-  behind = exact a (positionRefusal place) (positionText place) out last e z (position-length place z ∙ m)
+  behind = append-nil last ∙ filled a last (positionText place) out (positionRefusal place) e z (position-length place z ∙ m)
 
   pub position-marked : messaging ≡ true → equals ∷ (last ++ []) ≡ positionBytes place messaging
   unfolding positionBytes
@@ -45,7 +44,7 @@ module _ (place : Place) (report : Report) (a : Answer) (out last : List ℕ)
     (e : ends a last ≡ wrote (informationRefusal (informationOf place report)) (informationBytes (informationOf place report)) out)
     (z : informationRefusal (informationOf place report) ≡ 0) (m : 8 ≡ length out) where
   after : last ++ [] ≡ informationBytes (informationOf place report)
-  after = exact a (informationRefusal (informationOf place report)) (informationBytes (informationOf place report)) out last e z (information-length (informationOf place report) ∙ m)
+  after = append-nil last ∙ filled a last (informationBytes (informationOf place report)) out (informationRefusal (informationOf place report)) e z (information-length (informationOf place report) ∙ m)
 
   typed : (b : Bool) → report .current ≡ b
       → cond (report .current) backquote apostrophe ∷ informationBytes (informationOf place report)
@@ -99,7 +98,7 @@ module _ (xs ys body post : List ℕ) (n : ℕ) (b : Answer) (w : ends b ys ≡ 
   room = rw (part-to-end xs n, length-drop n xs) (omega arith)
 
   reported : b .reported ≡ length body
-  reported = counted b 0 body (take (length xs - n) (drop n xs)) ys w refl room
+  reported = reported-is b ys body (take (length xs - n) (drop n xs)) 0 w refl room
 
   before : length (take n xs) ≡ n
   before = length-take-le n xs (omega arith)

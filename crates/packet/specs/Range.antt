@@ -6,9 +6,9 @@ use Prim.Native.Nat.{ℕ}
 use mathlib.Core.Bool.{Bool, false, not, cond, _&&_}
 use lib.Dec.{eqb, leb, ltb}
 use lib.IntN.{natAbs}
-use Rattle.laws.specs.Lists.{zeros}
 use Rattle.lonlat.specs.Angle.{mostLongitude}
 use Rattle.callsign.specs.declared.Callsign.{Callsign}
+use Rattle.callsign.specs.Range.{isBlankCall}
 use Rattle.position.specs.declared.Place.{Place}
 use Rattle.position.specs.Position.{placeInRange, symbolsInRange}
 use Rattle.mic_e.specs.Message.{messageNumber}
@@ -37,10 +37,6 @@ isNoReport m =
     && (eqb (m .course .0) 0
     && not (m .current)))
 
--- no call, no SSID, no byte
-unfoldable pub isNoCall : Callsign → Bool
-isNoCall c = eqb (c .«call_len») 0 && (eqb (c .«ssid_len») 0 && zeros (c .text))
-
 -- ---- parts that a kind has
 
 -- "a Mic-E angle of 180 degrees"
@@ -64,7 +60,7 @@ positionInRange place report = placeInRange place && (symbolsInRange place && is
 -- no destination, no messaging; angles and precision, 180 degrees, speed and course
 unfoldable pub micEInRange : Callsign → Place → Bool → Report → Bool
 micEInRange to place messaging report =
-    isNoCall to && (not messaging && (placeInRange place && (isShort place && motionInRange report)))
+    isBlankCall to && (not messaging && (placeInRange place && (isShort place && motionInRange report)))
 
 unfoldable pub partsInRange : Kind → Callsign → Place → Bool → Report → Bool
 partsInRange Unknown to place messaging report = unknownInRange place messaging report

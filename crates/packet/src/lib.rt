@@ -1,18 +1,16 @@
 // A packet: the record of its header and body, read from a line of text or an AX.25 frame, and written as either.
 ghost use mathlib.Core.Path.{_≡_};
-ghost use lib.Dec.{eqb};
 ghost use Prim.Native.Nat.{_+_, _<_, _≤_, _^_};
 ghost use lib.ListN.{length, take};
 ghost use Rattle.callsign.specs.Text.{blankCall};
 ghost use Rattle.callsign.specs.Range.{callPart};
 ghost use Rattle.position.specs.Position.{noPlace, readPosition, positionRefusal};
-ghost use Rattle.mic_e.specs.Message.{messageNumber};
 ghost use Rattle.mic_e.specs.Destination.{readDestination};
 ghost use Rattle.mic_e.specs.Information.{readInformation, informationRefusal};
 ghost use Rattle.header.specs.Range.{headerInRange};
 ghost use Rattle.laws.specs.Wrote.{ends, wrote};
 ghost use Rattle.packet.specs.Record.{noReport, blankRecord, packetRefused, headerOf};
-ghost use Rattle.packet.specs.Range.{isNoPlace, isNoReport, isNoCall, isShort, motionInRange, unknownInRange, positionInRange, micEInRange, partsInRange, recordInRange};
+ghost use Rattle.packet.specs.Range.{isNoPlace, isNoReport, isShort, motionInRange, unknownInRange, positionInRange, micEInRange, partsInRange, recordInRange};
 ghost use Rattle.packet.specs.Body.{openingOf, bodyRefused, positionBody, reportBody, micEBody, readBody};
 ghost use Rattle.packet.specs.Packet.{keptTo, packetOf, packetAfter, readText, readFrame};
 ghost use Rattle.packet.specs.Written.{most, writtenTo, writtenHeader, informationOf, positionBytes, micEBytes, bodyBytes, bytesOf};
@@ -372,17 +370,11 @@ fn is_no_place(p: Place) -> bool
     p.code == 0
 }
 
-fn is_no_message(m: Message) -> bool
-    ensures { λ r. ⌜ r ≡ eqb (messageNumber m) 0 ⌝ }
-{
-    if let Message::M0 = m { true } else { false }
-}
-
 fn is_no_report(m: Report) -> bool
     ensures { λ r. ⌜ r ≡ isNoReport m ⌝ }
 {
     let message = m.message;
-    if !is_no_message(message) {
+    if mic_e::message_number(message) != 0 {
         return false;
     }
     let speed = m.speed;
@@ -394,18 +386,6 @@ fn is_no_report(m: Report) -> bool
         return false;
     }
     !m.current
-}
-
-fn is_no_call(c: Callsign) -> bool
-    ensures { λ r. ⌜ r ≡ isNoCall c ⌝ }
-{
-    if c.call_len != 0 {
-        return false;
-    }
-    if c.ssid_len != 0 {
-        return false;
-    }
-    callsign::in_range(c)
 }
 
 // Whether the longitude of a Mic-E report stays short of 180 degrees, which it cannot write.
@@ -455,7 +435,7 @@ fn position_in_range(place: Place, report: Report) -> bool
 fn mic_e_in_range(to: Callsign, place: Place, messaging: bool, report: Report) -> bool
     ensures { λ a. ⌜ a ≡ micEInRange to place messaging report ⌝ }
 {
-    if !is_no_call(to) {
+    if !callsign::is_blank(to) {
         return false;
     }
     if messaging {

@@ -13,37 +13,46 @@ use lib.IntN.{ℤ, pos, negsuc, negℤ, natAbs, subℕ, _+ℤ_, _-ℤ_, _*ℤ_}
 use lib.Signed.{mag}
 use mir.Syntax.{w32}
 use mir.Val.{SFits, toZ, ofZ}
-use Rattle.lonlat.specs.Angle.{mostLongitude, isMinus, widthOf}
-use Rattle.lonlat.proofs.Angle.{back, size-turned}
+use Rattle.lonlat.specs.Angle.{mostLongitude, sidesOf, widthOf}
+use Rattle.lonlat.specs.declared.Sides.{Sides}
+use Rattle.lonlat.proofs.Angle.{back, size-turned, parts-size, parts-minus}
 use Rattle.position.specs.declared.Bounds.{Bounds}
 use Rattle.position.specs.Reach.{inReach}
 use Rattle.position.specs.Bounds.{whole, degreeWidth, degreesOf, centerOf, rangeOf, noBounds, boundsOf}
 use Rattle.position.specs.Page.{noBox, boxOf}
+use Rattle.position.proofs.Reach.{reach-near}
 
-module _ (most : ℕ) (angle : ℤ) (blanks : ℕ) (u : Bool) (e : u ≡ inReach most (natAbs angle) blanks) where
+-- u is the test of the angle, z the angle as the code has it
+module _ (most : ℕ) (angle : ℤ) (blanks : ℕ) (z : ℤ) (back : z ≡ angle) (u : Bool) (e : u ≡ inReach most (natAbs z) blanks) where
   pub no-bounds : not u ≡ true → noBounds ≡ boundsOf most angle blanks
   unfolding boundsOf
-  no-bounds h = rw (← e, not-true u h)
+  no-bounds h = rw (← back, ← e, not-true u h)
 
   pub no-box : not u ≡ true → noBox ≡ boxOf most angle blanks
   unfolding boxOf
-  no-box h = rw (← e, not-true u h)
+  no-box h = rw (← back, ← e, not-true u h)
 
   module _ (h : not u ≡ false) where
-    -- d is the size in degrees, b the range
-    module _ (size : ℕ) (f : size ≡ natAbs angle) (d : Float) (g : d ≡ degreesOf size) (minus : Bool) (m : minus ≡ isMinus angle) (b : Bounds) where
-      pub bounds-minus : minus ≡ true → b ≡ rangeOf (neg d) blanks → record { refusal = 0; bounds = b } ≡ boundsOf most angle blanks
-      unfolding boundsOf centerOf
-      bounds-minus k i = rw (← e, not-false u h, ← m, k, ← f, ← g, i)
+    reached : inReach most (natAbs angle) blanks ≡ true
+    reached = rw (← back, ← e) (not-false u h)
 
-      pub bounds-plus : minus ≡ false → b ≡ rangeOf d blanks → record { refusal = 0; bounds = b } ≡ boundsOf most angle blanks
+    pub reach-most : natAbs angle ≤ most
+    reach-most = reach-near most (natAbs angle) blanks reached
+
+    -- p is the angle taken apart, d its size in degrees, b the range
+    module _ (p : Sides) (f : p ≡ sidesOf z) (d : Float) (g : d ≡ degreesOf (p .size)) (b : Bounds) where
+      pub bounds-minus : p .minus ≡ true → b ≡ rangeOf (neg d) blanks → record { refusal = 0; bounds = b } ≡ boundsOf most angle blanks
       unfolding boundsOf centerOf
-      bounds-plus k i = rw (← e, not-false u h, ← m, k, ← f, ← g, i)
+      bounds-minus k i = rw (reached, ← parts-minus angle z back p f, k, ← parts-size angle z back p f, ← g, i)
+
+      pub bounds-plus : p .minus ≡ false → b ≡ rangeOf d blanks → record { refusal = 0; bounds = b } ≡ boundsOf most angle blanks
+      unfolding boundsOf centerOf
+      bounds-plus k i = rw (reached, ← parts-minus angle z back p f, k, ← parts-size angle z back p f, ← g, i)
 
     pub box-made : (x y : ℤ) → x ≡ pos 2 *ℤ angle -ℤ pos (widthOf blanks) → y ≡ pos 2 *ℤ angle +ℤ pos (widthOf blanks)
         → record { refusal = 0; from = x; to = y } ≡ boxOf most angle blanks
     unfolding boxOf
-    box-made x y f g = rw (← e, not-false u h, f, g)
+    box-made x y f g = rw (reached, f, g)
 
 -- ---- the last of each table
 

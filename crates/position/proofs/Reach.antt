@@ -1,25 +1,28 @@
 -- What is in range: the tests, and what they tell.
 -- Assumes nothing.
-use mathlib.Core.Path.{_≡_, ap, _∙_}
+use mathlib.Core.Path.{_≡_}
 use mathlib.Core.Bool.{Bool, true, false, not}
 use Prim.Native.Nat.{ℕ, _<_, _≤_}
 use borrow.Author.Tests.{le-leb, lt-leb, lt-ltb, le-ltb, leb-true, not-true, not-false}
 use lib.Dec.{leb, ltb}
 use lib.IntN.{ℤ, natAbs}
-use Rattle.lonlat.specs.Angle.{mostLatitude, mostLongitude, isMinus, sidesOf}
+use Rattle.laws.proofs.Tests.{and-first, and-second}
+use Rattle.lonlat.specs.Angle.{mostLatitude, mostLongitude, sidesOf}
 use Rattle.lonlat.specs.declared.Sides.{Sides}
-use Rattle.lonlat.proofs.Digits.{and-first, and-second}
+use Rattle.lonlat.proofs.Angle.{parts-size}
 use Rattle.position.specs.declared.Place.{Place}
 use Rattle.position.specs.Reach.{inReach}
 use Rattle.position.specs.Position.{placeInRange, symbolsInRange}
 
-pub reach-far : (most size blanks : ℕ) → most < size → false ≡ inReach most size blanks
-unfolding inReach
-reach-far most size blanks h = rw (lt-leb size most h)
+-- p is the angle taken apart, z the angle as the code has it
+module _ (most blanks : ℕ) (angle z : ℤ) (back : z ≡ angle) (p : Sides) (e : p ≡ sidesOf z) where
+  pub reach-far : most < p .size → false ≡ inReach most (natAbs angle) blanks
+  unfolding inReach
+  reach-far h = rw (← parts-size angle z back p e, lt-leb (p .size) most h)
 
-pub reach-blanks : (most size blanks : ℕ) → size ≤ most → leb blanks 5 ≡ inReach most size blanks
-unfolding inReach
-reach-blanks most size blanks h = rw (le-leb size most h)
+  pub reach-blanks : p .size ≤ most → leb blanks 5 ≡ inReach most (natAbs angle) blanks
+  unfolding inReach
+  reach-blanks h = rw (← parts-size angle z back p e, le-leb (p .size) most h)
 
 -- what the test tells
 module _ (most size blanks : ℕ) (e : inReach most size blanks ≡ true) where
@@ -31,28 +34,15 @@ module _ (most size blanks : ℕ) (e : inReach most size blanks ≡ true) where
   unfolding inReach
   reach-few = leb-true blanks 5 (and-second (leb size most) (leb blanks 5) e)
 
--- p is the angle taken apart, z the angle as the code has it
-module _ (angle z : ℤ) (back : z ≡ angle) (p : Sides) (e : p ≡ sidesOf z) where
-  pub sized : p .size ≡ natAbs angle
-  unfolding sidesOf
-  sized = ap (λ (q : Sides). q .size) e ∙ ap natAbs back
-
-  pub sided : p .minus ≡ isMinus angle
-  unfolding sidesOf
-  sided = ap (λ (q : Sides). q .minus) e ∙ ap isMinus back
-
-  -- u is the test of the size
-  pub reach-sized : (most blanks : ℕ) (u : Bool) → u ≡ inReach most (p .size) blanks → u ≡ inReach most (natAbs angle) blanks
-  reach-sized most blanks u f = f ∙ ap (λ (s : ℕ). inReach most s blanks) sized
-
-module _ (p : Place) (u : Bool) (e : u ≡ inReach mostLatitude (natAbs (p .latitude .0)) (p .blanks)) where
+-- u is the test of the latitude, y and z the angles as the code has them
+module _ (p : Place) (u : Bool) (y : ℤ) (north : y ≡ p .latitude .0) (e : u ≡ inReach mostLatitude (natAbs y) (p .blanks)) where
   pub place-far : not u ≡ true → false ≡ placeInRange p
   unfolding placeInRange
-  place-far h = rw (← e, not-true u h)
+  place-far h = rw (← north, ← e, not-true u h)
 
-  pub place-near : not u ≡ false → (r : Bool) → r ≡ inReach mostLongitude (natAbs (p .longitude .0)) (p .blanks) → r ≡ placeInRange p
+  pub place-near : not u ≡ false → (r : Bool) (z : ℤ) → z ≡ p .longitude .0 → r ≡ inReach mostLongitude (natAbs z) (p .blanks) → r ≡ placeInRange p
   unfolding placeInRange
-  place-near h r f = rw (← e, not-false u h) f
+  place-near h r z east f = rw (← north, ← e, not-false u h, ← east) f
 
 module _ (p : Place) (e : placeInRange p ≡ true) where
   pub latitude-near : inReach mostLatitude (natAbs (p .latitude .0)) (p .blanks) ≡ true

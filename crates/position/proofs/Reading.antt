@@ -1,12 +1,12 @@
 -- What each answer of the reader must show, one law an answer.
 -- Assumes nothing.
 use mathlib.Core.Path.{_≡_, refl}
-use mathlib.Core.Bool.{Bool, true, false, not, _||_}
+use mathlib.Core.Bool.{Bool, true, false, not}
 use mathlib.Core.List.{List, [], _∷_}
 use Prim.Native.Nat.{ℕ, _<_, _≤_}
 use native.Mathlib.Omega.{arith}
-use borrow.Author.Tests.{le-leb, lt-ltb, le-ltb, eq-eqb, ne-eqb, not-true, not-false}
-use lib.Dec.{eqb, leb}
+use borrow.Author.Tests.{le-leb, lt-ltb, le-ltb, not-true, not-false}
+use lib.Dec.{leb}
 use lib.ListN.{length, take, drop, getD}
 use Rattle.laws.specs.Bytes.{within, isDigit, digit0, digit9}
 use Rattle.lonlat.specs.Latitude.{readLatitude, latitudeNumber}
@@ -19,22 +19,6 @@ use Rattle.lonlat.specs.declared.LongitudeRead.{LongitudeRead}
 use Rattle.lonlat.specs.declared.LongitudeRead.the-variants as lon
 use Rattle.position.specs.declared.PositionRead.{PositionRead}
 use Rattle.position.specs.Position.{fixedBytes, isNumeric, isUncompressed, refusedPosition, withLongitude, withLatitude, readPosition}
-
--- ---- a choice of tests, in order
-
-pub or-yes : (u t x : Bool) → u ≡ t → u ≡ true → true ≡ (t || x)
-or-yes u t x e p = rw (← e, p)
-
-pub or-no : (u t r x : Bool) → u ≡ t → u ≡ false → r ≡ x → r ≡ (t || x)
-or-no u t r x e p q = rw (← e, p) q
-
-pub or-eq : (a b : ℕ) (x : Bool) → a ≡ b → true ≡ (eqb a b || x)
-or-eq a b x h = rw (eq-eqb a b h)
-
-pub or-ne : (a b : ℕ) (r x : Bool) → (a ≡ b → ⊥) → r ≡ x → r ≡ (eqb a b || x)
-or-ne a b r x h q = rw (ne-eqb a b h) q
-
-pub ruleset choices = (or-yes, or-no, or-eq, or-ne)
 
 pub digit-high : (b : ℕ) → digit0 ≤ b → leb b digit9 ≡ isDigit b
 unfolding within

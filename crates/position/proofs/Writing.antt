@@ -1,16 +1,18 @@
 -- What each answer of the writer must show, and the 19 bytes that it builds.
 -- Assumes nothing.
-use mathlib.Core.Path.{_≡_, refl, sym, ap, _∙_}
+use mathlib.Core.Path.{_≡_, sym, ap, _∙_}
 use mathlib.Core.Bool.{Bool, true, false, not}
-use mathlib.Core.List.{List, [], _∷_, _++_, append-nil}
+use mathlib.Core.List.{List, [], _∷_, _++_}
 use Prim.Native.Nat.{ℕ, _+_, _≤_}
 use native.Mathlib.Omega.{arith}
 use borrow.Author.Tests.{le-ltb, not-true, not-false}
 use lib.IntN.{ℤ, natAbs}
-use lib.ListN.{length, getD, drop-of-length-le}
-use Rattle.laws.specs.Wrote.{Wrote, ends, refusedBy, doneBy, wroteAs, wrote}
+use lib.ListN.{length, getD}
+use Rattle.laws.specs.Wrote.{ends, refusedBy, wrote}
 use Rattle.laws.specs.declared.Answer.{Answer}
+use Rattle.laws.proofs.Lists.{elements, elements-all}
 use Rattle.laws.proofs.Wrote.{refuses}
+use Rattle.laws.proofs.Answers.{filled}
 use Rattle.lonlat.specs.Angle.{mostLatitude, mostLongitude}
 use Rattle.lonlat.specs.Latitude.{latitudeText, latitudeRefusal}
 use Rattle.lonlat.specs.Longitude.{longitudeText, longitudeRefusal}
@@ -20,15 +22,6 @@ use Rattle.position.specs.Reach.{inReach}
 use Rattle.position.specs.Position.{placeInRange, symbolsInRange, positionRefusal, positionText}
 use Rattle.position.proofs.Reach.{reach-near, reach-few}
 
--- a writer that is not refused and fills the buffer leaves its bytes alone there
-filled : (r : Answer) (refusal : ℕ) (bytes out out′ : List ℕ) → refusal ≡ 0 → length bytes ≡ length out → ends r out′ ≡ wrote refusal bytes out → out′ ≡ bytes
-unfolding wrote wroteAs
-filled r refusal bytes out out′ z e f =
-    let h : length out ≤ length bytes = omega arith in
-    let k : length bytes ≤ length out = omega arith in
-    let w : wrote refusal bytes out ≡ ends (doneBy (length bytes)) (bytes ++ []) = rw (z, le-ltb (length out) (length bytes) k, drop-of-length-le out h) in
-    ap (λ (x : Wrote). x .buffer) (f ∙ w) ∙ append-nil bytes
-
 module _ (angle : ℤ) (blanks : ℕ) (e : inReach mostLatitude (natAbs angle) blanks ≡ true) where
   fine : latitudeRefusal angle blanks ≡ 0
   unfolding latitudeRefusal
@@ -37,31 +30,18 @@ module _ (angle : ℤ) (blanks : ℕ) (e : inReach mostLatitude (natAbs angle) b
   pub latitude-filled : (r : Answer) (out out′ : List ℕ) → length out ≡ 8 → ends r out′ ≡ wrote (latitudeRefusal angle blanks) (latitudeText angle blanks) out → out′ ≡ latitudeText angle blanks
   latitude-filled r out out′ l f =
       let few = reach-few mostLatitude (natAbs angle) blanks e in
-      filled r (latitudeRefusal angle blanks) (latitudeText angle blanks) out out′ fine (latitude-text-length angle blanks (omega arith) ∙ sym l) f
+      filled r out′ (latitudeText angle blanks) out (latitudeRefusal angle blanks) f fine (latitude-text-length angle blanks (omega arith) ∙ sym l)
 
 pub longitude-filled : (angle : ℤ) → natAbs angle ≤ mostLongitude → (r : Answer) (out out′ : List ℕ) → length out ≡ 9
     → ends r out′ ≡ wrote (longitudeRefusal angle) (longitudeText angle) out → out′ ≡ longitudeText angle
 unfolding longitudeRefusal
-longitude-filled angle h r out out′ l f = filled r (longitudeRefusal angle) (longitudeText angle) out out′ (rw (le-ltb mostLongitude (natAbs angle) h)) (longitude-text-length angle ∙ sym l) f
+longitude-filled angle h r out out′ l f = filled r out′ (longitudeText angle) out (longitudeRefusal angle) f (rw (le-ltb mostLongitude (natAbs angle) h)) (longitude-text-length angle ∙ sym l)
 
 -- ---- the 19 bytes
 
-eight : (l : List ℕ) → length l ≡ 8 → (t : List ℕ) → getD l 0 0 ∷ getD l 1 0 ∷ getD l 2 0 ∷ getD l 3 0 ∷ getD l 4 0 ∷ getD l 5 0 ∷ getD l 6 0 ∷ getD l 7 0 ∷ t ≡ l ++ t
-eight [] h t = absurd (omega arith)
-eight (a ∷ []) h t = absurd (omega arith)
-eight (a ∷ b ∷ []) h t = absurd (omega arith)
-eight (a ∷ b ∷ c ∷ []) h t = absurd (omega arith)
-eight (a ∷ b ∷ c ∷ d ∷ []) h t = absurd (omega arith)
-eight (a ∷ b ∷ c ∷ d ∷ e ∷ []) h t = absurd (omega arith)
-eight (a ∷ b ∷ c ∷ d ∷ e ∷ f ∷ []) h t = absurd (omega arith)
-eight (a ∷ b ∷ c ∷ d ∷ e ∷ f ∷ g ∷ []) h t = absurd (omega arith)
-eight (a ∷ b ∷ c ∷ d ∷ e ∷ f ∷ g ∷ i ∷ []) h t = refl
-eight (a ∷ b ∷ c ∷ d ∷ e ∷ f ∷ g ∷ i ∷ j ∷ l) h t = absurd (omega arith)
-
-nine : (l : List ℕ) → length l ≡ 9 → (t : List ℕ)
-    → getD l 0 0 ∷ getD l 1 0 ∷ getD l 2 0 ∷ getD l 3 0 ∷ getD l 4 0 ∷ getD l 5 0 ∷ getD l 6 0 ∷ getD l 7 0 ∷ getD l 8 0 ∷ t ≡ l ++ t
-nine [] h t = absurd (omega arith)
-nine (a ∷ l) h t = ap {B = List ℕ} (λ m. a ∷ m) (eight l (omega arith) t)
+-- a list of known length in front of another, written out
+spelled : (n : ℕ) (l : List ℕ) → length l ≡ n → (t : List ℕ) → elements 0 l 0 n ++ t ≡ l ++ t
+spelled n l h t = ap (λ (m : List ℕ). m ++ t) (elements-all 0 l n h)
 
 module _ (p : Place) (few : p .blanks ≤ 5) (n e : List ℕ) (i : n ≡ latitudeText (p .latitude .0) (p .blanks)) (j : e ≡ longitudeText (p .longitude .0)) where
   pub position-made : getD n 0 0 ∷ getD n 1 0 ∷ getD n 2 0 ∷ getD n 3 0 ∷ getD n 4 0 ∷ getD n 5 0 ∷ getD n 6 0 ∷ getD n 7 0 ∷ p .table
@@ -70,7 +50,7 @@ module _ (p : Place) (few : p .blanks ≤ 5) (n e : List ℕ) (i : n ≡ latitud
   unfolding positionText
   position-made =
       let l = latitude-text-length (p .latitude .0) (p .blanks) (omega arith) in
-      rw (← i, ← j) (eight n (ap length i ∙ l) _ ∙ ap {B = List ℕ} (λ t. n ++ (p .table ∷ t)) (nine e (ap length j ∙ longitude-text-length (p .longitude .0)) (p .code ∷ [])))
+      rw (← i, ← j) (spelled 8 n (ap length i ∙ l) _ ∙ ap {B = List ℕ} (λ t. n ++ (p .table ∷ t)) (spelled 9 e (ap length j ∙ longitude-text-length (p .longitude .0)) (p .code ∷ [])))
 
 -- ---- answers: u and v are the two tests
 

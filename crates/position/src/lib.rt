@@ -143,11 +143,12 @@ pub fn read_position(s: &[u8]) -> PositionRead
     }
 }
 
-// Whether an angle's size and its blanks are in range.
-fn in_reach(most: u32, size: u32, blanks: u8) -> bool
-    ensures { λ r. ⌜ r ≡ inReach most size blanks ⌝ }
+// Whether an angle and its blanks are in range.
+fn in_reach(most: u32, angle: i32, blanks: u8) -> bool
+    ensures { λ r. ⌜ r ≡ inReach most (natAbs angle) blanks ⌝ }
 {
-    if most < size {
+    let sides = lonlat::parts(angle);
+    if most < sides.size {
         return false;
     }
     blanks <= 5
@@ -158,13 +159,11 @@ pub fn in_range(p: Place) -> bool
     ensures { λ r. ⌜ r ≡ placeInRange p ⌝ }
 {
     let latitude = p.latitude.0;
-    let north = lonlat::parts(latitude);
-    if !in_reach(540000, north.size, p.blanks) {
+    if !in_reach(540000, latitude, p.blanks) {
         return false;
     }
     let longitude = p.longitude.0;
-    let east = lonlat::parts(longitude);
-    in_reach(1080000, east.size, p.blanks)
+    in_reach(1080000, longitude, p.blanks)
 }
 
 // Whether a position may have the symbol: both its bytes are below 128.
@@ -300,8 +299,7 @@ fn range(center: f64, blanks: u8) -> Bounds
 fn bounds_of(most: u32, angle: i32, blanks: u8) -> BoundsAnswer
     ensures { λ r. ⌜ r ≡ boundsOf most angle blanks ⌝ }
 {
-    let sides = lonlat::parts(angle);
-    if !in_reach(most, sides.size, blanks) {
+    if !in_reach(most, angle, blanks) {
         return BoundsAnswer {
             refusal: 15,
             bounds: Bounds {
@@ -310,6 +308,7 @@ fn bounds_of(most: u32, angle: i32, blanks: u8) -> BoundsAnswer
             },
         };
     }
+    let sides = lonlat::parts(angle);
     let center = degrees(sides.size);
     if sides.minus {
         let turned = range(-center, blanks);
@@ -363,8 +362,7 @@ fn box_of(most: u32, angle: i32, blanks: u8) -> PageBox
     requires { ⌜ most ≤ mostLongitude ⌝ }
     ensures { λ r. ⌜ r ≡ boxOf most angle blanks ⌝ }
 {
-    let sides = lonlat::parts(angle);
-    if !in_reach(most, sides.size, blanks) {
+    if !in_reach(most, angle, blanks) {
         return PageBox {
             refusal: 15,
             from: 0,
@@ -372,10 +370,11 @@ fn box_of(most: u32, angle: i32, blanks: u8) -> PageBox
         };
     }
     let w = width(blanks);
+    let twice = 2 * angle;
     PageBox {
         refusal: 0,
-        from: 2 * angle - w,
-        to: 2 * angle + w,
+        from: twice - w,
+        to: twice + w,
     }
 }
 

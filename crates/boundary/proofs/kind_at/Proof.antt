@@ -2,17 +2,17 @@
 use mathlib.Core.Path.{refl}
 use Rattle.packet.specs.declared.Kind.the-variants.{Position, MicE}
 use Rattle.boundary.specs.Numbers.{kindAt}
-use Rattle.boundary.proofs.Numbers.{kind-is, no-kind}
+use Rattle.boundary.proofs.Numbers.{told, no-kind}
 use Rattle.boundary.proofs.kind_at.Statement.{statement}
 use Rattle.boundary.proofs.kind_at.Tie as tie
 
 returns : tie.Need-returns
 unfolding kindAt
-returns c = kind-is (c .before .args .n) 1 Position (c .match .keys1) refl
+returns c = told kindAt (c .before .args .n) 1 Position (c .match .keys1) refl
 
 returns-2 : tie.Need-returns-2
 unfolding kindAt
-returns-2 c = kind-is (c .before .args .n) 2 MicE (c .match .keys2) refl
+returns-2 c = told kindAt (c .before .args .n) 2 MicE (c .match .keys2) refl
 
 returns-3 : tie.Need-returns-3
 returns-3 c = no-kind (c .before .args .n) (c .match .rest .0 .1) (c .match .rest .1)

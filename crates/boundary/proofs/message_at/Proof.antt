@@ -4,69 +4,69 @@ use Prim.Native.Nat.{_≤_}
 use native.Mathlib.Omega.{arith}
 use Rattle.mic_e.specs.declared.Message.the-variants.{M0, M1, M2, M3, M4, M5, M6, C0, C1, C2, C3, C4, C5, C6, Emergency}
 use Rattle.boundary.specs.Numbers.{messageAt}
-use Rattle.boundary.proofs.Numbers.{message-is, more, message-last}
+use Rattle.boundary.proofs.Numbers.{told, more, message-last}
 use Rattle.boundary.proofs.message_at.Statement.{statement}
 use Rattle.boundary.proofs.message_at.Tie as tie
 
 returns : tie.Need-returns
 unfolding messageAt
-returns c = message-is (c .before .args .n) 0 M0 (c .match .keys1) refl
+returns c = told messageAt (c .before .args .n) 0 M0 (c .match .keys1) refl
 
 returns-2 : tie.Need-returns-2
 unfolding messageAt
-returns-2 c = message-is (c .before .args .n) 1 M1 (c .match .keys2) refl
+returns-2 c = told messageAt (c .before .args .n) 1 M1 (c .match .keys2) refl
 
 returns-3 : tie.Need-returns-3
 unfolding messageAt
-returns-3 c = message-is (c .before .args .n) 2 M2 (c .match .keys3) refl
+returns-3 c = told messageAt (c .before .args .n) 2 M2 (c .match .keys3) refl
 
 returns-4 : tie.Need-returns-4
 unfolding messageAt
-returns-4 c = message-is (c .before .args .n) 3 M3 (c .match .keys4) refl
+returns-4 c = told messageAt (c .before .args .n) 3 M3 (c .match .keys4) refl
 
 returns-5 : tie.Need-returns-5
 unfolding messageAt
-returns-5 c = message-is (c .before .args .n) 4 M4 (c .match .keys5) refl
+returns-5 c = told messageAt (c .before .args .n) 4 M4 (c .match .keys5) refl
 
 returns-6 : tie.Need-returns-6
 unfolding messageAt
-returns-6 c = message-is (c .before .args .n) 5 M5 (c .match .keys6) refl
+returns-6 c = told messageAt (c .before .args .n) 5 M5 (c .match .keys6) refl
 
 returns-7 : tie.Need-returns-7
 unfolding messageAt
-returns-7 c = message-is (c .before .args .n) 6 M6 (c .match .keys7) refl
+returns-7 c = told messageAt (c .before .args .n) 6 M6 (c .match .keys7) refl
 
 returns-8 : tie.Need-returns-8
 unfolding messageAt
-returns-8 c = message-is (c .before .args .n) 7 C0 (c .match .keys8) refl
+returns-8 c = told messageAt (c .before .args .n) 7 C0 (c .match .keys8) refl
 
 returns-9 : tie.Need-returns-9
 unfolding messageAt
-returns-9 c = message-is (c .before .args .n) 8 C1 (c .match .keys9) refl
+returns-9 c = told messageAt (c .before .args .n) 8 C1 (c .match .keys9) refl
 
 returns-10 : tie.Need-returns-10
 unfolding messageAt
-returns-10 c = message-is (c .before .args .n) 9 C2 (c .match .keys10) refl
+returns-10 c = told messageAt (c .before .args .n) 9 C2 (c .match .keys10) refl
 
 returns-11 : tie.Need-returns-11
 unfolding messageAt
-returns-11 c = message-is (c .before .args .n) 10 C3 (c .match .keys11) refl
+returns-11 c = told messageAt (c .before .args .n) 10 C3 (c .match .keys11) refl
 
 returns-12 : tie.Need-returns-12
 unfolding messageAt
-returns-12 c = message-is (c .before .args .n) 11 C4 (c .match .keys12) refl
+returns-12 c = told messageAt (c .before .args .n) 11 C4 (c .match .keys12) refl
 
 returns-13 : tie.Need-returns-13
 unfolding messageAt
-returns-13 c = message-is (c .before .args .n) 12 C5 (c .match .keys13) refl
+returns-13 c = told messageAt (c .before .args .n) 12 C5 (c .match .keys13) refl
 
 returns-14 : tie.Need-returns-14
 unfolding messageAt
-returns-14 c = message-is (c .before .args .n) 13 C6 (c .match .keys14) refl
+returns-14 c = told messageAt (c .before .args .n) 13 C6 (c .match .keys14) refl
 
 returns-15 : tie.Need-returns-15
 unfolding messageAt
-returns-15 c = message-is (c .before .args .n) 14 Emergency (c .match .keys15) refl
+returns-15 c = told messageAt (c .before .args .n) 14 Emergency (c .match .keys15) refl
 
 returns-16 : tie.Need-returns-16
 returns-16 c =

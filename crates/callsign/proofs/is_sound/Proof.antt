@@ -1,7 +1,7 @@
 -- UTF-8 in front and zeros behind. Assumes nothing.
 use Rattle.laws.proofs.Picks.{picks}
 use Rattle.callsign.specs.Range.{sound}
-use Rattle.callsign.proofs.Ranges.{prefix-length}
+use Rattle.laws.proofs.Lists.{prefix-length}
 use borrow.Author.Needs.{needs}
 use Rattle.callsign.proofs.is_sound.Statement.{statement}
 use Rattle.callsign.proofs.is_sound.Tie as tie

@@ -1,7 +1,7 @@
 -- Call, dash and digits go in one after the other. Assumes nothing.
 use native.Mathlib.Omega.{arith}
 use lib.ListN.{length-take}
-use Rattle.callsign.proofs.Ranges.{prefix-length}
+use Rattle.laws.proofs.Lists.{prefix-length}
 use Rattle.callsign.proofs.Digits.{no-number, one-digit, two-digits}
 use borrow.Author.Needs.{needs}
 use Rattle.callsign.proofs.numbered.Statement.{statement}

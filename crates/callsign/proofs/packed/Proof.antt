@@ -1,9 +1,8 @@
 -- The call's characters one by one, and the seventh byte. Assumes nothing.
-use Prim.Native.Nat.{_-_, _<_}
+use Prim.Native.Nat.{_-_}
 use native.Mathlib.Omega.{arith}
 use borrow.Author.Needs.{needs}
-use lib.ListN.{length, getD}
-use denote.Ref.{now}
+use lib.ListN.{length}
 use Rattle.callsign.proofs.Sends.{Sent, start, sends, not-sent, all-sent, too-long}
 use Rattle.callsign.proofs.packed.Statement.{statement}
 use Rattle.callsign.proofs.packed.Tie as tie
@@ -48,11 +47,7 @@ loop-less : tie.Need-loop-less Inv-loop μ-loop
 loop-less c = omega arith
 
 loop-again : tie.Need-loop-again Inv-loop μ-loop
-loop-again c =
-    let k = c .before .before .before in
-    let l = k .before .before in
-    let h : getD (now (l .before .before .before .args .call)) (l .loop .i) 0 < 256 = k .shared-slice-known2 .given (l .loop .i) .fits in
-    search sends
+loop-again c = search sends
 
 array-write-bytes-2 : tie.Need-array-write-bytes-2 Inv-loop μ-loop
 array-write-bytes-2 c = omega arith

@@ -1,6 +1,7 @@
 -- A text without its star, by its first dash. Assumes nothing.
 use mathlib.Core.Logic.{⊎-elim}
-use Rattle.callsign.proofs.Texts.{too-long, no-utf8, undashed, no-call, no-ssid, ssid-zero, ssid-long, ssid-other, found-le, found-room, found-part, part-le}
+use Rattle.laws.proofs.Places.{found-le, found-room, found-part}
+use Rattle.callsign.proofs.Texts.{too-long, no-utf8, undashed, no-call, no-ssid, ssid-zero, ssid-long, ssid-other, part-le}
 use borrow.Author.Needs.{needs}
 use Rattle.callsign.proofs.read_unstarred.Statement.{statement}
 use Rattle.callsign.proofs.read_unstarred.Tie as tie

@@ -1,5 +1,5 @@
 -- The bytes and the star go out together. Assumes nothing.
-use Rattle.callsign.proofs.Ranges.{prefix-length}
+use Rattle.laws.proofs.Lists.{prefix-length}
 use Rattle.callsign.proofs.Writes.{with-star, without-star, short-prefix}
 use borrow.Author.Needs.{needs}
 use Rattle.callsign.proofs.write_starred.Statement.{statement}

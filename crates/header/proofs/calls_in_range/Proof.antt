@@ -5,13 +5,14 @@ use native.Mathlib.Omega.{arith}
 use borrow.Author.Needs.{needs}
 use lib.ListN.{take}
 use lib.Seq.{slice}
-use Rattle.header.specs.Range.{everyHop, hopInRange}
-use Rattle.header.proofs.EveryHop.{every-more, every-not, every-end}
+use Rattle.laws.specs.Lists.{every}
+use Rattle.laws.proofs.Each.{part-more, part-not, part-end}
+use Rattle.header.specs.Range.{hopInRange}
 use Rattle.header.proofs.calls_in_range.Statement.{statement}
 use Rattle.header.proofs.calls_in_range.Tie as tie
 
 abbrev Inv-loop : tie.InvT-loop
-Inv-loop n hops i₀ i = (i ≤ n) × (everyHop hopInRange (take n hops) ≡ everyHop hopInRange (slice i n hops))
+Inv-loop n hops i₀ i = (i ≤ n) × (every hopInRange (take n hops) ≡ every hopInRange (slice i n hops))
 
 abbrev μ-loop : tie.MeasureT-loop
 μ-loop n hops i₀ i = n - i
@@ -29,7 +30,7 @@ in-range-requires : tie.Need-in-range-requires Inv-loop μ-loop
 in-range-requires c κs = search needs
 
 returns : tie.Need-returns Inv-loop μ-loop
-returns c = search (every-not, needs)
+returns c = search (part-not, needs)
 
 add-i : tie.Need-add-i Inv-loop μ-loop
 add-i c = omega arith
@@ -38,10 +39,10 @@ loop-less : tie.Need-loop-less Inv-loop μ-loop
 loop-less c = omega arith
 
 loop-again : tie.Need-loop-again Inv-loop μ-loop
-loop-again c = (omega arith, search (every-more, needs))
+loop-again c = (omega arith, search (part-more, needs))
 
 returns-2 : tie.Need-returns-2 Inv-loop μ-loop
-returns-2 c = search every-end
+returns-2 c = search part-end
 
 pub calls-in-range-spec : {M : Type 1} → statement M
 calls-in-range-spec =

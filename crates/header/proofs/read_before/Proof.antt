@@ -1,6 +1,7 @@
 -- Source up to the first `>`, the route after it. Assumes nothing.
-use Rattle.header.proofs.Heads.{found-part, found-next, found-fits, no-source, source-refused, source-read}
 use borrow.Author.Needs.{needs}
+use Rattle.laws.proofs.Places.{found-part, found-next, found-fits}
+use Rattle.header.proofs.Heads.{no-source, source-refused, source-read}
 use Rattle.header.proofs.read_before.Statement.{statement}
 use Rattle.header.proofs.read_before.Tie as tie
 

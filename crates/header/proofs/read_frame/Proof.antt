@@ -1,5 +1,6 @@
 -- A frame: 1 by its length, then destination, source and the rest. Assumes nothing.
-use Rattle.header.proofs.Frames.{seven-front, no-destination, destination-refused, destination-last, destination-read}
+use Rattle.laws.proofs.Lists.{part-length}
+use Rattle.header.proofs.Frames.{no-destination, destination-refused, destination-last, destination-read}
 use Rattle.laws.proofs.Picks.{picks}
 use Rattle.header.specs.Frame.{readFrameHeader}
 use borrow.Author.Needs.{needs}
@@ -20,7 +21,7 @@ returns-2 : tie.Need-returns-2
 returns-2 c = search no-destination
 
 slice-aggregate-read-address : tie.Need-slice-aggregate-read-address
-slice-aggregate-read-address c = search seven-front
+slice-aggregate-read-address c = search part-length
 
 read-address-requires : tie.Need-read-address-requires
 read-address-requires c κs = search needs

@@ -2,8 +2,8 @@
 use native.Mathlib.Omega.{arith}
 use borrow.Author.Needs.{needs}
 use lib.ListN.{length}
-use Rattle.header.proofs.TextHops.{Reading, reading-start, ninth, hop-refused, hop-last, hop-next, hop-fits, hop-less, hop-more, hops-read}
-use Rattle.header.proofs.Heads.{found-part}
+use Rattle.laws.proofs.Places.{found-part, found-next}
+use Rattle.header.proofs.TextHops.{Reading, reading-start, ninth, hop-refused, hop-last, hop-fits, hop-less, hop-more, hops-read}
 use Rattle.header.proofs.read_hops.Statement.{statement}
 use Rattle.header.proofs.read_hops.Tie as tie
 
@@ -59,10 +59,10 @@ add-t : tie.Need-add-t Inv-loop μ-loop
 add-t c = search hop-fits
 
 sub-t : tie.Need-sub-t Inv-loop μ-loop
-sub-t c = search hop-next
+sub-t c = search found-next
 
 part-t-start : tie.Need-part-t-start Inv-loop μ-loop
-part-t-start c = search hop-next
+part-t-start c = search found-next
 
 part-t-end : tie.Need-part-t-end Inv-loop μ-loop
 part-t-end c = search needs

@@ -1,6 +1,7 @@
 -- Destination up to the first comma, hops after it. Assumes nothing.
-use Rattle.header.proofs.Heads.{found-part, found-next, found-fits, to-refused, to-alone, to-hops}
 use borrow.Author.Needs.{needs}
+use Rattle.laws.proofs.Places.{found-part, found-next, found-fits}
+use Rattle.header.proofs.Heads.{to-refused, to-alone, to-hops}
 use Rattle.header.proofs.read_route.Statement.{statement}
 use Rattle.header.proofs.read_route.Tie as tie
 

@@ -1,6 +1,7 @@
 -- A line: 1 by its length, 2 without a colon, else what stands before the colon. Assumes nothing.
-use Rattle.header.proofs.Heads.{found-part, found-fits, no-colon, at-colon}
 use Rattle.laws.proofs.Picks.{picks}
+use Rattle.laws.proofs.Places.{found-part, found-fits}
+use Rattle.header.proofs.Heads.{no-colon, at-colon}
 use Rattle.header.specs.Text.{readTextHeader}
 use borrow.Author.Needs.{needs}
 use Rattle.header.proofs.read_text.Statement.{statement}

@@ -1,15 +1,15 @@
 -- `blank`: so far every byte was a blank, so all are if the rest are. Assumes nothing.
-use mathlib.Core.Path.{_≡_, refl, sym, _∙_}
+use mathlib.Core.Path.{_≡_, refl, sym}
 use mathlib.Core.Bool.{true, false}
 use mathlib.Core.List.{List}
 use Prim.Native.Nat.{ℕ, _+_, _-_, _<_, _≤_}
 use native.Mathlib.Omega.{arith}
 use borrow.Author.Tests.{eq-eqb, ne-eqb}
-use lib.ListN.{length, drop, getD, drop-of-length-le}
+use lib.ListN.{length, drop, getD}
 use Rattle.laws.specs.Bytes.{space}
-use Rattle.lonlat.specs.Digits.{every}
+use Rattle.laws.specs.Lists.{every}
+use Rattle.laws.proofs.Each.{every-more, every-not, every-end}
 use Rattle.lonlat.specs.Latitude.{isBlank}
-use Rattle.lonlat.proofs.Digits.{every-more, every-not}
 use Rattle.lonlat.proofs.blank.Statement.{statement}
 use Rattle.lonlat.proofs.blank.Tie as tie
 
@@ -26,7 +26,7 @@ shared-slice-read-if1 : tie.Need-shared-slice-read-if1 Inv-loop μ-loop
 shared-slice-read-if1 c = omega arith
 
 stops : (t : List ℕ) (i : ℕ) → i < length t → (getD t i 0 ≡ space → ⊥) → every isBlank t ≡ every isBlank (drop i t) → false ≡ every isBlank t
-stops t i h k e = sym (every-not isBlank t i h (ne-eqb (getD t i 0) space k) e)
+stops t i h k e = sym (every-not isBlank 0 t i h (ne-eqb (getD t i 0) space k) e)
 
 returns : tie.Need-returns Inv-loop μ-loop
 returns c = search stops
@@ -38,14 +38,13 @@ loop-less : tie.Need-loop-less Inv-loop μ-loop
 loop-less c = omega arith
 
 goes-on : (t : List ℕ) (i : ℕ) → i < length t → getD t i 0 ≡ space → every isBlank t ≡ every isBlank (drop i t) → every isBlank t ≡ every isBlank (drop (i + 1) t)
-goes-on t i h k e = every-more isBlank t i h (eq-eqb (getD t i 0) space k) e
+goes-on t i h k e = every-more isBlank 0 t i h (eq-eqb (getD t i 0) space k) e
 
 loop-again : tie.Need-loop-again Inv-loop μ-loop
 loop-again c = (omega arith, search goes-on)
 
 ended : (t : List ℕ) (i : ℕ) → length t ≤ i → every isBlank t ≡ every isBlank (drop i t) → true ≡ every isBlank t
-unfolding every
-ended t i h e = sym (e ∙ rw (drop-of-length-le t h))
+ended t i h e = sym (every-end isBlank t i h e)
 
 returns-2 : tie.Need-returns-2 Inv-loop μ-loop
 returns-2 c = search ended

@@ -7,9 +7,12 @@ use native.Mathlib.Omega.{arith}
 use lib.ListN.{length, drop, getD, drop-of-length-le}
 use denote.Ref.{now}
 use Rattle.laws.specs.Bytes.{digit0, digit9, isDigit}
+use Rattle.laws.specs.Lists.{every}
+use Rattle.laws.proofs.Tests.{within-yes}
+use Rattle.laws.proofs.Each.{every-more, every-not, every-end}
 use Rattle.lonlat.specs.declared.Size.the-variants.{Hundredths, NoDigit}
-use Rattle.lonlat.specs.Digits.{every, numberAfter, numberOf, sizeOf}
-use Rattle.lonlat.proofs.Digits.{every-more, every-not, digit-within, digit-below, digit-above, grows, seven, number-more, value-number}
+use Rattle.lonlat.specs.Digits.{numberAfter, numberOf, sizeOf}
+use Rattle.lonlat.proofs.Digits.{digit-below, digit-above, grows, seven, number-more, value-number}
 use Rattle.lonlat.proofs.value.Statement.{statement}
 use Rattle.lonlat.proofs.value.Tie as tie
 
@@ -22,20 +25,20 @@ abbrev μ-loop : tie.MeasureT-loop
 module _ (t : List ℕ) (i : ℕ) (h : i < length t) (e : every isDigit t ≡ every isDigit (drop i t)) where
   below : getD t i 0 < digit0 → NoDigit ≡ sizeOf t
   unfolding sizeOf
-  below k = rw (every-not isDigit t i h (digit-below (getD t i 0) k) e)
+  below k = rw (every-not isDigit 0 t i h (digit-below (getD t i 0) k) e)
 
   above : digit9 < getD t i 0 → NoDigit ≡ sizeOf t
   unfolding sizeOf
-  above k = rw (every-not isDigit t i h (digit-above (getD t i 0) k) e)
+  above k = rw (every-not isDigit 0 t i h (digit-above (getD t i 0) k) e)
 
   goes-on : digit0 ≤ getD t i 0 → getD t i 0 ≤ digit9 → every isDigit t ≡ every isDigit (drop (i + 1) t)
-  goes-on k l = every-more isDigit t i h (digit-within (getD t i 0) k l) e
+  goes-on k l = every-more isDigit 0 t i h (within-yes digit0 digit9 (getD t i 0) k l) e
 
 ended : (t : List ℕ) (i v : ℕ) → 4 ≤ length t → length t ≤ i → every isDigit t ≡ every isDigit (drop i t) → numberOf t ≡ numberAfter v (drop i t)
     → Hundredths (6000 * (v / 10000) + v % 10000) ≡ sizeOf t
-unfolding sizeOf every numberAfter
+unfolding sizeOf numberAfter
 ended t i v l h e n =
-    let d : every isDigit t ≡ true = e ∙ rw (drop-of-length-le t h) in
+    let d : every isDigit t ≡ true = every-end isDigit t i h e in
     let m : numberOf t ≡ v = n ∙ rw (drop-of-length-le t h) in
     rw d (ap Hundredths (sym (value-number t l d ∙ rw m)))
 

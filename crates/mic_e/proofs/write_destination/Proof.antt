@@ -18,7 +18,7 @@ use Rattle.mic_e.specs.Message.{bitsOf}
 use Rattle.mic_e.specs.Destination.{charactersOf, destinationBytes, destinationRefusal, writeDestination}
 use Rattle.mic_e.specs.declared.Bits.{Bits}
 use Rattle.mic_e.specs.declared.Message.{Message}
-use Rattle.mic_e.proofs.Answers.{refusal-is, bytes-are}
+use Rattle.laws.proofs.Answers.{refusal-is, bytes-are}
 use Rattle.lonlat.proofs.Texts.{latitude-text-length}
 use Rattle.mic_e.proofs.Range.{few-blanks}
 use borrow.Author.Needs.{needs}

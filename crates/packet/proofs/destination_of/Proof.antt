@@ -1,5 +1,6 @@
 -- Six characters of the call, or none that can be read. Assumes nothing.
-use Rattle.packet.proofs.Bodies.{call-other, call-six, six-in, six-long}
+use Rattle.laws.proofs.Lists.{prefix-length}
+use Rattle.packet.proofs.Bodies.{call-other, call-six, six-in}
 use borrow.Author.Needs.{length-unmapped}
 use borrow.Author.Needs.{needs}
 use Rattle.packet.proofs.destination_of.Statement.{statement}
@@ -12,7 +13,7 @@ array-share-prefix-text : tie.Need-array-share-prefix-text
 array-share-prefix-text c = search (six-in, length-unmapped)
 
 slice-aggregate-read-destination : tie.Need-slice-aggregate-read-destination
-slice-aggregate-read-destination c = search (six-long, length-unmapped)
+slice-aggregate-read-destination c = search (prefix-length, length-unmapped, needs)
 
 read-destination-requires : tie.Need-read-destination-requires
 read-destination-requires c κs = search needs

@@ -6,8 +6,8 @@ use borrow.Author.Needs.{needs}
 use Rattle.packet.proofs.is_no_report.Statement.{statement}
 use Rattle.packet.proofs.is_no_report.Tie as tie
 
-is-no-message-requires : tie.Need-is-no-message-requires
-is-no-message-requires c κs = search needs
+message-number-requires : tie.Need-message-number-requires
+message-number-requires c κs = search needs
 
 returns : tie.Need-returns
 unfolding isNoReport
@@ -27,4 +27,4 @@ returns-4 c = search (picks, tests)
 
 pub is-no-report-spec : {M : Type 1} → statement M
 is-no-report-spec =
-    tie.close (tie.spec is-no-message-requires returns returns-2 returns-3 returns-4)
+    tie.close (tie.spec message-number-requires returns returns-2 returns-3 returns-4)

@@ -6,8 +6,8 @@ use borrow.Author.Needs.{needs}
 use Rattle.packet.proofs.mic_e_in_range.Statement.{statement}
 use Rattle.packet.proofs.mic_e_in_range.Tie as tie
 
-is-no-call-requires : tie.Need-is-no-call-requires
-is-no-call-requires c κs = search needs
+is-blank-requires : tie.Need-is-blank-requires
+is-blank-requires c κs = search needs
 
 returns : tie.Need-returns
 unfolding micEInRange
@@ -42,7 +42,7 @@ pub mic-e-in-range-spec : {M : Type 1} → statement M
 mic-e-in-range-spec =
     tie.close
     (tie.spec
-    is-no-call-requires
+    is-blank-requires
     returns
     returns-2
     in-range-requires

@@ -1,6 +1,6 @@
 -- `numeric`: the tests in order. Assumes nothing.
 use Rattle.position.specs.Position.{isNumeric}
-use Rattle.position.proofs.Reading.{choices}
+use Rattle.laws.proofs.Picks.{choices}
 use borrow.Author.Needs.{needs}
 use Rattle.position.proofs.numeric.Statement.{statement}
 use Rattle.position.proofs.numeric.Tie as tie

@@ -1,7 +1,7 @@
 -- `longitudes_in`: the first bytes of a buffer are a part of it.
 -- Assumes nothing.
 use borrow.Author.Needs.{needs}
-use Rattle.callsign.proofs.Ranges.{prefix-length}
+use Rattle.laws.proofs.Lists.{prefix-length}
 use Rattle.bench.proofs.ask.longitudes_in.Statement.{statement}
 use Rattle.bench.proofs.ask.longitudes_in.Tie as tie
 

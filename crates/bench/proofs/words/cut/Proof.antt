@@ -1,7 +1,7 @@
 -- `cut`: the first bytes of a slice are a part of it.
 -- Assumes nothing.
 use borrow.Author.Needs.{needs}
-use Rattle.callsign.proofs.Ranges.{prefix-length}
+use Rattle.laws.proofs.Lists.{prefix-length}
 use Rattle.bench.proofs.words.cut.Statement.{statement}
 use Rattle.bench.proofs.words.cut.Tie as tie
 

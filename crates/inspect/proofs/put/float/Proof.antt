@@ -1,5 +1,5 @@
 -- `float`: a float that equals itself is no NaN, so that it has bits. Assumes nothing.
-use Rattle.inspect.proofs.Parts.{not-nan}
+use Rattle.inspect.proofs.Floats.{not-nan}
 use borrow.Author.Needs.{needs}
 use Rattle.inspect.proofs.put.float.Statement.{statement}
 use Rattle.inspect.proofs.put.float.Tie as tie
@@ -13,17 +13,17 @@ float-to-bits-hex c = not-nan (c .before .before .args .x) (c .if1 .left)
 hex-requires : tie.Need-hex-requires
 hex-requires c κs = search needs
 
-byte-requires : tie.Need-byte-requires
-byte-requires c κs = search needs
+put-byte-requires : tie.Need-put-byte-requires
+put-byte-requires c κs = search needs
 
 array-share-prefix-digits : tie.Need-array-share-prefix-digits
 array-share-prefix-digits c = search needs
 
-slice-aggregate-text : tie.Need-slice-aggregate-text
-slice-aggregate-text c = search needs
+slice-aggregate-put : tie.Need-slice-aggregate-put
+slice-aggregate-put c = search needs
 
-text-requires : tie.Need-text-requires
-text-requires c κs = search needs
+put-requires : tie.Need-put-requires
+put-requires c κs = search needs
 
 same-length : tie.Need-same-length
 same-length c = search needs
@@ -38,9 +38,9 @@ float-spec =
     returns
     float-to-bits-hex
     hex-requires
-    byte-requires
+    put-byte-requires
     array-share-prefix-digits
-    slice-aggregate-text
-    text-requires
+    slice-aggregate-put
+    put-requires
     same-length
     returns-2)

@@ -14,14 +14,14 @@ Inv-loop out₀ at path end₀ i₀ out end i = (i ≤ 8) × (length out ≡ len
 abbrev μ-loop : tie.MeasureT-loop
 μ-loop out₀ at path end₀ i₀ out end i = 8 - i
 
-slice-aggregate-text : tie.Need-slice-aggregate-text Inv-loop μ-loop
-slice-aggregate-text c = search needs
+slice-aggregate-put : tie.Need-slice-aggregate-put Inv-loop μ-loop
+slice-aggregate-put c = search needs
 
-text-requires : tie.Need-text-requires Inv-loop μ-loop
-text-requires c κs = tt
+put-requires : tie.Need-put-requires Inv-loop μ-loop
+put-requires c κs = tt
 
-byte-requires : tie.Need-byte-requires Inv-loop μ-loop
-byte-requires c κs = tt
+put-byte-requires : tie.Need-put-byte-requires Inv-loop μ-loop
+put-byte-requires c κs = tt
 
 same-length : tie.Need-same-length Inv-loop μ-loop
 same-length c = search needs
@@ -68,9 +68,9 @@ put-hops-spec =
     (tie.spec
     Inv-loop
     μ-loop
-    slice-aggregate-text
-    text-requires
-    byte-requires
+    slice-aggregate-put
+    put-requires
+    put-byte-requires
     same-length
     returns
     loop-holds

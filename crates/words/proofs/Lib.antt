@@ -1,0 +1,8 @@
+pub mod Parts
+pub mod Placed
+pub mod Digits
+pub mod Numbers
+pub mod Counts
+pub mod Hex
+pub mod Theorems
+pub mod Unique
