@@ -1,8 +1,8 @@
 // What a line of the table asks: its first word says which public function, the rest its arguments. The answer goes to the
 // front of out in words, and its length is answered.
+use crate::line;
 use crate::put;
 use crate::show;
-use crate::words;
 use callsign::Callsign;
 use callsign::Field;
 use lonlat::Latitude;
@@ -10,15 +10,16 @@ use lonlat::Longitude;
 use mic_e::Course;
 use mic_e::Information;
 use mic_e::Speed;
+use packet::Comment;
 use packet::PacketRead;
 use packet::Record;
 
-// What a writer wrote, or its refusal.
-fn written(w: laws::Answer, bytes: &[u8], out: &mut [u8]) -> usize {
+// What a writer wrote to the front of out, or its refusal.
+fn written(w: laws::Answer, out: &mut [u8]) -> usize {
     if w.refusal != 0 {
         return put::refusal(w.refusal, out);
     }
-    put::text(words::cut(bytes, w.reported), out, 0)
+    w.reported
 }
 
 // ---- callsigns
@@ -55,19 +56,18 @@ fn spelled(s: &[u8], out: &mut [u8]) -> usize {
     laws::write(words::rest(rest), &mut text);
     let c = Callsign {
         text,
-        call_len: words::number(s) as usize,
-        ssid_len: words::number(rest) as usize,
+        call_len: line::number(s) as usize,
+        ssid_len: line::number(rest) as usize,
     };
-    let mut bytes = [0u8; 32];
-    let w = callsign::write_text(c, false, &mut bytes);
-    written(w, &bytes, out)
+    let w = callsign::write_text(c, false, out);
+    written(w, out)
 }
 
 // ---- angles
 
 // `BLANKS TEXT`
 fn longitude(s: &[u8], out: &mut [u8]) -> usize {
-    let blanks = words::number(s);
+    let blanks = line::number(s);
     if 255 < blanks {
         return 0;
     }
@@ -76,20 +76,18 @@ fn longitude(s: &[u8], out: &mut [u8]) -> usize {
 
 // `ANGLE BLANKS`
 fn latitude_text(s: &[u8], out: &mut [u8]) -> usize {
-    let blanks = words::number(words::rest(s));
+    let blanks = line::number(words::rest(s));
     if 255 < blanks {
         return 0;
     }
-    let mut bytes = [0u8; 16];
-    let w = lonlat::write_latitude(Latitude(words::signed(s)), blanks as u8, &mut bytes);
-    written(w, &bytes, out)
+    let w = lonlat::write_latitude(Latitude(line::signed(s)), blanks as u8, out);
+    written(w, out)
 }
 
 // `ANGLE`
 fn longitude_text(s: &[u8], out: &mut [u8]) -> usize {
-    let mut bytes = [0u8; 16];
-    let w = lonlat::write_longitude(Longitude(words::signed(s)), &mut bytes);
-    written(w, &bytes, out)
+    let w = lonlat::write_longitude(Longitude(line::signed(s)), out);
+    written(w, out)
 }
 
 // ---- Mic-E fields
@@ -98,9 +96,9 @@ fn longitude_text(s: &[u8], out: &mut [u8]) -> usize {
 fn information(s: &[u8], out: &mut [u8]) -> usize {
     let speed = words::rest(s);
     let i = Information {
-        longitude: Longitude(words::signed(s)),
-        speed: Speed(words::number(speed)),
-        course: Course(words::number(words::rest(speed))),
+        longitude: Longitude(line::signed(s)),
+        speed: Speed(line::number(speed)),
+        course: Course(line::number(words::rest(speed))),
         code: b'>',
         table: b'/',
     };
@@ -121,14 +119,14 @@ fn listed(w: laws::Answer, bytes: &[u8], out: &mut [u8]) -> usize {
     if 40 < w.reported {
         return 0;
     }
-    let end = put::digits(w.reported, out, 0);
+    let end = words::put_count(w.reported, out, 0);
     put::fields(words::cut(bytes, 3 * w.reported), out, end)
 }
 
 // `SPEED COURSE`
 fn motions(s: &[u8], out: &mut [u8]) -> usize {
-    let speed = words::number(s);
-    let course = words::number(words::rest(s));
+    let speed = line::number(s);
+    let course = line::number(words::rest(s));
     let mut bytes = [0u8; 120];
     let w = fields::list_motion(Speed(speed), Course(course), &mut bytes);
     listed(w, &bytes, out)
@@ -144,15 +142,24 @@ fn longitudes_in(angle: i32, room: usize, bytes: &mut [u8]) -> laws::Answer {
 
 // `ANGLE ROOM`
 fn longitudes(s: &[u8], out: &mut [u8]) -> usize {
-    let room = words::number(words::rest(s)) as usize;
+    let room = line::number(words::rest(s)) as usize;
     let mut bytes = [0u8; 120];
-    let w = longitudes_in(words::signed(s), room, &mut bytes);
+    let w = longitudes_in(line::signed(s), room, &mut bytes);
     listed(w, &bytes, out)
 }
 
 // ---- packets
 
-fn read(r: PacketRead, out: &mut [u8]) -> usize {
+// The packet of a line, or of a frame.
+fn packet_of(frame: bool, s: &[u8]) -> PacketRead {
+    if frame {
+        return packet::read_frame(s);
+    }
+    packet::read_text(s)
+}
+
+fn read(frame: bool, s: &[u8], out: &mut [u8]) -> usize {
+    let r = packet_of(frame, s);
     if r.refusal != 0 {
         return put::refusal(r.refusal, out);
     }
@@ -160,21 +167,25 @@ fn read(r: PacketRead, out: &mut [u8]) -> usize {
     show::record(record, out)
 }
 
-// The comment of the record that was read from s.
-fn comment(r: Record, s: &[u8]) -> &[u8] {
-    words::cut(words::tail(s, r.comment.at), r.comment.len)
+// The comment at a place of s.
+fn comment(place: Comment, s: &[u8]) -> &[u8] {
+    words::cut(words::tail(s, place.at), place.len)
 }
 
-fn as_text(r: Record, s: &[u8], out: &mut [u8]) -> usize {
-    let mut bytes = [0u8; 512];
-    let w = packet::write_text(r, comment(r, s), &mut bytes);
-    written(w, &bytes, out)
+// The record of a line or of a frame as a line.
+fn as_text(frame: bool, s: &[u8], out: &mut [u8]) -> usize {
+    let r = packet_of(frame, s).record;
+    let place = r.comment;
+    let w = packet::write_text(r, comment(place, s), out);
+    written(w, out)
 }
 
-// A frame in hexadecimal.
-fn as_frame(r: Record, s: &[u8], out: &mut [u8]) -> usize {
+// The record of a line as a frame in hexadecimal.
+fn as_frame(s: &[u8], out: &mut [u8]) -> usize {
+    let r = packet::read_text(s).record;
+    let place = r.comment;
     let mut bytes = [0u8; 512];
-    let w = packet::write_frame(r, comment(r, s), &mut bytes);
+    let w = packet::write_frame(r, comment(place, s), &mut bytes);
     if w.refusal != 0 {
         return put::refusal(w.refusal, out);
     }
@@ -183,10 +194,8 @@ fn as_frame(r: Record, s: &[u8], out: &mut [u8]) -> usize {
 
 // `NUMBER LINE`: the row of the listing, without its LF.
 fn row(s: &[u8], out: &mut [u8]) -> usize {
-    let mut bytes = [0u8; 256];
-    let w = capture::write_row(words::number(s) as usize, words::rest(s), &mut bytes);
-    let n = laws::find(&bytes, b'\n');
-    put::text(words::cut(&bytes, n), out, 0)
+    capture::write_row(line::number(s) as usize, words::rest(s), out);
+    laws::find(out, b'\n')
 }
 
 // ---- recorded answers
@@ -197,28 +206,36 @@ fn again(w: laws::Answer, bytes: &[u8], s: &[u8], out: &mut [u8], at: usize) -> 
         return put::plain(b"refused", out, at);
     }
     let got = words::cut(bytes, w.reported);
-    if words::same(got, s) {
+    if check::same(got, s) {
         return put::plain(b"=", out, at);
     }
     put::plain(got, out, at)
 }
 
-fn both(r: Record, s: &[u8], out: &mut [u8], at: usize) -> usize {
+fn again_text(r: Record, s: &[u8], out: &mut [u8], at: usize) -> usize {
+    let place = r.comment;
     let mut bytes = [0u8; 512];
-    let w = packet::write_text(r, comment(r, s), &mut bytes);
-    let end = again(w, &bytes, s, out, at);
-    let w = packet::write_frame(r, comment(r, s), &mut bytes);
-    again(w, &bytes, s, out, end)
+    let w = packet::write_text(r, comment(place, s), &mut bytes);
+    again(w, &bytes, s, out, at)
 }
 
-// The record and how it is written; of a refusal only the fact.
-fn replayed(r: PacketRead, s: &[u8], out: &mut [u8]) -> usize {
+fn again_frame(r: Record, s: &[u8], out: &mut [u8], at: usize) -> usize {
+    let place = r.comment;
+    let mut bytes = [0u8; 512];
+    let w = packet::write_frame(r, comment(place, s), &mut bytes);
+    again(w, &bytes, s, out, at)
+}
+
+// The record and how it is written both ways; of a refusal only the fact.
+fn replayed(frame: bool, s: &[u8], out: &mut [u8]) -> usize {
+    let r = packet_of(frame, s);
     if r.refusal != 0 {
-        return put::text(b"refused", out, 0);
+        return words::put(b"refused", out, 0);
     }
     let record = r.record;
-    let end = show::record(record, out);
-    both(record, s, out, end)
+    let mut end = show::record(record, out);
+    end = again_text(record, s, out, end);
+    again_frame(record, s, out, end)
 }
 
 // ---- which function
@@ -249,15 +266,15 @@ fn of_angles(k: usize, s: &[u8], out: &mut [u8]) -> usize {
 
 fn of_packets(k: usize, s: &[u8], out: &mut [u8]) -> usize {
     match k {
-        14 => replayed(packet::read_text(s), s, out),
-        15 => replayed(packet::read_frame(s), s, out),
-        16 => read(packet::read_text(s), out),
-        17 => read(packet::read_frame(s), out),
-        18 => as_text(packet::read_text(s).record, s, out),
-        19 => as_frame(packet::read_text(s).record, s, out),
-        20 => as_text(packet::read_frame(s).record, s, out),
+        14 => replayed(false, s, out),
+        15 => replayed(true, s, out),
+        16 => read(false, s, out),
+        17 => read(true, s, out),
+        18 => as_text(false, s, out),
+        19 => as_frame(s, out),
+        20 => as_text(true, s, out),
         21 => row(s, out),
-        _ => put::text(b"no such question", out, 0),
+        _ => words::put(b"no such question", out, 0),
     }
 }
 
@@ -278,7 +295,7 @@ fn place(word: &[u8], list: &[u8]) -> usize {
     while from < list.len() {
         let t = &list[from..];
         let n = laws::find(t, b' ');
-        if words::same(words::cut(t, n), word) {
+        if check::same(words::cut(t, n), word) {
             return k;
         }
         if list.len() - from <= n {
@@ -306,6 +323,6 @@ pub fn answer(question: &[u8], out: &mut [u8]) -> usize {
         b"callsign address to from last-from last-hop spelled latitude longitude latitude-text longitude-text information motions longitudes T F text frame text-text text-frame frame-text row",
     );
     let mut input = io::buffer();
-    let n = words::bytes(words::rest(question), &mut input);
+    let n = line::bytes(words::rest(question), &mut input);
     asked(k, words::cut(&input, n), out)
 }

@@ -1,33 +1,33 @@
 // Runs the bench, a table on standard input. Each line asks a public function and says what its answer should be: document
 // 01's values, the typesetter's traps, published examples, readings of open points, and recorded answers of the Rust.
 mod ask;
+mod line;
 mod put;
 mod show;
 mod tell;
-mod words;
 
 use tell::Tally;
 
 // What a line's answer should be.
 fn wanted(s: &[u8]) -> &[u8] {
-    words::tail(words::tail(s, words::arrow(s)), 4)
+    words::tail(words::tail(s, line::arrow(s)), 4)
 }
 
 // Whether a line is a recorded answer.
 fn is_recorded(s: &[u8]) -> bool {
-    if words::starts(s, b"T ") {
+    if line::starts(s, b"T ") {
         return true;
     }
-    words::starts(s, b"F ")
+    line::starts(s, b"F ")
 }
 
 // Asks what one line asks, and compares.
 fn compare(t: Tally, s: &[u8], out: &mut [u8]) -> Tally {
-    let question = words::cut(s, words::arrow(s));
+    let question = words::cut(s, line::arrow(s));
     let mut got = io::buffer();
     let n = ask::answer(question, &mut got);
     let is = words::cut(&got, n);
-    if words::same(is, wanted(s)) {
+    if check::same(is, wanted(s)) {
         return tell::right(t, question, is_recorded(s), out);
     }
     tell::wrong(t, s, is, out)
@@ -38,7 +38,7 @@ fn take(t: Tally, s: &[u8], out: &mut [u8]) -> Tally {
     if s.len() == 0 {
         return t;
     }
-    if words::starts(s, b"#") {
+    if line::starts(s, b"#") {
         let used = tell::line(b"", s, out, t.used);
         return Tally {
             right: t.right,
@@ -77,23 +77,6 @@ fn serve(tally: Tally, input: &[u8], out: &mut [u8]) -> Step {
     }
 }
 
-// Moves the bytes from the place `from` up to `to` to the front of input; answers how many they are.
-fn shift(input: &mut [u8], from: usize, to: usize) -> usize {
-    if input.len() < to {
-        return 0;
-    }
-    if to < from {
-        return 0;
-    }
-    let n = to - from;
-    let mut i: usize = 0;
-    while i < n {
-        input[i] = input[from + i];
-        i += 1;
-    }
-    n
-}
-
 // Reads once behind the bytes held; answers how many are held then: no more at the end of the input.
 fn fill(input: &mut [u8], held: usize) -> usize {
     if input.len() < held {
@@ -125,7 +108,7 @@ fn run(input: &mut [u8], out: &mut [u8]) -> Step {
         }
         let step = serve(t, words::cut(input, now), out);
         t = step.tally;
-        held = shift(input, step.done, now);
+        held = words::shift(input, step.done, now);
     }
     Step {
         tally: t,

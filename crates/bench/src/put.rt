@@ -1,60 +1,18 @@
 // The words of an answer: each goes behind the first `at` bytes of out, a space before it where it is not the first, and the
 // place after it is answered. What does not fit is left out; the program keeps more room than any answer takes.
 
-pub fn byte(b: u8, out: &mut [u8], at: usize) -> usize {
-    if out.len() <= at {
-        return at;
-    }
-    out[at] = b;
-    at + 1
-}
-
-// A text as it stands, without a space before it.
-pub fn text(s: &[u8], out: &mut [u8], at: usize) -> usize {
-    if out.len() < at {
-        return at;
-    }
-    let room = out.len() - at;
-    let n = laws::write(s, &mut out[at..]).reported;
-    if room < n {
-        return at;
-    }
-    at + n
-}
-
 // The space between two words.
 pub fn gap(out: &mut [u8], at: usize) -> usize {
     if at == 0 {
         return 0;
     }
-    byte(b' ', out, at)
-}
-
-// A number in decimal, without a space before it.
-pub fn digits(n: usize, out: &mut [u8], at: usize) -> usize {
-    if out.len() < at {
-        return at;
-    }
-    let room = out.len() - at;
-    let k = capture::write_count(n, &mut out[at..]).reported;
-    if room < k {
-        return at;
-    }
-    at + k
+    words::put_byte(b' ', out, at)
 }
 
 // A number that may have a sign.
 pub fn number(n: i32, out: &mut [u8], at: usize) -> usize {
-    let from = gap(out, at);
-    if out.len() < from {
-        return from;
-    }
-    let room = out.len() - from;
-    let k = capture::write_number(n, &mut out[from..]).reported;
-    if room < k {
-        return from;
-    }
-    from + k
+    let end = gap(out, at);
+    words::put_number(n, out, end)
 }
 
 // Numbers, a word each.
@@ -63,27 +21,10 @@ pub fn counts(ns: &[usize], out: &mut [u8], at: usize) -> usize {
     let mut i: usize = 0;
     while i < ns.len() {
         end = gap(out, end);
-        end = digits(ns[i], out, end);
+        end = words::put_count(ns[i], out, end);
         i += 1;
     }
     end
-}
-
-// The hexadecimal digit of a number below 16.
-fn digit(n: u8) -> u8 {
-    if n < 10 {
-        return b'0' + n;
-    }
-    if n < 16 {
-        return b'a' + (n - 10);
-    }
-    b'?'
-}
-
-// Two hexadecimal digits.
-fn pair(b: u8, out: &mut [u8], at: usize) -> usize {
-    let end = byte(digit(b >> 4), out, at);
-    byte(digit(b & 0x0f), out, end)
 }
 
 // A printed character as it stands; any other byte, a space and a `%` as `%` and two hexadecimal digits.
@@ -91,12 +32,12 @@ fn escaped(b: u8, out: &mut [u8], at: usize) -> usize {
     if b'!' <= b {
         if b <= b'~' {
             if b != b'%' {
-                return byte(b, out, at);
+                return words::put_byte(b, out, at);
             }
         }
     }
-    let end = byte(b'%', out, at);
-    pair(b, out, end)
+    let end = words::put_byte(b'%', out, at);
+    words::put_hex(b, out, end)
 }
 
 // Bytes, each escaped, without a space before them.
@@ -122,7 +63,7 @@ pub fn hex(s: &[u8], out: &mut [u8]) -> usize {
     let mut i: usize = 0;
     while i < s.len() {
         end = gap(out, end);
-        end = pair(s[i], out, end);
+        end = words::put_hex(s[i], out, end);
         i += 1;
     }
     end
@@ -133,7 +74,7 @@ pub fn lead(first: bool, out: &mut [u8], at: usize) -> usize {
     if first {
         return gap(out, at);
     }
-    byte(b',', out, at)
+    words::put_byte(b',', out, at)
 }
 
 fn wide(b: u8) -> usize {
@@ -146,7 +87,7 @@ pub fn fields(s: &[u8], out: &mut [u8], at: usize) -> usize {
     let mut i: usize = 0;
     while i < s.len() {
         end = lead(i % 3 == 0, out, end);
-        end = digits(wide(s[i]), out, end);
+        end = words::put_count(wide(s[i]), out, end);
         i += 1;
     }
     end
@@ -154,6 +95,6 @@ pub fn fields(s: &[u8], out: &mut [u8], at: usize) -> usize {
 
 // A refusal by its number, at the front of out.
 pub fn refusal(n: u8, out: &mut [u8]) -> usize {
-    let end = text(b"refused", out, 0);
+    let end = words::put(b"refused", out, 0);
     counts(&[n as usize], out, end)
 }

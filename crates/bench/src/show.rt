@@ -1,7 +1,5 @@
 // Answers in words. Callsigns and symbols are escaped; a hop starts with `+` where it was heard and with `-` where not.
-ghost use Prim.Native.Nat.{_≤_};
 use crate::put;
-use crate::words;
 use callsign::Callsign;
 use header::Hop;
 use header::Path;
@@ -34,7 +32,7 @@ pub fn called(refusal: u8, c: Callsign, flags: [usize; 2], out: &mut [u8]) -> us
 fn hop(h: Hop, out: &mut [u8], at: usize) -> usize {
     let mark = if h.heard { b'+' } else { b'-' };
     let c = h.call;
-    let end = put::byte(mark, out, at);
+    let end = words::put_byte(mark, out, at);
     call(c, out, end)
 }
 
@@ -91,39 +89,15 @@ pub fn longitude(r: LongitudeRead, out: &mut [u8]) -> usize {
 
 fn kind(k: Kind, out: &mut [u8]) -> usize {
     match k {
-        Kind::Unknown => put::text(b"unknown", out, 0),
-        Kind::Position => put::text(b"position", out, 0),
-        Kind::MicE => put::text(b"mic-e", out, 0),
-    }
-}
-
-// The place of a message among the standard ones, the custom ones and the last two.
-fn place(m: Message) -> usize
-    ensures { λ r. ⌜ r ≤ 15 ⌝ }
-{
-    match m {
-        Message::M0 => 0,
-        Message::M1 => 1,
-        Message::M2 => 2,
-        Message::M3 => 3,
-        Message::M4 => 4,
-        Message::M5 => 5,
-        Message::M6 => 6,
-        Message::C0 => 7,
-        Message::C1 => 8,
-        Message::C2 => 9,
-        Message::C3 => 10,
-        Message::C4 => 11,
-        Message::C5 => 12,
-        Message::C6 => 13,
-        Message::Emergency => 14,
-        Message::Unknown => 15,
+        Kind::Unknown => words::put(b"unknown", out, 0),
+        Kind::Position => words::put(b"position", out, 0),
+        Kind::MicE => words::put(b"mic-e", out, 0),
     }
 }
 
 // Two letters for a message: `Em` is emergency, `Un` unknown.
 fn message(m: Message, out: &mut [u8], at: usize) -> usize {
-    let n = place(m);
+    let n = mic_e::message_number(m) as usize;
     let names = words::tail(b"M0M1M2M3M4M5M6C0C1C2C3C4C5C6EmUn", 2 * n);
     put::plain(words::cut(names, 2), out, at)
 }

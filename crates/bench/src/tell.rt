@@ -1,6 +1,4 @@
 // What the program prints: a line for each value, and the totals.
-use crate::put;
-use crate::words;
 
 // How many values were as they should be, how many there were, and how many bytes of the output are in use.
 pub struct Tally {
@@ -29,9 +27,9 @@ fn ready(out: &[u8], used: usize) -> usize {
 // A line of two parts.
 pub fn line(first: &[u8], second: &[u8], out: &mut [u8], used: usize) -> usize {
     let from = ready(out, used);
-    let mut end = put::text(first, out, from);
-    end = put::text(second, out, end);
-    put::byte(b'\n', out, end)
+    let mut end = words::put(first, out, from);
+    end = words::put(second, out, end);
+    words::put_byte(b'\n', out, end)
 }
 
 // One more.
@@ -68,12 +66,16 @@ pub fn wrong(t: Tally, s: &[u8], got: &[u8], out: &mut [u8]) -> Tally {
     }
 }
 
+fn sum(right: usize, all: usize, out: &mut [u8], at: usize) -> usize {
+    let mut end = words::put_count(right, out, at);
+    end = words::put(b" of ", out, end);
+    end = words::put_count(all, out, end);
+    words::put(b" as they should be\n", out, end)
+}
+
 // The last line, and all that is not written yet.
 pub fn totals(t: Tally, out: &mut [u8]) {
-    let mut end = ready(out, t.used);
-    end = put::digits(t.right, out, end);
-    end = put::text(b" of ", out, end);
-    end = put::digits(t.all, out, end);
-    end = put::text(b" as they should be\n", out, end);
+    let from = ready(out, t.used);
+    let end = sum(t.right, t.all, out, from);
     flush(out, end);
 }

@@ -12,10 +12,11 @@ use Rattle.callsign.specs.Utf8.{utf8}
 use Rattle.callsign.specs.Text.{joined, isZero}
 use Rattle.callsign.specs.declared.Callsign.{Callsign}
 
--- the call's bytes, and the SSID's, which stand behind the dash
+-- the call's bytes
 unfoldable pub callPart : Callsign → List ℕ
 callPart c = take (c .«call_len») (c .text)
 
+-- the SSID's bytes, which stand behind the dash
 unfoldable pub ssidPart : Callsign → List ℕ
 ssidPart c = take (c .«ssid_len») (drop (c .«call_len» + 1) (c .text))
 

@@ -1,7 +1,5 @@
 pub mod Lines
 pub mod Walk
-pub mod Digits
-pub mod Numbers
 pub mod Rows
 pub mod Calls
 pub mod Hops

@@ -18,7 +18,7 @@ use Rattle.packet.specs.declared.Kind.the-variants.{Unknown, Position, MicE}
 use Rattle.packet.specs.declared.Record.{Record}
 use Rattle.packet.specs.declared.PacketRead.{PacketRead}
 use Rattle.packet.specs.Packet.{readText}
-use Rattle.capture.specs.Numbers.{digitsBy, digits, decimal}
+use Rattle.words.specs.Numbers.{digitsBy, digits, decimal}
 use Rattle.capture.specs.Row.{callField, toField, heardAmong, heardHops, angleFields, placeFields, recordFields, refusedFields, joined, rowOf, row, Added}
 use Rattle.capture.proofs.Rows.{both}
 

@@ -1,78 +1,45 @@
--- Laws of a row built piece by piece: what a writer leaves behind the first bytes of a row, and two pieces together.
+-- Laws of a row built piece by piece: a piece that fits, two pieces together, and a piece with a byte behind it.
 -- Assumes nothing.
-use mathlib.Core.Path.{_≡_, refl, sym, ap, _∙_}
+use mathlib.Core.Path.{_≡_, ap, _∙_}
 use mathlib.Core.List.{List, [], _∷_, _++_, append-assoc}
-use mathlib.Core.Bool.{Bool, true, false, cond}
-use Prim.Native.Nat.{ℕ, zero, suc, _+_, _-_, _<_, _≤_}
-use lib.Dec.{ltb}
-use borrow.Author.Tests.{ltb-false}
+use Prim.Native.Nat.{ℕ, _+_, _<_, _≤_}
 use native.Mathlib.Omega.{arith}
-use native.Mathlib.Numerals.{add-one}
-use lib.ListN.{length, set, take, drop, length-append, length-drop}
-use lib.Seq.{length-take-le, take-suc-set, take-append-add, take-append-seam}
-use borrow.Rule.Slice.PartAt.{part-to-end}
-use borrow.Rule.Slice.PartMut.{putMid, same-len-mid}
-use Rattle.laws.specs.declared.Answer.{Answer}
-use Rattle.laws.specs.Wrote.{Wrote, ends, noRoom, doneBy, wroteAs, wrote}
-use Rattle.laws.proofs.Wrote.{writes}
+use lib.ListN.{length, take, drop, length-append, length-drop}
+use lib.Seq.{length-take-le, take-at}
+use lib.IntN.{ℤ}
+use mir.Syntax.{w32, w64}
+use mir.Val.{Fits, SFits, toZ, ofZ}
+use Rattle.lonlat.proofs.Angle.{back}
+use Rattle.words.specs.Numbers.{digits, decimal}
+use Rattle.words.specs.Placed.{Left, leaves, placed}
+use Rattle.words.proofs.Digits.{count-width, number-width}
+use Rattle.words.proofs.Placed.{placed-fits}
 use Rattle.capture.specs.Row.{Added}
 
--- ---- a writer lent what stands behind the first bytes
+-- ---- a piece that fits
 
-module _ (row bytes left : List ℕ) (at after : ℕ) (w : Answer) (room : at + length bytes < length row)
-    (sent : ends w left ≡ wrote 0 bytes (take (length row - at) (drop at row))) where
-  rest : List ℕ
-  rest = take (length row - at) (drop at row)
+module _ (row piece row′ : List ℕ) (at end : ℕ) (room : at + length piece ≤ length row) (put : leaves end row′ ≡ placed piece row at) where
+  is : leaves end row′ ≡ leaves (at + length piece) (take at row ++ piece ++ drop (at + length piece) row)
+  is = put ∙ placed-fits piece row at room
 
-  rest-length : length rest ≡ length row - at
-  unfolding rest
-  rest-length = ap length (part-to-end row at) ∙ length-drop at row
+  pub end-is : end ≡ at + length piece
+  end-is = ap (λ (x : Left). x .answer) is
 
-  done : ends w left ≡ ends (doneBy (length bytes)) (bytes ++ drop (length bytes) rest)
-  unfolding rest
-  done = sent ∙ sym (writes 0 (length bytes) bytes rest (bytes ++ drop (length bytes) rest) refl refl (omega (arith, rest-length)) refl)
+  row-is : row′ ≡ take at row ++ piece ++ drop (at + length piece) row
+  row-is = ap (λ (x : Left). x .buffer) is
 
-  pub reported-is : w .reported ≡ length bytes
-  reported-is = ap (λ (x : Wrote). x .answer .reported) done
+  head-length : length (take at row ++ piece) ≡ at + length piece
+  head-length = omega (arith, length-append (take at row) piece, length-take-le at row (omega arith))
 
-  left-is : left ≡ bytes ++ drop (length bytes) rest
-  left-is = ap (λ (x : Wrote). x .buffer) done
+  pub row-length : length row′ ≡ length row
+  row-length = omega (arith, ap length row-is, length-append (take at row ++ piece) (drop (at + length piece) row), head-length, length-drop (at + length piece) row)
 
-  whole : List ℕ
-  whole = putMid at (length row - at) row left
-
-  pub whole-length : length (putMid at (length row - at) row left) ≡ length row
-  unfolding rest
-  whole-length =
-      same-len-mid at (length row - at) row left
-      (ap length left-is ∙ length-append bytes (drop (length bytes) rest) ∙ sum)
-    where
-      sum : length bytes + length (drop (length bytes) rest) ≡ length rest
-      sum = omega (arith, rest-length, length-drop (length bytes) rest)
-
-  placed : take (at + length bytes) whole ≡ take at row ++ bytes
-  unfolding whole
-  placed =
-      let k : length (take at row) ≡ at = length-take-le at row (omega arith) in
-      let post : List ℕ = drop (length row - at) (drop at row) in
-      let tail : List ℕ = drop (length bytes) rest in
-      ap (λ (n : ℕ). take (n + length bytes) (take at row ++ (left ++ post))) (sym k)
-      ∙ take-append-add (take at row) (left ++ post) (length bytes)
-      ∙ ap (λ (l : List ℕ). take at row ++ take (length bytes) (l ++ post)) left-is
-      ∙ ap (λ (l : List ℕ). take at row ++ take (length bytes) l) (append-assoc bytes tail post)
-      ∙ ap (λ (l : List ℕ). take at row ++ l) (take-append-seam bytes (tail ++ post))
-
-  pub within : at + w .reported < length (putMid at (length row - at) row left)
-  within = omega (arith, reported-is, whole-length)
-
-  pub added : Added row at (bytes ++ after ∷ []) (set (putMid at (length row - at) row left) (at + w .reported) after) (at + w .reported + 1)
-  unfolding whole
-  added =
+  pub piece-added : Added row at piece row′ end
+  piece-added =
       record {
-        after = omega (arith, reported-is, length-append bytes (after ∷ []));
-        holds =
-            rw (add-one (at + w .reported), take-suc-set whole (at + w .reported) after within, reported-is, placed)
-            (append-assoc (take at row) bytes (after ∷ []));
+        after = end-is;
+        holds = ap (λ (l : List ℕ). take end l) row-is ∙ ap (λ (k : ℕ). take k (take at row ++ piece ++ drop (at + length piece) row)) end-is
+            ∙ take-at (take at row ++ piece) (drop (at + length piece) row) (at + length piece) head-length;
       }
 
 -- ---- two pieces, one behind the other
@@ -84,17 +51,40 @@ both row row₁ row₂ a b at m r p q =
       holds = q .holds ∙ ap (λ (l : List ℕ). l ++ b) (p .holds) ∙ append-assoc (take at row) a b;
     }
 
--- ---- what any writer reports fits its buffer
+-- ---- a piece with a byte behind it
 
-pub within-buffer : (w : Answer) (refusal : ℕ) (bytes out left : List ℕ) → ends w left ≡ wrote refusal bytes out → w .reported ≤ length out
-unfolding wrote wroteAs
-within-buffer w zero bytes out left e = go (ltb (length out) (length bytes)) refl e
-  where
-    go : (t : Bool) → ltb (length out) (length bytes) ≡ t
-        → ends w left ≡ cond t (ends (noRoom (length bytes)) out) (ends (doneBy (length bytes)) (bytes ++ drop (length bytes) out))
-        → w .reported ≤ length out
-    go true h e = let r : w .reported ≡ 0 = ap (λ (x : Wrote). x .answer .reported) e in omega arith
-    go false h e =
-        let r : w .reported ≡ length bytes = ap (λ (x : Wrote). x .answer .reported) e in
-        omega (arith, ltb-false (length out) (length bytes) h)
-within-buffer w (suc n) bytes out left e = let r : w .reported ≡ 0 = ap (λ (x : Wrote). x .answer .reported) e in omega arith
+module _ (row piece row₁ row₂ : List ℕ) (at after m r : ℕ) (room : at + length piece < length row)
+    (put : leaves m row₁ ≡ placed piece row at) (then : leaves r row₂ ≡ placed (after ∷ []) row₁ m) where
+  pub added : Added row at (piece ++ after ∷ []) row₂ r
+  added =
+      both row row₁ row₂ piece (after ∷ []) at m r (piece-added row piece row₁ at m (omega arith) put)
+      (piece-added row₁ (after ∷ []) row₂ m r (omega (arith, end-is row piece row₁ at m (omega arith) put, row-length row piece row₁ at m (omega arith) put)) then)
+
+  pub added-length : r ≡ at + length piece + 1
+  added-length = omega (arith, added .after, length-append piece (after ∷ []))
+
+-- ---- a number with a byte behind it; a signed one is put as the machine hands it on
+
+module _ (row row₁ row₂ : List ℕ) (at after m r : ℕ) (then : leaves r row₂ ≡ placed (after ∷ []) row₁ m) where
+  module _ (n : ℕ) (fits : Fits w64 n) (room : at + 21 ≤ length row) (put : leaves m row₁ ≡ placed (digits n) row at) where
+    width : length (digits n) ≤ 20
+    width = count-width n (fits .fits)
+
+    pub count-added : Added row at (digits n ++ after ∷ []) row₂ r
+    count-added = added row (digits n) row₁ row₂ at after m r (omega (arith, width)) put then
+
+    pub count-short : r ≤ at + 21
+    count-short = omega (arith, width, added-length row (digits n) row₁ row₂ at after m r (omega (arith, width)) put then)
+
+  module _ (z : ℤ) (fits : SFits w32 z) (room : at + 12 ≤ length row) (put : leaves m row₁ ≡ placed (decimal (toZ w32 (ofZ w32 z))) row at) where
+    as-given : leaves m row₁ ≡ placed (decimal z) row at
+    as-given = put ∙ ap (λ (x : ℤ). placed (decimal x) row at) (back z fits)
+
+    wide : length (decimal z) ≤ 11
+    wide = number-width z fits
+
+    pub number-added : Added row at (decimal z ++ after ∷ []) row₂ r
+    number-added = added row (decimal z) row₁ row₂ at after m r (omega (arith, wide)) as-given then
+
+    pub number-short : r ≤ at + 12
+    number-short = omega (arith, wide, added-length row (decimal z) row₁ row₂ at after m r (omega (arith, wide)) as-given then)

@@ -1,24 +1,19 @@
--- What the definitions of a capture amount to: every line is met once and in order, numbers read back from their text,
--- and a callsign in a row is what would be written of it.
+-- What the definitions of a capture amount to: every line is met once and in order, and a callsign in a row is what
+-- would be written of it.
 -- Assumes nothing.
 use mathlib.Core.Path.{_≡_, sym, ap}
 use mathlib.Core.Bool.{true}
 use mathlib.Core.List.{List}
 use Prim.Native.Nat.{ℕ, _<_}
-use lib.IntN.{ℤ}
-use lib.ListN.{length, drop, getD}
-use Rattle.laws.specs.Bytes.{digit0}
+use lib.ListN.{length, drop}
 use Rattle.callsign.specs.declared.Callsign.{Callsign}
 use Rattle.callsign.specs.Range.{inRange, textOf}
 use Rattle.callsign.proofs.Ranges.{text-in-use}
 use Rattle.capture.specs.declared.Line.the-variants.{At}
 use Rattle.capture.specs.Lines.{lines, lineAt}
-use Rattle.capture.specs.Numbers.{digits, decimal}
 use Rattle.capture.specs.Row.{orPoint, callField}
 use Rattle.capture.proofs.Walk as walk
 use Rattle.capture.proofs.Walk.{stepped, Ahead}
-use Rattle.capture.proofs.Numbers as numbers
-use Rattle.capture.proofs.Numbers.{valueFrom, numberOf}
 
 -- ---- lines
 
@@ -33,20 +28,6 @@ line-moves-on = walk.ahead
 -- the walk from 0 gives exactly the lines, each once and in order; with a step more than there are bytes it has ended
 pub walk-is-lines : (steps : ℕ) (s : List ℕ) → length s < steps → walk.walk steps s 0 ≡ lines s
 walk-is-lines = walk.walk-lines
-
--- ---- numbers
-
-pub count-reads-back : (n : ℕ) → valueFrom 0 (digits n) ≡ n
-count-reads-back = numbers.digits-read
-
-pub count-has-no-zero-in-front : (n : ℕ) → 0 < n → digit0 < getD (digits n) 0 0
-count-has-no-zero-in-front = numbers.no-zero-in-front
-
-pub number-reads-back : (z : ℤ) → numberOf (decimal z) ≡ z
-number-reads-back = numbers.decimal-read
-
-pub one-text-one-number : (y z : ℤ) → decimal y ≡ decimal z → y ≡ z
-one-text-one-number = numbers.decimal-one
 
 -- ---- callsigns
 

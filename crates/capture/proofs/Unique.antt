@@ -3,7 +3,6 @@
 use mathlib.Core.Path.{_≡_}
 use mathlib.Core.List.{List}
 use Prim.Native.Nat.{ℕ, min}
-use lib.IntN.{ℤ}
 use Rattle.laws.specs.declared.Answer.{Answer}
 use Rattle.laws.specs.Wrote.{ends, wrote}
 use Rattle.laws.proofs.Wrote.{one-value, one-end}
@@ -11,7 +10,6 @@ use Rattle.callsign.specs.declared.Callsign.{Callsign}
 use Rattle.callsign.specs.Range.{textLen}
 use Rattle.capture.specs.declared.Line.{Line}
 use Rattle.capture.specs.Lines.{lineAt}
-use Rattle.capture.specs.Numbers.{digits, decimal}
 use Rattle.capture.specs.Row.{row}
 
 pub unique-line-at : (s : List ℕ) (from : ℕ) (r r′ : Line) → r ≡ lineAt s from → r′ ≡ lineAt s from → r ≡ r′
@@ -21,11 +19,5 @@ pub unique-text-len : (c : Callsign) (r r′ : ℕ) → r ≡ min (textLen c) 16
 unique-text-len c r r′ = one-value r r′ (min (textLen c) 16)
 
 module _ (r r′ : Answer) (o o′ out : List ℕ) where
-  pub unique-write-count : (n : ℕ) → ends r o ≡ wrote 0 (digits n) out → ends r′ o′ ≡ wrote 0 (digits n) out → (r ≡ r′) × (o ≡ o′)
-  unique-write-count n = one-end r r′ o o′ (wrote 0 (digits n) out)
-
-  pub unique-write-number : (n : ℤ) → ends r o ≡ wrote 0 (decimal n) out → ends r′ o′ ≡ wrote 0 (decimal n) out → (r ≡ r′) × (o ≡ o′)
-  unique-write-number n = one-end r r′ o o′ (wrote 0 (decimal n) out)
-
   pub unique-write-row : (number : ℕ) (line : List ℕ) → ends r o ≡ wrote 0 (row number line) out → ends r′ o′ ≡ wrote 0 (row number line) out → (r ≡ r′) × (o ≡ o′)
   unique-write-row number line = one-end r r′ o o′ (wrote 0 (row number line) out)

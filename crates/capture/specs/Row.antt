@@ -19,7 +19,7 @@ use Rattle.packet.specs.declared.Kind.the-variants.{Unknown, Position, MicE}
 use Rattle.packet.specs.declared.Record.{Record}
 use Rattle.packet.specs.declared.PacketRead.{PacketRead}
 use Rattle.packet.specs.Packet.{readText}
-use Rattle.capture.specs.Numbers.{digits, decimal}
+use Rattle.words.specs.Numbers.{digits, decimal}
 
 -- "`-` is absent"
 abbrev pub absent : List ℕ

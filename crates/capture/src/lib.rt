@@ -2,11 +2,11 @@
 ghost use mathlib.Core.Path.{_≡_};
 ghost use mathlib.Core.List.{[], _∷_, _++_};
 ghost use Prim.Native.Nat.{_+_, _<_, _≤_, min};
-ghost use lib.ListN.{length, take, drop};
+ghost use lib.ListN.{length, take};
 ghost use Rattle.laws.specs.Bytes.{space};
 ghost use Rattle.laws.specs.Wrote.{ends, wrote};
+ghost use Rattle.words.specs.Numbers.{digits, decimal};
 ghost use Rattle.capture.specs.Lines.{lineAt};
-ghost use Rattle.capture.specs.Numbers.{digits, decimal};
 ghost use Rattle.callsign.specs.Range.{textLen};
 ghost use Rattle.capture.specs.Row.{callField, toField, heardAmong, heardHops, angleFields, placeFields, recordFields, joined, rowOf, row, Added};
 use callsign::Callsign;
@@ -68,45 +68,6 @@ pub fn line_at(s: &[u8], from: usize) -> Line
     }
 }
 
-// Puts the digits of n to the end of text, and answers where they start.
-fn spell(n: u64, text: &mut [u8]) -> usize
-    requires { ⌜ length (now text) ≡ 20 ⌝ }
-    ensures { λ r. ⌜ (r < 20) × (drop r (now (text .exit)) ≡ digits n) ⌝ }
-{
-    let mut at: usize = 20;
-    let mut rest = n;
-    while 10 <= rest {
-        at -= 1;
-        text[at] = b'0' + (rest % 10) as u8;
-        rest /= 10;
-    }
-    at -= 1;
-    text[at] = b'0' + rest as u8;
-    at
-}
-
-// Writes a number of lines, hops or bytes in decimal, or answers 16.
-pub fn write_count(n: usize, out: &mut [u8]) -> laws::Answer
-    ensures { λ r. ⌜ ends r (now (out .exit)) ≡ wrote 0 (digits n) (now (out .entry)) ⌝ }
-{
-    let mut text = [0u8; 20];
-    let at = spell(n as u64, &mut text);
-    laws::write(&text[at..], out)
-}
-
-// Writes a signed number in decimal, or answers 16.
-pub fn write_number(n: i32, out: &mut [u8]) -> laws::Answer
-    ensures { λ r. ⌜ ends r (now (out .exit)) ≡ wrote 0 (decimal n) (now (out .entry)) ⌝ }
-{
-    let sides = lonlat::parts(n);
-    let mut text = [0u8; 20];
-    let at = spell(sides.size as u64, &mut text);
-    if sides.minus {
-        return laws::write_two(21, b"-", &text[at..], out);
-    }
-    laws::write(&text[at..], out)
-}
-
 // ---- the row, built in a buffer of its own
 
 // Puts a count behind the first `at` bytes of row, and the byte `after` behind it; answers the place after both.
@@ -115,10 +76,8 @@ fn add_count(n: usize, after: u8, row: &mut [u8], at: usize) -> usize
     ensures { λ r. ⌜ Added (now (row .entry)) at (digits n ++ after ∷ []) (now (row .exit)) r ⌝ }
     ensures { λ r. ⌜ r ≤ at + 21 ⌝ }
 {
-    let w = write_count(n, &mut row[at..]);
-    let end = at + w.reported;
-    row[end] = after;
-    end + 1
+    let end = words::put_count(n, row, at);
+    words::put_byte(after, row, end)
 }
 
 // Puts a signed number behind the first `at` bytes of row, and the byte `after` behind it.
@@ -127,10 +86,8 @@ fn add_number(n: i32, after: u8, row: &mut [u8], at: usize) -> usize
     ensures { λ r. ⌜ Added (now (row .entry)) at (decimal n ++ after ∷ []) (now (row .exit)) r ⌝ }
     ensures { λ r. ⌜ r ≤ at + 12 ⌝ }
 {
-    let w = write_number(n, &mut row[at..]);
-    let end = at + w.reported;
-    row[end] = after;
-    end + 1
+    let end = words::put_number(n, row, at);
+    words::put_byte(after, row, end)
 }
 
 // Puts a text behind the first `at` bytes of row, and the byte `after` behind it.
@@ -138,10 +95,8 @@ fn add_text(text: &[u8], after: u8, row: &mut [u8], at: usize) -> usize
     requires { ⌜ at + length (now text) < length (now row) ⌝ }
     ensures { λ r. ⌜ Added (now (row .entry)) at (now (text .entry) ++ after ∷ []) (now (row .exit)) r ⌝ }
 {
-    let w = laws::write(text, &mut row[at..]);
-    let end = at + w.reported;
-    row[end] = after;
-    end + 1
+    let end = words::put(text, row, at);
+    words::put_byte(after, row, end)
 }
 
 // How many bytes of a callsign's text are shown: never more than the 16 that it has.

@@ -15,7 +15,7 @@ use Rattle.mic_e.specs.declared.Motion.{Motion}
 use Rattle.mic_e.specs.declared.Motion.the-variants.{Read as Motion-read, Refused as Motion-refused}
 use Rattle.mic_e.specs.declared.LongitudeField.{LongitudeField}
 use Rattle.mic_e.specs.declared.LongitudeField.the-variants.{Read as Longitude-read, Refused as Longitude-refused}
-use Rattle.mic_e.proofs.MotionFacts.{Moves, reads-moves, moves-reads}
+use Rattle.mic_e.proofs.MotionFacts.{Moves, reads-moves}
 use Rattle.mic_e.proofs.LongitudeFacts.{Lies, reads-lies, lies-reads}
 use Rattle.mic_e.proofs.Turn.{lessIf-le}
 use Rattle.fields.specs.Each.{cell}
@@ -47,9 +47,6 @@ module _ (s t a b c : ℕ) where
 
   pub motion-hit : hits (Moving s t) a b c ≡ true → Moves s t a b c
   motion-hit e = reads-moves a b c _ _ (motion-reads e)
-
-  pub hit-motion : Moves s t a b c → hits (Moving s t) a b c ≡ true
-  hit-motion h = reads-motion (moves-reads s t a b c h)
 
 -- ---- longitude
 

@@ -19,17 +19,21 @@ use Rattle.header.specs.declared.PathRead.{PathRead}
 use Rattle.header.specs.declared.HeaderRead.{HeaderRead}
 use Rattle.header.specs.Header.{Hops, refused, these, before, hopsOf, pathRead, refusedBy, accepted, unlessRefused}
 
--- ---- the control and protocol bytes: UI, no layer 3
+-- ---- the control and protocol bytes
 
+-- unnumbered information
 abbrev pub control : ℕ
 control = 0x03
 
+-- no layer 3
 abbrev pub protocol : ℕ
 protocol = 0xf0
 
+-- "exactly the two bytes 03 f0"
 abbrev pub pair : List ℕ
 pair = control ∷ protocol ∷ []
 
+-- that pair in front
 unfoldable pub startsWithPair : List ℕ → Bool
 startsWithPair [] = false
 startsWithPair (a ∷ []) = false
@@ -72,6 +76,7 @@ readSource to s =
     (unlessRefused (from .refusal)
     (withPair (from .call) to (pathRead (cond (from .last) (these []) (frameHops 8 (drop 14 s)))) s))
 
+-- 1, and then the destination: present (2), readable (3), not last (2)
 unfoldable pub readFrameHeader : List ℕ → HeaderRead
 readFrameHeader s =
     let to = readAddress (take 7 s) in
@@ -83,6 +88,7 @@ readFrameHeader s =
 
 -- ---- the header written
 
+-- no hop follows
 unfoldable pub isNone : List Hop → Bool
 isNone [] = true
 isNone (h ∷ l) = false
@@ -99,13 +105,16 @@ addresses h =
     ∷ writeAddress (h .from) Source (eqb (h .path .count) 0)
     ∷ hopAddresses (hopsOf (h .path))
 
+-- the refusal of the first address that is not written, or 0
 unfoldable pub firstRefusal : List AddressWritten → ℕ
 firstRefusal [] = 0
 firstRefusal (a ∷ l) = cond (eqb (a .refusal) 0) (firstRefusal l) (a .refusal)
 
+-- the bytes of each address in turn
 unfoldable pub joined : List AddressWritten → List ℕ
 joined [] = []
 joined (a ∷ l) = a .bytes ++ joined l
 
+-- the addresses, and the pair behind them
 unfoldable pub headerFrame : Header → List ℕ
 headerFrame h = joined (addresses h) ++ pair

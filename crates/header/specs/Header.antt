@@ -17,6 +17,7 @@ use Rattle.header.specs.declared.HeaderRead.{HeaderRead}
 
 -- ---- the record
 
+-- a blank callsign, not heard
 unfoldable pub blankHop : Hop
 blankHop = record { call = blankCall; heard = false }
 
@@ -28,17 +29,21 @@ pathOf hops = record { hops = padTo 8 blankHop hops; count = length hops }
 unfoldable pub hopsOf : Path → List Hop
 hopsOf p = take (p .count) (p .hops)
 
+-- source, destination and path
 unfoldable pub headerOf : Callsign → Callsign → Path → Header
 headerOf from to path = record { from = from; to = to; path = path }
 
+-- blank callsigns and no hop
 unfoldable pub blankHeader : Header
 blankHeader = headerOf blankCall blankCall (pathOf [])
 
 -- ---- what reading gives
 
+-- a refusal: the blank header, and no place
 unfoldable pub refusedBy : ℕ → HeaderRead
 refusedBy n = record { refusal = n; header = blankHeader; body = 0 }
 
+-- a header that was read, and where its body starts
 unfoldable pub accepted : Callsign → Callsign → Path → ℕ → HeaderRead
 accepted from to path body = record { refusal = 0; header = headerOf from to path; body = body }
 
@@ -53,6 +58,7 @@ pub data Hops : Type 0 where
   refused : ℕ → Hops
   these : List Hop → Hops
 
+-- a hop in front of others, unless they are refused
 unfoldable pub before : Hop → Hops → Hops
 before h (refused n) = refused n
 before h (these l) = these (h ∷ l)

@@ -13,6 +13,7 @@ use Rattle.header.specs.declared.Header.{Header}
 use Rattle.header.specs.Header.{hopsOf}
 use Rattle.header.specs.Frame.{firstRefusal, addresses}
 
+-- a hop's callsign
 abbrev pub hopInRange : Hop → Bool
 hopInRange h = inRange (h .call)
 
@@ -20,16 +21,20 @@ hopInRange h = inRange (h .call)
 unfoldable pub isBlank : Hop → Bool
 isBlank h = not (h .heard) && isBlankCall (h .call)
 
+-- "more than 8 hops", each hop's callsign, and spare hops
 unfoldable pub pathInRange : Path → Bool
 pathInRange p = leb (p .count) 8 && (every hopInRange (hopsOf p) && every isBlank (drop (p .count) (p .hops)))
 
+-- source, destination and path
 unfoldable pub headerInRange : Header → Bool
 headerInRange h = inRange (h .from) && (inRange (h .to) && pathInRange (h .path))
 
 -- ---- the refusals of the writers, but for 16
 
+-- of a line: 15
 unfoldable pub textRefusal : Header → ℕ
 textRefusal h = cond (headerInRange h) 0 15
 
+-- of a frame: 15, then 13 for the first address that cannot be written
 unfoldable pub frameRefusal : Header → ℕ
 frameRefusal h = cond (headerInRange h) (firstRefusal (addresses h)) 15

@@ -21,6 +21,7 @@ use Rattle.header.specs.Header.{Hops, refused, these, before, blankHop, 
 
 -- ---- the parts between commas
 
+-- a byte in front of the first part
 unfoldable pub onFirst : ℕ → List (List ℕ) → List (List ℕ)
 onFirst x [] = []
 onFirst x (f ∷ fs) = (x ∷ f) ∷ fs
@@ -30,10 +31,12 @@ unfoldable pub fields : List ℕ → List (List ℕ)
 fields [] = [] ∷ []
 fields (x ∷ l) = cond (eqb x comma) ([] ∷ fields l) (onFirst x (fields l))
 
+-- the first part
 unfoldable pub firstOf : List (List ℕ) → List ℕ
 firstOf [] = []
 firstOf (f ∷ fs) = f
 
+-- the parts behind it
 unfoldable pub othersOf : List (List ℕ) → List (List ℕ)
 othersOf [] = []
 othersOf (f ∷ fs) = fs
@@ -44,6 +47,7 @@ othersOf (f ∷ fs) = fs
 unfoldable pub isQ : List ℕ → Bool
 isQ t = eqb (length t) 3 && (eqb (getD t 0 0) smallQ && eqb (getD t 1 0) capitalA)
 
+-- a refusal: a blank hop
 unfoldable pub hopRefused : ℕ → HopRead
 hopRefused n = record { refusal = n; hop = blankHop }
 
@@ -51,9 +55,11 @@ hopRefused n = record { refusal = n; hop = blankHop }
 unfoldable pub hopOf : CallRead → HopRead
 hopOf c = record { refusal = c .refusal; hop = record { call = c .call; heard = c .starred } }
 
+-- "A hop: .. 6, 4, 3."
 unfoldable pub readHop : List ℕ → HopRead
 readHop t = cond (isQ t) (hopRefused 6) (hopOf (readText t))
 
+-- a hop in front of those that follow, or its refusal
 unfoldable pub hopThen : HopRead → Hops → Hops
 hopThen h later = cond (eqb (h .refusal) 0) (before (h .hop) later) (refused (h .refusal))
 
@@ -65,6 +71,7 @@ textHops (suc k) (t ∷ ts) = hopThen (readHop t) (textHops k ts)
 
 -- ---- stars
 
+-- one of the hops is heard
 unfoldable pub anyHeard : List Hop → Bool
 anyHeard [] = false
 anyHeard (h ∷ l) = h .heard || anyHeard l
@@ -74,12 +81,14 @@ unfoldable pub carried : List Hop → List Hop
 carried [] = []
 carried (h ∷ l) = record { call = h .call; heard = h .heard || anyHeard l } ∷ carried l
 
+-- the same, unless a hop is refused
 unfoldable pub carriedBack : Hops → Hops
 carriedBack (refused n) = refused n
 carriedBack (these l) = these (carried l)
 
 -- ---- the header read
 
+-- the path's refusal, or the header
 unfoldable pub withPath : Callsign → Callsign → PathRead → ℕ → HeaderRead
 withPath from to p body = unlessRefused (p .refusal) (accepted from to (p .path) body)
 
@@ -98,6 +107,7 @@ readBefore t body =
     cond (eqb g (length t)) (refusedBy 2)
     (unlessRefused (from .refusal) (readRoute (from .call) (drop (suc g) t) body))
 
+-- 1, and then `:`
 unfoldable pub readTextHeader : List ℕ → HeaderRead
 readTextHeader s =
     let c = indexOf colon s in
@@ -116,5 +126,6 @@ hopsText (h ∷ l) = comma ∷ (withStar (textOf (h .call)) (h .heard && not (an
 unfoldable pub routeText : Header → List ℕ
 routeText h = textOf (h .from) ++ greater ∷ (textOf (h .to) ++ hopsText (hopsOf (h .path)))
 
+-- with the colon
 unfoldable pub headerText : Header → List ℕ
 headerText h = routeText h ++ colon ∷ []

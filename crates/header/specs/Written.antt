@@ -14,6 +14,7 @@ pub record Filled : Type 0 where
   pub bytes : List ℕ
   pub len : ℕ
 
+-- that array of bytes, and that many written
 abbrev pub filled : List ℕ → ℕ → Filled
 filled bytes len = record { bytes = bytes; len = len }
 
@@ -26,6 +27,7 @@ pub record Placed : Type 0 where
   pub refusal : ℕ
   pub array : Filled
 
+-- a refusal, and such an array
 abbrev pub placed : ℕ → List ℕ → ℕ → Placed
 placed n bytes len = record { refusal = n; array = filled bytes len }
 

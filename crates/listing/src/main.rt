@@ -3,9 +3,7 @@ use capture::Line;
 
 // Writes the first `used` bytes of out.
 fn flush(out: &[u8], used: usize) {
-    if used <= out.len() {
-        io::write_all(1, &out[..used]);
-    }
+    io::write_all(1, words::cut(out, used));
 }
 
 // Puts the row of a line behind the first `used` bytes of out; where it does not fit, those are written first. Answers

@@ -30,28 +30,6 @@ size-signed false size = refl
 size-signed true zero = refl
 size-signed true (suc n) = refl
 
--- the side is as it was said, but for 0
-pub side-signed : (minus : Bool) (size : ℕ) → 0 < size → isMinus (signedOf minus size) ≡ minus
-unfolding signedOf isMinus
-side-signed false size h = refl
-side-signed true zero h = absurd (omega arith)
-side-signed true (suc n) h = refl
-
--- 0 on either side is plain 0
-pub zero-plain : (minus : Bool) → signedOf minus 0 ≡ pos 0
-unfolding signedOf
-zero-plain false = refl
-zero-plain true = refl
-
-pub size-below-zero : (angle : ℤ) → isMinus angle ≡ true → 0 < natAbs angle
-unfolding isMinus
-size-below-zero (pos n) e = absurd (false≢true e)
-size-below-zero (negsuc n) e = omega arith
-
--- one size, and one side unless it is 0: one angle
-pub signed-one : (angle : ℤ) (minus : Bool) (size : ℕ) → natAbs angle ≡ size → isMinus angle ≡ minus → signedOf minus size ≡ angle
-signed-one angle minus size e f = ap (signedOf minus) (sym e) ∙ ap (λ (m : Bool). signedOf m (natAbs angle)) (sym f) ∙ rejoined angle
-
 pub longitude-made : (size : ℕ) (west : Bool) → size ≤ mostLongitude → longitudeOf size west ≡ Made (record { 0 = signedOf west size })
 unfolding longitudeOf
 longitude-made size west h = rw (le-ltb mostLongitude size h)

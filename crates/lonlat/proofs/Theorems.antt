@@ -40,6 +40,12 @@ pub past-ninety : readLatitude (digit9 ∷ digit0 ∷ digit0 ∷ digit0 ∷ poin
 unfolding readLatitude latitudeIn restBlank blanksIn countedDigits indexOf every lastAs latitudeWith angleIn fits within valueOf degreesOf minutesOf hundredthsOf numberOf numberAfter signedOf
 past-ninety = refl
 
+-- "Zero south or west is plain 0"
+pub zero-plain : (minus : Bool) → signedOf minus 0 ≡ pos 0
+unfolding signedOf
+zero-plain false = refl
+zero-plain true = refl
+
 -- ---- what is read is in range
 
 fits-most : (most : ℕ) (t : List ℕ) → fits most t ≡ true → valueOf t ≤ most

@@ -10,7 +10,7 @@ ghost use Rattle.laws.specs.Wrote.{ends, wrote};
 ghost use Rattle.lonlat.specs.Latitude.{readLatitude};
 ghost use Rattle.lonlat.specs.Angle.{mostLongitude, sidesOf};
 ghost use Rattle.mic_e.specs.Turn.{lessIf};
-ghost use Rattle.mic_e.specs.Motion.{mostSpeed, mostCourse, readMotion, motionField};
+ghost use Rattle.mic_e.specs.Motion.{mostSpeed, mostCourse, readMotion, tensOf, motionField};
 ghost use Rattle.mic_e.specs.Longitude.{offsetOf, wrapped, readLongitude, longitudeField, degreesByte, minutesByte, hundredFor};
 ghost use Rattle.mic_e.specs.Message.{messageOf, bits, bitsOf, messageNumber};
 ghost use Rattle.mic_e.specs.Character.{isCharacter, isLast, isFlagged, digitOf, bitOf, characterOf, flagBit};
@@ -201,25 +201,54 @@ pub fn read_longitude(hundred: bool, west: bool, a: u8, b: u8, c: u8) -> Longitu
     }
 }
 
+// The tens of knots as written, before 28 is added.
+fn tens_of(speed: u32) -> u32
+    ensures { λ r. ⌜ r ≡ tensOf speed ⌝ }
+{
+    if speed / 10 < 20 {
+        return speed / 10 + 80;
+    }
+    speed / 10
+}
+
 // The three bytes of a speed and course.
 fn motion_field(speed: u32, course: u32) -> Field
     requires { ⌜ (speed ≤ mostSpeed) × (course ≤ mostCourse) ⌝ }
     ensures { λ r. ⌜ r ≡ motionField speed course ⌝ }
 {
+    let tens = tens_of(speed);
     let second = (10 * (speed % 10) + course / 100 + 4 + 28) as u8;
-    let third = (course % 100 + 28) as u8;
-    if speed / 10 < 20 {
-        return Field {
-            first: (speed / 10 + 80 + 28) as u8,
-            second,
-            third,
-        };
-    }
     Field {
-        first: (speed / 10 + 28) as u8,
+        first: (tens + 28) as u8,
         second,
-        third,
+        third: (course % 100 + 28) as u8,
     }
+}
+
+// The degrees as written, before 28 is added.
+fn degrees_byte(d: u32) -> u32
+    ensures { λ r. ⌜ r ≡ degreesByte d ⌝ }
+{
+    if d < 10 {
+        return d + 90;
+    }
+    if d < 100 {
+        return d;
+    }
+    if d < 110 {
+        return d - 20;
+    }
+    d - 100
+}
+
+// The minutes as written, before 28 is added.
+fn minutes_byte(m: u32) -> u32
+    ensures { λ r. ⌜ r ≡ minutesByte m ⌝ }
+{
+    if m < 10 {
+        return m + 60;
+    }
+    m
 }
 
 // The three bytes of a longitude's size, which the offset `takes_hundred` of its degrees goes with.
@@ -227,41 +256,13 @@ fn longitude_field(size: u32) -> Field
     requires { ⌜ size < mostLongitude ⌝ }
     ensures { λ r. ⌜ r ≡ longitudeField size ⌝ }
 {
-    let first = degrees_byte(size / 6000);
-    let second = minutes_byte(size / 100 % 60);
+    let degrees = degrees_byte(size / 6000);
+    let minutes = minutes_byte(size / 100 % 60);
     Field {
-        first,
-        second,
+        first: (degrees + 28) as u8,
+        second: (minutes + 28) as u8,
         third: (size % 100 + 28) as u8,
     }
-}
-
-// The degrees' byte.
-fn degrees_byte(d: u32) -> u8
-    requires { ⌜ d < 180 ⌝ }
-    ensures { λ r. ⌜ r ≡ degreesByte d + 28 ⌝ }
-{
-    if d < 10 {
-        return (d + 90 + 28) as u8;
-    }
-    if d < 100 {
-        return (d + 28) as u8;
-    }
-    if d < 110 {
-        return (d - 20 + 28) as u8;
-    }
-    (d - 100 + 28) as u8
-}
-
-// The minutes' byte.
-fn minutes_byte(m: u32) -> u8
-    requires { ⌜ m < 60 ⌝ }
-    ensures { λ r. ⌜ r ≡ minutesByte m + 28 ⌝ }
-{
-    if m < 10 {
-        return (m + 60 + 28) as u8;
-    }
-    (m + 28) as u8
 }
 
 // Whether degrees are written under the offset 100.

@@ -45,7 +45,6 @@ module _ (place : Place) (report : Report) (e : positionInRange place report ≡
 -- the facts of its range
 pub record Reported (to : Callsign) (place : Place) (messaging : Bool) (report : Report) : Type 0 where
   pub no-call : isBlankCall to ≡ true
-  pub no-messaging : not messaging ≡ true
   pub near : placeInRange place ≡ true
   pub short : natAbs (place .longitude .0) < mostLongitude
   pub slow : report .speed .0 ≤ mostSpeed
@@ -65,7 +64,6 @@ module _ (to : Callsign) (place : Place) (messaging : Bool) (report : Report) (e
       let e₅ = and-second a₄ (a₅ && a₆) e₄ in
       record {
         no-call = and-first (isBlankCall to) (not messaging && (a₃ && (a₄ && (a₅ && a₆)))) e;
-        no-messaging = and-first (not messaging) (a₃ && (a₄ && (a₅ && a₆))) e₂;
         near = and-first a₃ (a₄ && (a₅ && a₆)) e₃;
         short = ltb-true (natAbs (place .longitude .0)) mostLongitude (and-first a₄ (a₅ && a₆) e₄);
         slow = leb-true (report .speed .0) mostSpeed (and-first a₅ a₆ e₅);

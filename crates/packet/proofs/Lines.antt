@@ -2,14 +2,14 @@
 -- Assumes nothing.
 use mathlib.Core.Path.{_≡_, refl, sym, ap, _∙_}
 use mathlib.Core.Bool.{Bool, true, false, cond, _&&_}
-use mathlib.Core.List.{List, []}
-use Prim.Native.Nat.{ℕ, zero, suc, _≤_}
+use mathlib.Core.List.{List}
+use Prim.Native.Nat.{ℕ, _≤_}
 use native.Mathlib.Omega.{arith}
 use lib.ListN.{length, take, replicate}
 use Rattle.laws.specs.declared.Answer.{Answer}
 use Rattle.laws.specs.Wrote.{ends, refusedBy, overBy, wrote}
 use Rattle.laws.proofs.Wrote.{passed-on}
-use Rattle.laws.proofs.Answers.{refusal-is, reported-is, front-is}
+use Rattle.laws.proofs.Answers.{refusal-is, front-is}
 use Rattle.header.specs.declared.Header.{Header}
 use Rattle.header.specs.Text.{headerText}
 use Rattle.header.specs.Frame.{headerFrame, firstRefusal, addresses}
@@ -20,20 +20,12 @@ use Rattle.packet.specs.declared.Kind.the-variants.{Unknown, Position, M
 use Rattle.packet.specs.declared.Record.{Record}
 use Rattle.packet.specs.Record.{headerOf}
 use Rattle.packet.specs.Range.{partsInRange, recordInRange, rangeRefusal}
-use Rattle.packet.specs.Written.{most, writtenHeader, bodyRefusal, bytesOf, textBytes, frameBytes, orElse, kindRefusal, recordRefusal, textRefusal, frameRefusal, earlyByKind, earlyRefusal}
+use Rattle.packet.specs.Written.{most, writtenHeader, bodyRefusal, bytesOf, textBytes, frameBytes, orElse, kindRefusal, recordRefusal, wroteUnless, textRefusal, frameRefusal, earlyByKind, earlyRefusal}
+use Rattle.packet.proofs.Writing.{or-first, unless-same, reported-le}
 use Rattle.packet.proofs.Accepted.{body-held}
 use Rattle.packet.proofs.Built.{header-same}
 
 -- ---- the first refusal
-
-or-first : (k n : ℕ) → (k ≡ 0 → ⊥) → orElse k n ≡ k
-unfolding orElse
-or-first zero n h = absurd (h refl)
-or-first (suc k) n h = refl
-
-or-none : (k n : ℕ) → k ≡ 0 → orElse k n ≡ n
-unfolding orElse
-or-none k n e = rw e
 
 -- a refusal before the header is the record's
 early-is : (r : Record) → (earlyRefusal r ≡ 0 → ⊥) → recordRefusal r ≡ earlyRefusal r
@@ -87,31 +79,23 @@ frame-first h n = go (headerInRange h)
 abbrev pub scratch : List ℕ
 scratch = replicate 256 0
 
-module _ (r : Record) (comment : List ℕ) (refusal : ℕ) (header : List ℕ) (small : refusal ≡ 0 → length header ≤ 200)
-    (h : Answer) (head : List ℕ) (w : ends h head ≡ wrote refusal header scratch)
-    (whole : ℕ) (first : whole ≡ orElse refusal (overBy most (bytesOf header r comment))) where
+module _ (refusal : ℕ) (header : List ℕ) (small : refusal ≡ 0 → length header ≤ 200) (h : Answer) (head : List ℕ) (w : ends h head ≡ wrote refusal header scratch) where
   room : refusal ≡ 0 → length header ≤ length scratch
   room z = let s = small z in omega arith
 
   says : h .refusal ≡ refusal
   says = refusal-is h head header scratch refusal w room
 
-  unsent : (out : List ℕ) (a : Answer) → (h .refusal ≡ 0 → ⊥) → a ≡ refusedBy (h .refusal) → ends a out ≡ wrote whole (bytesOf header r comment) out
-  unsent out a n q =
-      passed-on a (h .refusal) whole (bytesOf header r comment) out q n
-      (first ∙ or-first refusal (overBy most (bytesOf header r comment)) (λ z. n (says ∙ z)) ∙ sym says)
+  reported : h .reported ≤ 200
+  reported = reported-le h head header scratch refusal 200 w room small
 
-  module _ (d : h .refusal ≡ 0) where
-    sent : refusal ≡ 0
-    sent = sym says ∙ d
-
-    reported : h .reported ≤ 200
-    reported = let s = small sent in omega (arith, reported-is h head header scratch refusal w sent (room sent))
-
-    written : (out last : List ℕ) (a : Answer)
-        → ends a last ≡ wrote (overBy most (bytesOf (take (h .reported) head) r comment)) (bytesOf (take (h .reported) head) r comment) out
-        → ends a last ≡ wrote whole (bytesOf header r comment) out
-    written out last a q = rw (first, or-none refusal (overBy most (bytesOf header r comment)) sent, ← front-is h head header scratch refusal w sent (room sent)) q
+  written : (r : Record) (comment out : List ℕ) (whole : ℕ) → whole ≡ orElse refusal (overBy most (bytesOf header r comment))
+      → wroteUnless (h .refusal) (bytesOf (take (h .reported) head) r comment) out ≡ wrote whole (bytesOf header r comment) out
+  written r comment out whole first =
+      ap (λ (k : ℕ). wroteUnless k (bytesOf (take (h .reported) head) r comment) out) says
+      ∙ unless-same refusal (bytesOf (take (h .reported) head) r comment) (bytesOf header r comment) out
+      (λ z. ap (λ (l : List ℕ). bytesOf l r comment) (front-is h head header scratch refusal w z (room z)))
+      ∙ ap (λ (k : ℕ). wrote k (bytesOf header r comment) out) (sym first)
 
 module _ (r : Record) (k : ℕ) (e : k ≡ earlyRefusal r) where
   module _ (comment out : List ℕ) (a : Answer) (h : k ≡ 0 → ⊥) (q : a ≡ refusedBy k) where
@@ -151,21 +135,14 @@ module _ (r : Record) (k : ℕ) (e : k ≡ earlyRefusal r) where
         unfolding textRefusal textBytes
         text-first comment = rw (left, f)
 
-        pub text-unsent : (comment out : List ℕ) (a : Answer) → (h .refusal ≡ 0 → ⊥) → a ≡ refusedBy (h .refusal)
-            → ends a out ≡ wrote (textRefusal r comment) (textBytes r comment) out
-        unfolding textBytes
-        text-unsent comment out a n q =
-            rw (← f) (unsent r comment (headerTextRefusal hd) (headerText hd) text-small h head w (textRefusal r comment) (text-first comment) out a n q)
+        pub text-reported : h .reported ≤ 200
+        text-reported = reported (headerTextRefusal hd) (headerText hd) text-small h head w
 
-        pub text-reported : h .refusal ≡ 0 → h .reported ≤ 200
-        text-reported d = reported r [] (headerTextRefusal hd) (headerText hd) text-small h head w (textRefusal r []) (text-first []) d
-
-        pub text-written : (comment out last : List ℕ) (a : Answer) → h .refusal ≡ 0
-            → ends a last ≡ wrote (overBy most (bytesOf (take (h .reported) head) r comment)) (bytesOf (take (h .reported) head) r comment) out
+        pub text-written : (comment out last : List ℕ) (a : Answer) → ends a last ≡ wroteUnless (h .refusal) (bytesOf (take (h .reported) head) r comment) out
             → ends a last ≡ wrote (textRefusal r comment) (textBytes r comment) out
         unfolding textBytes
-        text-written comment out last a d q =
-            rw (← f) (written r comment (headerTextRefusal hd) (headerText hd) text-small h head w (textRefusal r comment) (text-first comment) d out last a q)
+        text-written comment out last a q =
+            q ∙ rw (← f) (written (headerTextRefusal hd) (headerText hd) text-small h head w r comment out (textRefusal r comment) (text-first comment))
 
       -- ---- a frame
 
@@ -177,18 +154,11 @@ module _ (r : Record) (k : ℕ) (e : k ≡ earlyRefusal r) where
         unfolding frameRefusal frameBytes
         frame-whole comment = rw (left, f) (frame-first (writtenHeader r) (overBy most (bytesOf (headerFrame (writtenHeader r)) r comment)))
 
-        pub frame-unsent : (comment out : List ℕ) (a : Answer) → (h .refusal ≡ 0 → ⊥) → a ≡ refusedBy (h .refusal)
-            → ends a out ≡ wrote (frameRefusal r comment) (frameBytes r comment) out
-        unfolding frameBytes
-        frame-unsent comment out a n q =
-            rw (← f) (unsent r comment (headerFrameRefusal hd) (headerFrame hd) frame-small h head w (frameRefusal r comment) (frame-whole comment) out a n q)
+        pub frame-reported : h .reported ≤ 200
+        frame-reported = reported (headerFrameRefusal hd) (headerFrame hd) frame-small h head w
 
-        pub frame-reported : h .refusal ≡ 0 → h .reported ≤ 200
-        frame-reported d = reported r [] (headerFrameRefusal hd) (headerFrame hd) frame-small h head w (frameRefusal r []) (frame-whole []) d
-
-        pub frame-written : (comment out last : List ℕ) (a : Answer) → h .refusal ≡ 0
-            → ends a last ≡ wrote (overBy most (bytesOf (take (h .reported) head) r comment)) (bytesOf (take (h .reported) head) r comment) out
+        pub frame-written : (comment out last : List ℕ) (a : Answer) → ends a last ≡ wroteUnless (h .refusal) (bytesOf (take (h .reported) head) r comment) out
             → ends a last ≡ wrote (frameRefusal r comment) (frameBytes r comment) out
         unfolding frameBytes
-        frame-written comment out last a d q =
-            rw (← f) (written r comment (headerFrameRefusal hd) (headerFrame hd) frame-small h head w (frameRefusal r comment) (frame-whole comment) d out last a q)
+        frame-written comment out last a q =
+            q ∙ rw (← f) (written (headerFrameRefusal hd) (headerFrame hd) frame-small h head w r comment out (frameRefusal r comment) (frame-whole comment))

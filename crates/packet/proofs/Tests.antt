@@ -1,6 +1,6 @@
 -- Chains of `&&` from what the code's tests leave, among them a number that a call gave and the size of an angle.
 -- Assumes nothing.
-use mathlib.Core.Path.{_≡_, ap, _∙_}
+use mathlib.Core.Path.{_≡_}
 use mathlib.Core.Bool.{Bool, true, false, _&&_}
 use Prim.Native.Nat.{ℕ}
 use lib.Dec.{eqb, ltb}
@@ -11,7 +11,7 @@ use borrow.Author.Tests.{eq-eqb, ne-eqb}
 use Rattle.laws.proofs.Picks.{and-failed, and-held, flag-set, flag-unset}
 use Rattle.lonlat.specs.declared.Sides.{Sides}
 use Rattle.lonlat.specs.Angle.{sidesOf}
-use Rattle.lonlat.proofs.Angle.{back}
+use Rattle.lonlat.proofs.Angle.{back, parts-size}
 
 -- a number that a call gave
 module _ (n a : ℕ) (b : Bool) (e : n ≡ a) where
@@ -23,8 +23,7 @@ module _ (n a : ℕ) (b : Bool) (e : n ≡ a) where
 
 module _ (s : Sides) (a : ℤ) (b r : Bool) (f : SFits w32 a) (e : s ≡ sidesOf (toZ w32 (ofZ w32 a))) where
   size : s .size ≡ natAbs a
-  unfolding sidesOf
-  size = ap (λ (x : Sides). x .size) e ∙ ap natAbs (back a f)
+  size = parts-size a (toZ w32 (ofZ w32 a)) (back a f) s e
 
   pub size-stop : (s .size ≡ 0 → ⊥) → false ≡ (eqb (natAbs a) 0 && b)
   size-stop = number-stop (s .size) (natAbs a) b size

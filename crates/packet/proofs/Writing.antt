@@ -3,7 +3,7 @@
 use mathlib.Core.Path.{_≡_, refl, sym, ap, _∙_}
 use mathlib.Core.Bool.{Bool, true, false, cond}
 use mathlib.Core.List.{List, [], _∷_, _++_, append-assoc, append-nil}
-use Prim.Native.Nat.{ℕ, _+_, _-_, _≤_}
+use Prim.Native.Nat.{ℕ, zero, suc, _+_, _-_, _≤_}
 use native.Mathlib.Omega.{arith}
 use mir.Val.{Fits}
 use mir.Syntax.{w64}
@@ -13,8 +13,9 @@ use lib.ListN.{length, take, drop, length-append, length-drop}
 use lib.Seq.{take-at, length-take-le}
 use Rattle.laws.specs.declared.Answer.{Answer}
 use Rattle.laws.specs.Bytes.{bang, equals, backquote, apostrophe}
+use Rattle.laws.proofs.Wrote.{passed-on}
 use Rattle.laws.proofs.Answers.{bytes-are, reported-is, filled}
-use Rattle.laws.specs.Wrote.{ends, doneBy, overBy, wroteAs, wrote}
+use Rattle.laws.specs.Wrote.{Wrote, ends, refusedBy, doneBy, overBy, wroteAs, wrote}
 use Rattle.position.specs.declared.Place.{Place}
 use Rattle.position.specs.Position.{positionText, positionRefusal}
 use Rattle.mic_e.specs.Information.{informationBytes, informationRefusal}
@@ -23,7 +24,30 @@ use Rattle.packet.specs.declared.Kind.{Kind}
 use Rattle.packet.specs.declared.Kind.the-variants.{Unknown, Position, MicE}
 use Rattle.packet.specs.declared.Report.{Report}
 use Rattle.packet.specs.declared.Record.{Record}
-use Rattle.packet.specs.Written.{most, informationOf, positionBytes, micEBytes, bodyBytes, bodyRefusal, bytesOf}
+use Rattle.packet.specs.Written.{most, orElse, wroteUnless, informationOf, positionBytes, micEBytes, bodyBytes, bodyRefusal, bytesOf}
+
+-- ---- the first refusal
+
+pub or-first : (k n : ℕ) → (k ≡ 0 → ⊥) → orElse k n ≡ k
+unfolding orElse
+or-first zero n h = absurd (h refl)
+or-first (suc k) n h = refl
+
+pub or-none : (k n : ℕ) → k ≡ 0 → orElse k n ≡ n
+unfolding orElse
+or-none k n e = rw e
+
+-- a refusal that came before hides the bytes
+pub unless-same : (k : ℕ) (b b′ out : List ℕ) → (k ≡ 0 → b ≡ b′) → wroteUnless k b out ≡ wroteUnless k b′ out
+unfolding orElse wrote wroteAs
+unless-same zero b b′ out e = rw (e refl)
+unless-same (suc k) b b′ out e = refl
+
+-- refused or not, no more is reported than the bytes
+pub reported-le : (a : Answer) (last bytes out : List ℕ) (k n : ℕ) → ends a last ≡ wrote k bytes out → (k ≡ 0 → length bytes ≤ length out) → (k ≡ 0 → length bytes ≤ n) → a .reported ≤ n
+unfolding wrote wroteAs
+reported-le a last bytes out zero n e h s = let q = reported-is a last bytes out 0 e refl (h refl) in let m = s refl in omega arith
+reported-le a last bytes out (suc k) n e h s = let q : a .reported ≡ 0 = ap (λ (x : Wrote). x .answer .reported) e in omega arith
 
 -- ---- the fixed bytes of a body, from the type byte on
 
@@ -125,8 +149,12 @@ module _ (xs ys body post : List ℕ) (n : ℕ) (b : Answer) (w : ends b ys ≡ 
   pub rest-long : n + b .reported ≡ length (take (n + b .reported) (take n xs ++ (ys ++ post)))
   rest-long = rw rest-head (sym sized)
 
-  pub rest-written : (r : Record) (comment out last : List ℕ) (a : Answer) → body ≡ bodyBytes (r .kind) (r .place) (r .messaging) (r .«mic_e»)
+  pub rest-written : (r : Record) (comment out last : List ℕ) (a : Answer) (k : ℕ) → k ≡ 0 → body ≡ bodyBytes (r .kind) (r .place) (r .messaging) (r .«mic_e»)
       → ends a last ≡ wrote (overBy most (take (n + b .reported) (take n xs ++ (ys ++ post)) ++ comment)) (take (n + b .reported) (take n xs ++ (ys ++ post)) ++ comment) out
-      → ends a last ≡ wrote (overBy most (bytesOf (take n xs) r comment)) (bytesOf (take n xs) r comment) out
+      → ends a last ≡ wroteUnless k (bytesOf (take n xs) r comment) out
   unfolding bytesOf
-  rest-written r comment out last a e q = rw (← e, ← rest-head) q
+  rest-written r comment out last a k z e q = rw (or-none k _ z, ← e, ← rest-head) q
+
+-- the header's refusal
+pub rest-refused : (bytes out : List ℕ) (a : Answer) (k : ℕ) → (k ≡ 0 → ⊥) → a ≡ refusedBy k → ends a out ≡ wroteUnless k bytes out
+rest-refused bytes out a k z q = passed-on a k (orElse k (overBy most bytes)) bytes out q z (or-first k (overBy most bytes) z)

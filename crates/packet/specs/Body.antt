@@ -24,10 +24,11 @@ use Rattle.packet.specs.declared.Opening.the-variants.{Unported, Untimed
 use Rattle.packet.specs.declared.Body.{Body}
 use Rattle.packet.specs.Record.{noReport, noComment}
 
--- 1c and 1d, as the document numbers them
+-- 1c, as the document numbers it
 abbrev pub fileSeparator : ℕ
 fileSeparator = 0x1c
 
+-- 1d
 abbrev pub groupSeparator : ℕ
 groupSeparator = 0x1d
 
@@ -42,6 +43,7 @@ openingOf b =
     (cond (eqb b groupSeparator || eqb b apostrophe) (Mic false)
     Other))))
 
+-- a refusal: Unknown, and nothing of a body
 unfoldable pub bodyRefused : ℕ → Body
 bodyRefused n =
     record { refusal = n; kind = Unknown; place = noPlace; messaging = false; «mic_e» = noReport; comment = noComment }

@@ -54,8 +54,10 @@ packetAfter h s =
     (packetOf (h .header) (readBody (h .header .to) (drop (h .body) s) (h .body)))
     (packetRefused (h .refusal))
 
+-- a line of text
 unfoldable pub readText : List ℕ → PacketRead
 readText s = packetAfter (readTextHeader s) s
 
+-- an AX.25 frame
 unfoldable pub readFrame : List ℕ → PacketRead
 readFrame s = packetAfter (readFrameHeader s) s

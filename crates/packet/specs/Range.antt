@@ -22,6 +22,7 @@ use Rattle.packet.specs.Record.{headerOf}
 
 -- ---- parts that a kind lacks: all zero
 
+-- angles, blanks and symbol
 unfoldable pub isNoPlace : Place → Bool
 isNoPlace p =
     eqb (natAbs (p .latitude .0)) 0
@@ -30,6 +31,7 @@ isNoPlace p =
     && (eqb (p .table) 0
     && eqb (p .code) 0)))
 
+-- the message of number 0, no speed, no course, not current
 unfoldable pub isNoReport : Report → Bool
 isNoReport m =
     eqb (messageNumber (m .message)) 0
@@ -62,6 +64,7 @@ unfoldable pub micEInRange : Callsign → Place → Bool → Report → Bool
 micEInRange to place messaging report =
     isBlankCall to && (not messaging && (placeInRange place && (isShort place && motionInRange report)))
 
+-- by the kind
 unfoldable pub partsInRange : Kind → Callsign → Place → Bool → Report → Bool
 partsInRange Unknown to place messaging report = unknownInRange place messaging report
 partsInRange Position to place messaging report = positionInRange place report
@@ -71,6 +74,7 @@ partsInRange MicE to place messaging report = micEInRange to place messaging rep
 unfoldable pub recordInRange : Record → Bool
 recordInRange r = headerInRange (headerOf r) && partsInRange (r .kind) (r .to) (r .place) (r .messaging) (r .«mic_e»)
 
+-- 15 for a record out of range
 unfoldable pub rangeRefusal : Record → ℕ
 rangeRefusal r = cond (recordInRange r) 0 15
 

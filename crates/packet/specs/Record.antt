@@ -17,9 +17,11 @@ use Rattle.packet.specs.declared.PacketRead.{PacketRead}
 unfoldable pub noReport : Report
 noReport = record { message = M0; speed = record { 0 = 0 }; course = record { 0 = 0 }; current = false }
 
+-- no comment: no place, no length
 unfoldable pub noComment : Comment
 noComment = record { at = 0; len = 0 }
 
+-- Unknown kind, and every part blank
 unfoldable pub blankRecord : Record
 blankRecord =
     record {
@@ -33,6 +35,7 @@ blankRecord =
       comment = noComment;
     }
 
+-- a refusal: the blank record
 unfoldable pub packetRefused : ℕ → PacketRead
 packetRefused n = record { refusal = n; «record» = blankRecord }
 

@@ -33,9 +33,11 @@ writtenTo Position to place report = to
 writtenTo MicE to place report =
     made (writeDestination (place .latitude .0) (place .blanks) (report .message) (place .longitude .0) .bytes) []
 
+-- source, that destination, and path
 unfoldable pub writtenHeader : Record → Header
 writtenHeader r = record { from = r .from; to = writtenTo (r .kind) (r .to) (r .place) (r .«mic_e»); path = r .path }
 
+-- what the information of a Mic-E report holds
 unfoldable pub informationOf : Place → Report → Information
 informationOf place report =
     record {
@@ -46,13 +48,15 @@ informationOf place report =
       table = place .table;
     }
 
--- the type byte and what is fixed behind it: "writing uses backquote or apostrophe"
+-- the type byte of a position, and what is fixed behind it
 unfoldable pub positionBytes : Place → Bool → List ℕ
 positionBytes place messaging = cond messaging equals bang ∷ positionText place
 
+-- of a Mic-E report: "writing uses backquote or apostrophe"
 unfoldable pub micEBytes : Place → Report → List ℕ
 micEBytes place report = cond (report .current) backquote apostrophe ∷ informationBytes (informationOf place report)
 
+-- by the kind
 unfoldable pub bodyBytes : Kind → Place → Bool → Report → List ℕ
 bodyBytes Unknown place messaging report = []
 bodyBytes Position place messaging report = positionBytes place messaging
@@ -62,9 +66,11 @@ bodyBytes MicE place messaging report = micEBytes place report
 unfoldable pub bytesOf : List ℕ → Record → List ℕ → List ℕ
 bytesOf head r comment = (head ++ bodyBytes (r .kind) (r .place) (r .messaging) (r .«mic_e»)) ++ comment
 
+-- of a line
 unfoldable pub textBytes : Record → List ℕ → List ℕ
 textBytes r comment = bytesOf (headerText (writtenHeader r)) r comment
 
+-- of a frame
 unfoldable pub frameBytes : Record → List ℕ → List ℕ
 frameBytes r comment = bytesOf (headerFrame (writtenHeader r)) r comment
 
@@ -89,6 +95,7 @@ recordRefusal r = orElse (rangeRefusal r) (kindRefusal (r .kind))
 abbrev pub most : ℕ
 most = 512
 
+-- 15, 14, 1
 unfoldable pub textRefusal : Record → List ℕ → ℕ
 textRefusal r comment = orElse (recordRefusal r) (overBy most (textBytes r comment))
 
@@ -99,9 +106,9 @@ frameRefusal r comment =
 
 -- ---- for the contracts of private functions
 
--- all the bytes, or 1 over the limit
-abbrev pub wroteWithin : ℕ → List ℕ → List ℕ → Wrote
-wroteWithin limit bytes out = wrote (overBy limit bytes) bytes out
+-- a refusal that came before, else 1 over the limit, else the bytes
+abbrev pub wroteUnless : ℕ → List ℕ → List ℕ → Wrote
+wroteUnless refusal bytes out = wrote (orElse refusal (overBy most bytes)) bytes out
 
 -- 15 and 14 as far as the parts behind the header tell; 0 leaves a header out of range to its writer
 unfoldable pub earlyByKind : Kind → Bool → ℕ
@@ -109,6 +116,7 @@ earlyByKind Unknown header = cond header 14 15
 earlyByKind Position header = 0
 earlyByKind MicE header = 0
 
+-- the same, the parts judged first
 unfoldable pub earlyRefusal : Record → ℕ
 earlyRefusal r =
     cond (partsInRange (r .kind) (r .to) (r .place) (r .messaging) (r .«mic_e»))

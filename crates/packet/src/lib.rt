@@ -13,8 +13,8 @@ ghost use Rattle.packet.specs.Record.{noReport, blankRecord, packetRefus
 ghost use Rattle.packet.specs.Range.{isNoPlace, isNoReport, isShort, motionInRange, unknownInRange, positionInRange, micEInRange, partsInRange, recordInRange};
 ghost use Rattle.packet.specs.Body.{openingOf, bodyRefused, positionBody, reportBody, micEBody, readBody};
 ghost use Rattle.packet.specs.Packet.{keptTo, packetOf, packetAfter, readText, readFrame};
-ghost use Rattle.packet.specs.Written.{most, writtenTo, writtenHeader, informationOf, positionBytes, micEBytes, bodyBytes, bytesOf};
-ghost use Rattle.packet.specs.Written.{textBytes, frameBytes, textRefusal, frameRefusal, wroteWithin, earlyByKind, earlyRefusal, bodyRefusal};
+ghost use Rattle.packet.specs.Written.{writtenTo, writtenHeader, informationOf, positionBytes, micEBytes, bodyBytes, bytesOf};
+ghost use Rattle.packet.specs.Written.{textBytes, frameBytes, textRefusal, frameRefusal, wroteUnless, earlyByKind, earlyRefusal, bodyRefusal};
 use callsign::Callsign;
 use header::Header;
 use header::HeaderRead;
@@ -575,11 +575,21 @@ fn write_body(
     }
 }
 
-// Puts the body behind a header of n bytes in head, and writes both and the comment.
-fn write_rest(r: Record, n: usize, head: &mut [u8], comment: &[u8], out: &mut [u8]) -> laws::Answer
-    requires { ⌜ (bodyRefusal (r .kind) (r .place) (r .«mic_e») ≡ 0) × (n ≤ 200) × (length (now head) ≡ 256) ⌝ }
-    ensures { λ a. ⌜ ends a (now (out .exit)) ≡ wroteWithin most (bytesOf (take n (now (head .entry))) r (now (comment .entry))) (now (out .entry)) ⌝ }
+// Behind a header that was written into head: the body; and then all of it and the comment into out.
+fn write_rest(
+    r: Record,
+    h: laws::Answer,
+    head: &mut [u8],
+    comment: &[u8],
+    out: &mut [u8],
+) -> laws::Answer
+    requires { ⌜ (bodyRefusal (r .kind) (r .place) (r .«mic_e») ≡ 0) × (h .reported ≤ 200) × (length (now head) ≡ 256) ⌝ }
+    ensures { λ a. ⌜ ends a (now (out .exit)) ≡ wroteUnless (h .refusal) (bytesOf (take (h .reported) (now (head .entry))) r (now (comment .entry))) (now (out .entry)) ⌝ }
 {
+    if h.refusal != 0 {
+        return laws::refused(h.refusal);
+    }
+    let n = h.reported;
     let kind = r.kind;
     let b = write_body(kind, r.place, r.messaging, r.mic_e, &mut head[n..]);
     let m = n + b.reported;
@@ -625,10 +635,7 @@ pub fn write_text(r: Record, comment: &[u8], out: &mut [u8]) -> laws::Answer
     }
     let mut head = [0u8; 256];
     let h = header::write_text(written_header(r), &mut head);
-    if h.refusal != 0 {
-        return laws::refused(h.refusal);
-    }
-    write_rest(r, h.reported, &mut head, comment, out)
+    write_rest(r, h, &mut head, comment, out)
 }
 
 // Writes a record and a comment as an AX.25 frame; refused with 15, 14, 13, 1 or 16. The record's comment is ignored.
@@ -641,8 +648,5 @@ pub fn write_frame(r: Record, comment: &[u8], out: &mut [u8]) -> laws::Answer
     }
     let mut head = [0u8; 256];
     let h = header::write_frame(written_header(r), &mut head);
-    if h.refusal != 0 {
-        return laws::refused(h.refusal);
-    }
-    write_rest(r, h.reported, &mut head, comment, out)
+    write_rest(r, h, &mut head, comment, out)
 }

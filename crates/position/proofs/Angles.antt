@@ -97,10 +97,6 @@ mag-small : (x : ℤ) → mag x ≤ natAbs x
 mag-small (pos a) = omega arith
 mag-small (negsuc a) = omega arith
 
-abs-small : (x : ℤ) → natAbs x ≤ mag x + 1
-abs-small (pos a) = omega arith
-abs-small (negsuc a) = omega arith
-
 -- ---- the box in the machine's numbers: w is the width, as the code has it
 
 abbrev held : ℤ → ℤ

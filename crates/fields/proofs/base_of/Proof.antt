@@ -1,12 +1,10 @@
 -- `base_of`: the size of the longitude that was read, or nothing. Assumes nothing.
-use mathlib.Core.Path.{_≡_, ap, _∙_}
+use mathlib.Core.Path.{_≡_}
 use mathlib.Core.Bool.{Bool, false}
 use Prim.Native.Nat.{ℕ}
 use lib.IntN.{natAbs}
-use Rattle.lonlat.specs.Angle.{sidesOf}
 use Rattle.lonlat.specs.declared.Longitude.{Longitude}
-use Rattle.lonlat.specs.declared.Sides.{Sides}
-use Rattle.lonlat.proofs.Angle.{back}
+use Rattle.lonlat.proofs.Angle.{back, parts-size}
 use Rattle.mic_e.specs.Longitude.{readLongitude}
 use Rattle.mic_e.specs.declared.LongitudeField.{LongitudeField}
 use Rattle.mic_e.specs.declared.LongitudeField.the-variants.{Read, Refused}
@@ -38,12 +36,11 @@ enum-told : tie.Need-enum-told
 enum-told c = search needs
 
 returns : tie.Need-returns
-unfolding sidesOf
 returns c =
     let m = c .before .before .before in
     let z = m .read .given .0 .0 .0 in
     some _ _ _ _ (m .before .before .read-longitude .ensures) _ _ (m .read .given .1)
-    (ap (λ (s : Sides). s .size) (c .parts .ensures) ∙ ap natAbs (back z (record { sfits = c .before .struct-told .given .0 .1 })))
+    (parts-size z _ (back z (record { sfits = c .before .struct-told .given .0 .1 })) _ (c .parts .ensures))
 
 returns-2 : tie.Need-returns-2
 returns-2 c = search none

@@ -1,9 +1,18 @@
--- `motion_field`: both answers are `motionField`, by the tens of knots. Assumes nothing.
-use borrow.Author.Tests.{lt-ltb, le-ltb}
-use Rattle.mic_e.specs.Motion.{motionField, tensOf}
+-- `motion_field`: three bytes, by the tens of knots. Assumes nothing.
+use Prim.Native.Nat.{_+_, _<_}
+use native.Mathlib.Omega.{arith}
+use Rattle.mic_e.specs.Motion.{motionField}
+use Rattle.mic_e.proofs.MotionFacts.{motion-bytes}
 use borrow.Author.Needs.{needs}
 use Rattle.mic_e.proofs.motion_field.Statement.{statement}
 use Rattle.mic_e.proofs.motion_field.Tie as tie
+
+first : (c : tie.After-tens-of) → c .tens-of .result + 28 < 256
+unfolding motionField
+first c = rw (c .tens-of .ensures) (motion-bytes (c .before .args .speed) (c .before .args .course) (c .before .pre .0) (c .before .pre .1) .first-byte)
+
+tens-of-requires : tie.Need-tens-of-requires
+tens-of-requires c κs = search needs
 
 mul-second : tie.Need-mul-second
 mul-second c = search needs
@@ -20,50 +29,34 @@ add-second-3 c = search needs
 cast-second : tie.Need-cast-second
 cast-second c = search needs
 
-add-third : tie.Need-add-third
-add-third c = search needs
+add-t5 : tie.Need-add-t5
+add-t5 c = omega (arith, first c)
 
-cast-third : tie.Need-cast-third
-cast-third c = search needs
+cast-t11 : tie.Need-cast-t11
+cast-t11 c = omega (arith, first c)
 
-add-t13 : tie.Need-add-t13
-add-t13 c = search needs
+add-t9 : tie.Need-add-t9
+add-t9 c = search needs
 
-add-t14 : tie.Need-add-t14
-add-t14 c = search needs
-
-cast-t15 : tie.Need-cast-t15
-cast-t15 c = search needs
+cast-t12 : tie.Need-cast-t12
+cast-t12 c = search needs
 
 returns : tie.Need-returns
-unfolding motionField tensOf
-returns c = rw (lt-ltb _ _ (c .if1 .taken))
-
-add-t6 : tie.Need-add-t6
-add-t6 c = search needs
-
-cast-t16 : tie.Need-cast-t16
-cast-t16 c = search needs
-
-returns-2 : tie.Need-returns-2
-unfolding motionField tensOf
-returns-2 c = rw (le-ltb _ _ (c .if1 .left))
+unfolding motionField
+returns c = rw (c .tens-of .ensures)
 
 pub motion-field-spec : {M : Type 1} → statement M
 motion-field-spec =
     tie.close
     (tie.spec
+    tens-of-requires
     mul-second
     add-second
     add-second-2
     add-second-3
     cast-second
-    add-third
-    cast-third
-    add-t13
-    add-t14
-    cast-t15
-    returns
-    add-t6
-    cast-t16
-    returns-2)
+    add-t5
+    cast-t11
+    add-t9
+    cast-t12
+    returns)

@@ -1,5 +1,5 @@
 -- The refusals in order; then the header, and all behind it. Assumes nothing.
-use Rattle.packet.proofs.Lines.{body-fits, text-refused, text-unsent, text-reported, text-written}
+use Rattle.packet.proofs.Lines.{body-fits, text-refused, text-reported, text-written}
 use borrow.Author.Needs.{needs}
 use Rattle.packet.proofs.write_text.Statement.{statement}
 use Rattle.packet.proofs.write_text.Tie as tie
@@ -22,12 +22,6 @@ slice-aggregate-write-text c = search needs
 write-text-requires : tie.Need-write-text-requires
 write-text-requires c κs = search needs
 
-refused-requires-2 : tie.Need-refused-requires-2
-refused-requires-2 c κs = search needs
-
-returns-2 : tie.Need-returns-2
-returns-2 c = search text-unsent
-
 slice-aggregate-write-rest : tie.Need-slice-aggregate-write-rest
 slice-aggregate-write-rest c = search needs
 
@@ -37,8 +31,8 @@ write-rest-requires c κs = search (body-fits, text-reported, needs)
 same-length : tie.Need-same-length
 same-length c = search needs
 
-returns-3 : tie.Need-returns-3
-returns-3 c = search text-written
+returns-2 : tie.Need-returns-2
+returns-2 c = search text-written
 
 pub write-text-spec : {M : Type 1} → statement M
 write-text-spec =
@@ -50,9 +44,7 @@ write-text-spec =
     written-header-requires
     slice-aggregate-write-text
     write-text-requires
-    refused-requires-2
-    returns-2
     slice-aggregate-write-rest
     write-rest-requires
     same-length
-    returns-3)
+    returns-2)

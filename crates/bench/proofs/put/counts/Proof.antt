@@ -19,14 +19,14 @@ loop-holds c = search needs
 gap-requires : tie.Need-gap-requires Inv-loop μ-loop
 gap-requires c κs = search needs
 
-mul-digits : tie.Need-mul-digits Inv-loop μ-loop
-mul-digits c = search needs
+mul-put-count : tie.Need-mul-put-count Inv-loop μ-loop
+mul-put-count c = search needs
 
-shared-slice-read-digits : tie.Need-shared-slice-read-digits Inv-loop μ-loop
-shared-slice-read-digits c = search needs
+shared-slice-read-put-count : tie.Need-shared-slice-read-put-count Inv-loop μ-loop
+shared-slice-read-put-count c = search needs
 
-digits-requires : tie.Need-digits-requires Inv-loop μ-loop
-digits-requires c κs = search needs
+put-count-requires : tie.Need-put-count-requires Inv-loop μ-loop
+put-count-requires c κs = search needs
 
 add-i : tie.Need-add-i Inv-loop μ-loop
 add-i c = search needs
@@ -51,9 +51,9 @@ counts-spec =
     μ-loop
     loop-holds
     gap-requires
-    mul-digits
-    shared-slice-read-digits
-    digits-requires
+    mul-put-count
+    shared-slice-read-put-count
+    put-count-requires
     add-i
     loop-less
     loop-again

@@ -19,11 +19,11 @@ loop-holds c = search needs
 gap-requires : tie.Need-gap-requires Inv-loop μ-loop
 gap-requires c κs = search needs
 
-shared-slice-read-pair : tie.Need-shared-slice-read-pair Inv-loop μ-loop
-shared-slice-read-pair c = search needs
+shared-slice-read-put-hex : tie.Need-shared-slice-read-put-hex Inv-loop μ-loop
+shared-slice-read-put-hex c = search needs
 
-pair-requires : tie.Need-pair-requires Inv-loop μ-loop
-pair-requires c κs = search needs
+put-hex-requires : tie.Need-put-hex-requires Inv-loop μ-loop
+put-hex-requires c κs = search needs
 
 add-i : tie.Need-add-i Inv-loop μ-loop
 add-i c = search needs
@@ -48,8 +48,8 @@ hex-spec =
     μ-loop
     loop-holds
     gap-requires
-    shared-slice-read-pair
-    pair-requires
+    shared-slice-read-put-hex
+    put-hex-requires
     add-i
     loop-less
     loop-again

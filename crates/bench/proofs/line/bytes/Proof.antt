@@ -4,8 +4,8 @@ use mathlib.Core.Path.{_≡_}
 use Prim.Native.Nat.{_-_, _≤_}
 use lib.ListN.{length}
 use borrow.Author.Needs.{needs}
-use Rattle.bench.proofs.words.bytes.Statement.{statement}
-use Rattle.bench.proofs.words.bytes.Tie as tie
+use Rattle.bench.proofs.line.bytes.Statement.{statement}
+use Rattle.bench.proofs.line.bytes.Tie as tie
 
 abbrev Inv-loop : tie.InvT-loop
 Inv-loop s out₀ n₀ i₀ out n i = (length out ≡ length out₀) × (i ≤ length s)

@@ -3,8 +3,8 @@
 use Prim.Native.Nat.{_-_, _≤_}
 use lib.ListN.{length}
 use borrow.Author.Needs.{needs}
-use Rattle.bench.proofs.words.arrow.Statement.{statement}
-use Rattle.bench.proofs.words.arrow.Tie as tie
+use Rattle.bench.proofs.line.arrow.Statement.{statement}
+use Rattle.bench.proofs.line.arrow.Tie as tie
 
 abbrev Inv-loop : tie.InvT-loop
 Inv-loop s i₀ t3 i = i ≤ length s
