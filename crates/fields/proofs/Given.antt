@@ -3,11 +3,11 @@
 -- Assumes nothing.
 use mathlib.Core.Path.{_≡_, refl, ap, _∙_}
 use mathlib.Core.Logic.{⊎-elim, _⊎_}
-use mathlib.Core.Bool.{Bool, true, false, cond, _&&_, or-true, _||_}
+use mathlib.Core.Bool.{Bool, true, false, _&&_, or-true, _||_}
 use mathlib.Core.List.{List, [], _∷_}
 use Prim.Native.Nat.{ℕ, _+_, _-_, _*_, _/_, _≤_, _<_}
 use native.Mathlib.Omega.{arith}
-use lib.Dec.{ltb, leb, eqb}
+use lib.Dec.{ltb, leb}
 use lib.IntN.{pos}
 use lib.ListN.{length}
 use borrow.Author.Tests.{le-leb, lt-ltb}
@@ -21,10 +21,10 @@ use Rattle.mic_e.proofs.LongitudeFacts.{Lies}
 use Rattle.mic_e.proofs.Turn.{lessIf-split}
 use Rattle.fields.specs.Each.{each, field}
 use Rattle.fields.specs.Lists.{isMotion, isLongitude, sameAngle, motionFields, longitudeFields}
-use Rattle.fields.specs.Search.{hits, fieldsOf, thirdAt, sameSide}
+use Rattle.fields.specs.Search.{hits, fieldsOf, thirdAt}
 use Rattle.fields.specs.declared.Target.the-variants.{Moving, Lying}
 use Rattle.fields.proofs.Hits.{motion-hit, courseLeft, course-left, longitude-hit, size-left}
-use Rattle.fields.proofs.Sides.{on-side}
+use Rattle.fields.proofs.Sides.{east-side, on-side}
 use Rattle.fields.proofs.Skip.{skipRow, skipped}
 
 -- ---- motion: first bytes that no speed of s knots has, left out
@@ -87,16 +87,12 @@ near-row m hundred a b c k l h =
 -- a longitude that lies east
 quick-east : (m : ℕ) (hundred : Bool)
     → longitudeFields hundred false (pos m) ≡ each 256 (skipRow (hits (Lying m hundred)) (nearRow m hundred) (λ a b. m - sizeOf (offsetOf hundred) a b 28))
-unfolding sameSide isMinus
+unfolding isMinus
 quick-east m hundred =
-    on-side hundred false (pos m) (go (eqb m 0))
+    on-side hundred false (pos m) (east-side m)
     ∙ skipped (hits (Lying m hundred)) (nearRow m hundred) (λ a b. m - sizeOf (offsetOf hundred) a b 28)
     (λ a b c k l q. near-row m hundred a b c k l (longitude-hit m hundred a b c q))
     (λ a b c l q. size-left m (offsetOf hundred) a b c (longitude-hit m hundred a b c q))
-  where
-    go : (t : Bool) → cond t true true ≡ true
-    go true = refl
-    go false = refl
 
 -- "45 degrees east with offset 100: none, count 0"
 pub none-listed : longitudeFields true false (pos 270000) ≡ []

@@ -72,14 +72,14 @@ module _ (s t a b c : ℕ) (byte : c < 256) (h : Moves s t a b c) where
 
 -- ---- longitude
 
-pub same-angle : (y z : ℤ) → sameAngle y z ≡ true → y ≡ z
+same-angle : (y z : ℤ) → sameAngle y z ≡ true → y ≡ z
 unfolding sameAngle
 same-angle (pos a) (pos b) e = ap pos (eqb-true a b e)
 same-angle (pos a) (negsuc b) e = absurd (false≢true e)
 same-angle (negsuc a) (pos b) e = absurd (false≢true e)
 same-angle (negsuc a) (negsuc b) e = ap negsuc (eqb-true a b e)
 
-pub angle-same : (z : ℤ) → sameAngle z z ≡ true
+angle-same : (z : ℤ) → sameAngle z z ≡ true
 unfolding sameAngle
 angle-same (pos a) = eq-eqb a a refl
 angle-same (negsuc a) = eq-eqb a a refl

@@ -52,7 +52,7 @@ pub record Blanked (t : List ℕ) (k : ℕ) : Type 0 where
   pub rest : restBlank t ≡ true
   pub starts : indexOf space t ≡ k
 
-pub kept-some : (t : List ℕ) (k : ℕ) → k ≡ keptOf t → (k ≡ 0 → ⊥) → Blanked t k
+kept-some : (t : List ℕ) (k : ℕ) → k ≡ keptOf t → (k ≡ 0 → ⊥) → Blanked t k
 unfolding keptOf
 kept-some t k e h = go (restBlank t) refl e
   where

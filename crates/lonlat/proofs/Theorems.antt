@@ -156,12 +156,12 @@ places-angle most k n size minus h e =
     let l : size - size % widthOf n ≤ most = omega arith in
     rw (every-last isDigit digit0 n (placesOf k size) refl (places-are k size), e, le-leb (size - size % widthOf n) most l)
 
-pub cut-multiple : (n size : ℕ) → size % widthOf n ≡ 0 → cutTo n size ≡ size
+cut-multiple : (n size : ℕ) → size % widthOf n ≡ 0 → cutTo n size ≡ size
 unfolding cutTo
 cut-multiple n size h = omega arith
 
 -- the six places of a size and a letter: what Mic-E writes and reads
-pub latitude-back : (size blanks letter : ℕ) → size ≤ mostLatitude → blanks ≤ 5 → isNorthOrSouth letter ≡ true
+latitude-back : (size blanks letter : ℕ) → size ≤ mostLatitude → blanks ≤ 5 → isNorthOrSouth letter ≡ true
     → latitudeIn (blankedPlaces blanks size) letter ≡ lat.Read (record { 0 = signedOf (eqb letter capitalS) (cutTo blanks size) }) blanks letter
 unfolding blankedPlaces latitudeWith
 latitude-back size blanks letter h few e =

@@ -53,7 +53,7 @@ module _ (P : PositionRead → Type 0) (s : List ℕ)
       longitude-cases latitude blanks north (read-latitude-found latitude blanks north (take 8 s) e) (readLongitude (take 9 (drop 9 s)) blanks) refl
   latitude-cases lat.Refused e = blank 8 refl
 
-  pub position-cases : P (readPosition s)
+  position-cases : P (readPosition s)
   unfolding readPosition
   position-cases = go (isUncompressed s) (ltb (length s) fixedBytes)
     where
