@@ -32,7 +32,7 @@ use Rattle.mic_e.specs.declared.LongitudeField.the-variants.{Read as Lies}
 use Rattle.mic_e.specs.declared.DestinationRead.the-variants.{Read}
 use Rattle.mic_e.proofs.Cases.{cases}
 use Rattle.header.specs.declared.Hop as hops
-use Rattle.header.specs.Header.{these, before, pathOf, hopsOf, pathRead, headerOf, accepted, unlessRefused}
+use Rattle.header.specs.Header.{these, before, pathOf, hopsOf, pathRead, headerOf, headerAccepted, unlessRefused}
 use Rattle.header.specs.Text.{onFirst, fields, firstOf, othersOf, isQ, hopOf, readHop, hopThen, textHops, anyHeard, carried, carriedBack, withPath, readRoute, readBefore, readTextHeader, hopsText, routeText, headerText}
 
 -- ---- what the table's lines are written with
@@ -131,7 +131,7 @@ pub record BenchValues : Type 0 where
       × (readAddress address ≡ record { refusal = 0; call = made N0CALL (digit 1 ∷ []); heard = true; last = true })
   -- "P11 hops A,B*,C: A and B heard, C not; written A,B*,C."
   pub p11 : (readTextHeader line
-      ≡ accepted (lone capitalS) (lone letterT) (pathOf heard-to-B) 11)
+      ≡ headerAccepted (lone capitalS) (lone letterT) (pathOf heard-to-B) 11)
       × (headerText (readTextHeader line .header) ≡ line)
   -- "P12 9000.00N and 8960.00N: 540000; 9000.01N: 8."
   pub p12 : (readLatitude (north 9 0 0 0 0 0) ≡ at-north 540000)
@@ -141,8 +141,8 @@ pub record BenchValues : Type 0 where
 -- ---- the theorem
 
 p11-read : readTextHeader line
-    ≡ accepted (lone capitalS) (lone letterT) (pathOf heard-to-B) 11
-unfolding readTextHeader readBefore readRoute withPath unlessRefused accepted headerOf pathOf pathRead fields onFirst firstOf othersOf textHops hopThen before readHop isQ hopOf readText readUnstarred parted callAccepted indexOf utf8 characters after within isZero made joined padTo carriedBack carried anyHeard
+    ≡ headerAccepted (lone capitalS) (lone letterT) (pathOf heard-to-B) 11
+unfolding readTextHeader readBefore readRoute withPath unlessRefused headerAccepted headerOf pathOf pathRead fields onFirst firstOf othersOf textHops hopThen before readHop isQ hopOf readText readUnstarred parted callAccepted indexOf utf8 characters after within isZero made joined padTo carriedBack carried anyHeard
 p11-read = refl
 
 p11-written : headerText (headerOf (lone capitalS) (lone letterT) (pathOf heard-to-B)) ≡ line
@@ -150,7 +150,7 @@ unfolding headerText routeText headerOf pathOf hopsOf hopsText anyHeard textOf c
 p11-written = refl
 
 pub bench-values : BenchValues
-unfolding course lessIf motionNumber motionOut longitudeOut destinationNumber latitudeNumber accepted
+unfolding course lessIf motionNumber motionOut longitudeOut destinationNumber latitudeNumber headerAccepted
 bench-values =
     record {
       p1 = cases .p1;
