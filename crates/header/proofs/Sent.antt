@@ -1,18 +1,18 @@
 -- The addresses of a header put into a scratch array one by one, up to the first that is refused.
 -- Assumes nothing.
 use mathlib.Core.Path.{_≡_, refl, sym, ap, _∙_}
-use mathlib.Core.Bool.{Bool, true, false, not, cond}
+use mathlib.Core.Bool.{Bool, true, false, cond}
 use mathlib.Core.List.{List, [], _∷_, _++_}
 use Prim.Native.Nat.{ℕ, suc, _+_, _-_, _*_, _<_, _≤_}
 use native.Mathlib.Numerals.{add-one}
 use native.Mathlib.Omega.{arith}
 use lib.Dec.{eqb}
-use borrow.Author.Tests.{eq-eqb, ne-eqb, eqb-true, eqb-false, not-true}
+use borrow.Author.Tests.{eq-eqb, ne-eqb, eqb-true, eqb-false}
 use lib.ListN.{length, take, drop, getD, length-append, length-take}
 use lib.Seq.{slice, slice-cons, slice-empty, length-slice}
 use Rattle.laws.specs.declared.Answer.{Answer}
 use Rattle.laws.specs.Wrote.{ends, refusedBy, overBy, wrote}
-use Rattle.laws.proofs.Wrote.{passed-on, not-over}
+use Rattle.laws.proofs.Wrote.{passed-on}
 use Rattle.callsign.specs.declared.AddressWritten.{AddressWritten}
 use Rattle.callsign.specs.declared.Field.the-variants.{Destination, Source, Hop as HopField}
 use Rattle.callsign.specs.Packed.{writeAddress}
@@ -24,7 +24,7 @@ use Rattle.header.specs.Frame.{pair, isNone, hopAddresses, addresses, fi
 use Rattle.header.specs.Range.{headerInRange, frameRefusal}
 use Rattle.header.specs.Written.{Filled, filled, added, Placed, placed, addedAll}
 use Rattle.header.proofs.Built.{added-added, added-none, added-length, added-len, part-added}
-use Rattle.header.proofs.Bounds.{put-within, put-prefix, put-front}
+use Rattle.header.proofs.Bounds.{put-within, put-prefix, put-done}
 use Rattle.header.proofs.InRange.{route-count}
 
 -- ---- one address
@@ -270,10 +270,6 @@ frame-bound h z = go (headerInRange h) refl z
 
 -- ---- the writer's answers
 
-pub frame-out : (u : Bool) (h : Header) (r : Answer) (out : List ℕ) → u ≡ headerInRange h → not u ≡ true → r ≡ refusedBy 15 → ends r out ≡ wrote (frameRefusal h) (headerFrame h) out
-unfolding frameRefusal
-frame-out u h r out e t q = passed-on r 15 (frameRefusal h) (headerFrame h) out q (λ z. omega arith) (rw (← e, not-true u t))
-
 module _ (h : Header) (v : List ℕ) (r : ℕ) (b : List ℕ) (n : ℕ) (e : headerInRange h ≡ true) (q : placed r b n ≡ addedAll (filled v 0) (addresses h)) where
   its-refusal : frameRefusal h ≡ r
   unfolding frameRefusal
@@ -300,6 +296,5 @@ module _ (h : Header) (v : List ℕ) (r : ℕ) (b : List ℕ) (n : ℕ) (e : hea
     pub frame-done : (a : Answer) (out out′ : List ℕ) → ends a out′ ≡ wrote (overBy 72 (take n b ++ pair)) (take n b ++ pair) out → ends a out′ ≡ wrote (frameRefusal h) (headerFrame h) out
     unfolding headerFrame
     frame-done a out out′ w =
-        let f : take n b ≡ addressBytes (addresses h) = put-front v b (addressBytes (addresses h)) n 70 put (addresses-bound h e fine) room in
-        let o : overBy 72 (addressBytes (addresses h) ++ pair) ≡ 0 = not-over 72 (addressBytes (addresses h) ++ pair) (frame-short h e fine) in
-        w ∙ rw (f, o, its-refusal, z)
+        put-done v b (addressBytes (addresses h)) n 70 put (addresses-bound h e fine) room 72 pair out (ends a out′) (frame-short h e fine) w
+        ∙ rw (its-refusal, z)
