@@ -32,7 +32,7 @@ use Rattle.mic_e.specs.declared.LongitudeField.the-variants.{Read as Lies}
 use Rattle.mic_e.specs.declared.DestinationRead.the-variants.{Read}
 use Rattle.mic_e.proofs.Cases.{cases}
 use Rattle.header.specs.declared.Hop as hops
-use Rattle.header.specs.Header.{these, before, pathOf, hopsOf, pathRead, headerOf, accepted, unlessRefused}
+use Rattle.header.specs.Header.{before, pathOf, hopsOf, pathRead, headerOf, accepted, unlessRefused}
 use Rattle.header.specs.Text.{onFirst, fields, firstOf, othersOf, isQ, hopOf, readHop, hopThen, textHops, anyHeard, carried, carriedBack, withPath, readRoute, readBefore, readTextHeader, hopsText, routeText, headerText}
 
 -- ---- what the table's lines are written with
