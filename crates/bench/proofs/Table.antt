@@ -6,7 +6,7 @@ use mathlib.Core.Bool.{Bool, true, false}
 use mathlib.Core.List.{List, [], _∷_}
 use Prim.Native.Nat.{ℕ, _+_, _*_}
 use lib.IntN.{pos, negℤ}
-use Rattle.laws.specs.Bytes.{star, comma, point, digit0, colon, greater, within, capitalA, capitalL, capitalN, capitalS}
+use Rattle.laws.specs.Bytes.{star, comma, point, digit0, colon, greater, within, capitalA, capitalB, capitalC, capitalL, capitalN, capitalS, capitalT, capitalU}
 use Rattle.laws.specs.Lists.{indexOf, padTo}
 use Rattle.callsign.specs.declared.Callsign.{Callsign}
 use Rattle.callsign.specs.declared.Field.the-variants.{Hop}
@@ -32,7 +32,7 @@ use Rattle.mic_e.specs.declared.LongitudeField.the-variants.{Read as Lies}
 use Rattle.mic_e.specs.declared.DestinationRead.the-variants.{Read}
 use Rattle.mic_e.proofs.Cases.{cases}
 use Rattle.header.specs.declared.Hop as hops
-use Rattle.header.specs.Header.{these, before, pathOf, hopsOf, pathRead, headerOf, accepted, unlessRefused}
+use Rattle.header.specs.Header.{before, pathOf, hopsOf, pathRead, headerOf, headerAccepted, unlessRefused}
 use Rattle.header.specs.Text.{onFirst, fields, firstOf, othersOf, isQ, hopOf, readHop, hopThen, textHops, anyHeard, carried, carriedBack, withPath, readRoute, readBefore, readTextHeader, hopsText, routeText, headerText}
 
 -- ---- what the table's lines are written with
@@ -51,20 +51,8 @@ degrees d = d * 6000
 abbrev digit : ℕ → ℕ
 digit d = digit0 + d
 
-abbrev letterB : ℕ
-letterB = 0x42
-
-abbrev letterC : ℕ
-letterC = 0x43
-
-abbrev letterT : ℕ
-letterT = 0x54
-
-abbrev letterU : ℕ
-letterU = 0x55
-
 abbrev S32U6T : List ℕ
-S32U6T = capitalS ∷ digit 3 ∷ digit 2 ∷ letterU ∷ digit 6 ∷ letterT ∷ []
+S32U6T = capitalS ∷ digit 3 ∷ digit 2 ∷ capitalU ∷ digit 6 ∷ capitalT ∷ []
 
 abbrev LLLLLL : List ℕ
 LLLLLL = capitalL ∷ capitalL ∷ capitalL ∷ capitalL ∷ capitalL ∷ capitalL ∷ []
@@ -73,14 +61,14 @@ abbrev 4LLLLL : List ℕ
 4LLLLL = digit 4 ∷ capitalL ∷ capitalL ∷ capitalL ∷ capitalL ∷ capitalL ∷ []
 
 abbrev N0CALL : List ℕ
-N0CALL = capitalN ∷ digit 0 ∷ letterC ∷ capitalA ∷ capitalL ∷ capitalL ∷ []
+N0CALL = capitalN ∷ digit 0 ∷ capitalC ∷ capitalA ∷ capitalL ∷ capitalL ∷ []
 
 abbrev address : List ℕ
 address = 0x9c ∷ 0x60 ∷ 0x86 ∷ 0x82 ∷ 0x98 ∷ 0x98 ∷ 0xe3 ∷ []
 
 -- `S>T,A,B*,C:`
 abbrev line : List ℕ
-line = capitalS ∷ greater ∷ letterT ∷ comma ∷ capitalA ∷ comma ∷ letterB ∷ star ∷ comma ∷ letterC ∷ colon ∷ []
+line = capitalS ∷ greater ∷ capitalT ∷ comma ∷ capitalA ∷ comma ∷ capitalB ∷ star ∷ comma ∷ capitalC ∷ colon ∷ []
 
 -- a callsign of one letter, and a hop that is one
 abbrev lone : ℕ → Callsign
@@ -91,7 +79,7 @@ hop letter heard = record { call = lone letter; heard = heard }
 
 -- A and B heard, C not
 abbrev heard-to-B : List hops.Hop
-heard-to-B = hop capitalA true ∷ hop letterB true ∷ hop letterC false ∷ []
+heard-to-B = hop capitalA true ∷ hop capitalB true ∷ hop capitalC false ∷ []
 
 -- `ddmm.hhN` by its digits
 abbrev north : ℕ → ℕ → ℕ → ℕ → ℕ → ℕ → List ℕ
@@ -131,7 +119,7 @@ pub record BenchValues : Type 0 where
       × (readAddress address ≡ record { refusal = 0; call = made N0CALL (digit 1 ∷ []); heard = true; last = true })
   -- "P11 hops A,B*,C: A and B heard, C not; written A,B*,C."
   pub p11 : (readTextHeader line
-      ≡ accepted (lone capitalS) (lone letterT) (pathOf heard-to-B) 11)
+      ≡ headerAccepted (lone capitalS) (lone capitalT) (pathOf heard-to-B) 11)
       × (headerText (readTextHeader line .header) ≡ line)
   -- "P12 9000.00N and 8960.00N: 540000; 9000.01N: 8."
   pub p12 : (readLatitude (north 9 0 0 0 0 0) ≡ at-north 540000)
@@ -141,16 +129,16 @@ pub record BenchValues : Type 0 where
 -- ---- the theorem
 
 p11-read : readTextHeader line
-    ≡ accepted (lone capitalS) (lone letterT) (pathOf heard-to-B) 11
-unfolding readTextHeader readBefore readRoute withPath unlessRefused accepted headerOf pathOf pathRead fields onFirst firstOf othersOf textHops hopThen before readHop isQ hopOf readText readUnstarred parted callAccepted indexOf utf8 characters after within isZero made joined padTo carriedBack carried anyHeard
+    ≡ headerAccepted (lone capitalS) (lone capitalT) (pathOf heard-to-B) 11
+unfolding readTextHeader readBefore readRoute withPath unlessRefused headerAccepted headerOf pathOf pathRead fields onFirst firstOf othersOf textHops hopThen before readHop isQ hopOf readText readUnstarred parted callAccepted indexOf utf8 characters after within isZero made joined padTo carriedBack carried anyHeard
 p11-read = refl
 
-p11-written : headerText (headerOf (lone capitalS) (lone letterT) (pathOf heard-to-B)) ≡ line
+p11-written : headerText (headerOf (lone capitalS) (lone capitalT) (pathOf heard-to-B)) ≡ line
 unfolding headerText routeText headerOf pathOf hopsOf hopsText anyHeard textOf callPart ssidPart withStar made joined padTo
 p11-written = refl
 
 pub bench-values : BenchValues
-unfolding course lessIf motionNumber motionOut longitudeOut destinationNumber latitudeNumber accepted
+unfolding course lessIf motionNumber motionOut longitudeOut destinationNumber latitudeNumber headerAccepted
 bench-values =
     record {
       p1 = cases .p1;

@@ -38,10 +38,19 @@ fn address(s: &[u8], out: &mut [u8]) -> usize {
     show::called(r.refusal, c, [r.heard as usize, r.last as usize], out)
 }
 
+// The field of an address: of the destination, of a source, last or not, and of a heard last hop.
+fn field(k: usize) -> Field {
+    match k {
+        2 => Field::Destination,
+        5 => Field::Hop(true),
+        _ => Field::Source,
+    }
+}
+
 // The address of the callsign that s reads as, in hexadecimal.
-fn packed(s: &[u8], field: Field, last: bool, out: &mut [u8]) -> usize {
+fn packed(k: usize, s: &[u8], out: &mut [u8]) -> usize {
     let c = callsign::read_text(s).call;
-    let w = callsign::write_address(c, field, last);
+    let w = callsign::write_address(c, field(k), 3 < k);
     if w.refusal != 0 {
         return put::refusal(w.refusal, out);
     }
@@ -172,11 +181,19 @@ fn comment(place: Comment, s: &[u8]) -> &[u8] {
     words::cut(words::tail(s, place.at), place.len)
 }
 
+// A record written as a frame, or as a line.
+fn write(frame: bool, r: Record, comment: &[u8], out: &mut [u8]) -> laws::Answer {
+    if frame {
+        return packet::write_frame(r, comment, out);
+    }
+    packet::write_text(r, comment, out)
+}
+
 // The record of a line or of a frame as a line.
 fn as_text(frame: bool, s: &[u8], out: &mut [u8]) -> usize {
     let r = packet_of(frame, s).record;
     let place = r.comment;
-    let w = packet::write_text(r, comment(place, s), out);
+    let w = write(false, r, comment(place, s), out);
     written(w, out)
 }
 
@@ -185,7 +202,7 @@ fn as_frame(s: &[u8], out: &mut [u8]) -> usize {
     let r = packet::read_text(s).record;
     let place = r.comment;
     let mut bytes = [0u8; 512];
-    let w = packet::write_frame(r, comment(place, s), &mut bytes);
+    let w = write(true, r, comment(place, s), &mut bytes);
     if w.refusal != 0 {
         return put::refusal(w.refusal, out);
     }
@@ -201,29 +218,18 @@ fn row(s: &[u8], out: &mut [u8]) -> usize {
 // ---- recorded answers
 
 // The record written again: `=` where it gives the bytes that were read, and of a refusal only the fact.
-fn again(w: laws::Answer, bytes: &[u8], s: &[u8], out: &mut [u8], at: usize) -> usize {
+fn again(frame: bool, r: Record, s: &[u8], out: &mut [u8], at: usize) -> usize {
+    let place = r.comment;
+    let mut bytes = [0u8; 512];
+    let w = write(frame, r, comment(place, s), &mut bytes);
     if w.refusal != 0 {
         return put::plain(b"refused", out, at);
     }
-    let got = words::cut(bytes, w.reported);
+    let got = words::cut(&bytes, w.reported);
     if check::same(got, s) {
         return put::plain(b"=", out, at);
     }
     put::plain(got, out, at)
-}
-
-fn again_text(r: Record, s: &[u8], out: &mut [u8], at: usize) -> usize {
-    let place = r.comment;
-    let mut bytes = [0u8; 512];
-    let w = packet::write_text(r, comment(place, s), &mut bytes);
-    again(w, &bytes, s, out, at)
-}
-
-fn again_frame(r: Record, s: &[u8], out: &mut [u8], at: usize) -> usize {
-    let place = r.comment;
-    let mut bytes = [0u8; 512];
-    let w = packet::write_frame(r, comment(place, s), &mut bytes);
-    again(w, &bytes, s, out, at)
 }
 
 // The record and how it is written both ways; of a refusal only the fact.
@@ -234,8 +240,8 @@ fn replayed(frame: bool, s: &[u8], out: &mut [u8]) -> usize {
     }
     let record = r.record;
     let mut end = show::record(record, out);
-    end = again_text(record, s, out, end);
-    again_frame(record, s, out, end)
+    end = again(false, record, s, out, end);
+    again(true, record, s, out, end)
 }
 
 // ---- which function
@@ -244,11 +250,8 @@ fn of_callsigns(k: usize, s: &[u8], out: &mut [u8]) -> usize {
     match k {
         0 => callsign(s, out),
         1 => address(s, out),
-        2 => packed(s, Field::Destination, false, out),
-        3 => packed(s, Field::Source, false, out),
-        4 => packed(s, Field::Source, true, out),
-        5 => packed(s, Field::Hop(true), true, out),
-        _ => spelled(s, out),
+        6 => spelled(s, out),
+        _ => packed(k, s, out),
     }
 }
 
@@ -288,23 +291,19 @@ fn asked(k: usize, s: &[u8], out: &mut [u8]) -> usize {
     of_packets(k, s, out)
 }
 
-// The place of a word in a list of words, 255 where it is not there.
+// The place of a word in a list of words; one past them, or more, where it is not there.
 fn place(word: &[u8], list: &[u8]) -> usize {
-    let mut from: usize = 0;
+    let mut t = list;
     let mut k: usize = 0;
-    while from < list.len() {
-        let t = &list[from..];
-        let n = laws::find(t, b' ');
-        if check::same(words::cut(t, n), word) {
+    while k < 255 {
+        if check::same(words::first(t), word) {
             return k;
         }
-        if list.len() - from <= n {
-            return 255;
-        }
-        from += n + 1;
+        let next = words::rest(t);
+        t = next;
         k += 1;
     }
-    255
+    k
 }
 
 // The answer to a question. Its words:

@@ -74,19 +74,12 @@ fn meant(s: &[u8]) -> u8 {
 // Puts the bytes that s stands for to the front of out: `%` and two hexadecimal digits for one of any value, another
 // character for itself. Answers how many they are.
 pub fn bytes(s: &[u8], out: &mut [u8]) -> usize {
+    let mut t = s;
     let mut n: usize = 0;
-    let mut i: usize = 0;
-    while i < s.len() {
-        if out.len() <= n {
-            return n;
-        }
-        let w = width(s[i]);
-        if s.len() - i < w {
-            return n;
-        }
-        out[n] = meant(&s[i..]);
-        n += 1;
-        i += w;
+    while 0 < t.len() {
+        n = words::put_byte(meant(t), out, n);
+        let next = words::tail(t, width(t[0]));
+        t = next;
     }
     n
 }

@@ -9,6 +9,7 @@ use mic_e::Message;
 use packet::Kind;
 use packet::Record;
 use packet::Report;
+use position::Place;
 
 // ---- callsigns
 
@@ -19,13 +20,16 @@ fn call(c: Callsign, out: &mut [u8], at: usize) -> usize {
     put::bytes(words::cut(&text, n), out, at)
 }
 
+fn call_or_refusal(refusal: u8, c: Callsign, out: &mut [u8]) -> usize {
+    if refusal != 0 {
+        return put::refusal(refusal, out);
+    }
+    call(c, out, 0)
+}
+
 // The answer of a reader of callsigns: `CALL-SSID FLAG FLAG`, or the refusal with the flags.
 pub fn called(refusal: u8, c: Callsign, flags: [usize; 2], out: &mut [u8]) -> usize {
-    if refusal != 0 {
-        let end = put::refusal(refusal, out);
-        return put::counts(&flags, out, end);
-    }
-    let end = call(c, out, 0);
+    let end = call_or_refusal(refusal, c, out);
     put::counts(&flags, out, end)
 }
 
@@ -117,12 +121,10 @@ fn header(r: Record, out: &mut [u8]) -> usize {
 }
 
 // `LATITUDE LONGITUDE SYMBOL MESSAGE`; a symbol is the table byte and the code byte.
-fn named(r: Record, out: &mut [u8], at: usize) -> usize {
-    let report = r.mic_e;
-    let m = report.message;
-    let mut end = put::number(r.place.latitude.0, out, at);
-    end = put::number(r.place.longitude.0, out, end);
-    end = put::plain(&[r.place.table, r.place.code], out, end);
+fn named(p: Place, m: Message, out: &mut [u8], at: usize) -> usize {
+    let mut end = put::number(p.latitude.0, out, at);
+    end = put::number(p.longitude.0, out, end);
+    end = put::plain(&[p.table, p.code], out, end);
     message(m, out, end)
 }
 
@@ -136,10 +138,12 @@ fn numbered(blanks: u8, messaging: bool, m: Report, out: &mut [u8], at: usize) -
 
 // `KIND FROM TO HOPS LATITUDE LONGITUDE SYMBOL MESSAGE BLANKS MESSAGING CURRENT SPEED COURSE COMMENT-AT COMMENT-LEN`
 pub fn record(r: Record, out: &mut [u8]) -> usize {
+    let p = r.place;
     let m = r.mic_e;
     let c = r.comment;
+    let word = m.message;
     let mut end = header(r, out);
-    end = named(r, out, end);
-    end = numbered(r.place.blanks, r.messaging, m, out, end);
+    end = named(p, word, out, end);
+    end = numbered(p.blanks, r.messaging, m, out, end);
     put::counts(&[c.at, c.len], out, end)
 }

@@ -15,6 +15,7 @@ use Rattle.boundary.specs.Numbers.{kindNumber, kindAt, messageAt, mostKi
 
 -- ---- what a reader gives
 
+-- the parts of a record side by side
 unfoldable pub flatOf : Record → Flat
 flatOf r =
     record {
@@ -36,11 +37,13 @@ flatOf r =
       path = r .path;
     }
 
+-- the refusal, and the record
 unfoldable pub readOf : PacketRead → FlatRead
 readOf p = record { refusal = p .refusal; flat = flatOf (p .«record») }
 
 -- ---- what a writer is given
 
+-- the record of those parts
 unfoldable pub standsFor : Flat → Record
 standsFor f =
     record {
@@ -73,8 +76,10 @@ isKnown f = leb (f .kind) mostKind && leb (f .message) mostMessage
 unfoldable pub refusedOr : Flat → ℕ → ℕ
 refusedOr f n = cond (isKnown f) n 15
 
+-- of a line
 unfoldable pub flatTextRefusal : Flat → List ℕ → ℕ
 flatTextRefusal f comment = refusedOr f (textRefusal (standsFor f) comment)
 
+-- of a frame
 unfoldable pub flatFrameRefusal : Flat → List ℕ → ℕ
 flatFrameRefusal f comment = refusedOr f (frameRefusal (standsFor f) comment)

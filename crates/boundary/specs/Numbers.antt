@@ -10,27 +10,32 @@ use Rattle.mic_e.specs.declared.Message.the-variants.{M0, M1, M2, M3, M4, M5, M
 use Rattle.packet.specs.declared.Kind.{Kind}
 use Rattle.packet.specs.declared.Kind.the-variants as kind
 
+-- the number of a kind
 unfoldable pub kindNumber : Kind → ℕ
 kindNumber kind.Unknown = 0
 kindNumber kind.Position = 1
 kindNumber kind.MicE = 2
 
--- in the order of their numbers
+-- the kinds in the order of their numbers
 abbrev pub kinds : List Kind
 kinds = kind.Unknown ∷ kind.Position ∷ kind.MicE ∷ []
 
+-- the messages in the order of theirs
 abbrev pub messages : List Message
 messages = M0 ∷ M1 ∷ M2 ∷ M3 ∷ M4 ∷ M5 ∷ M6 ∷ C0 ∷ C1 ∷ C2 ∷ C3 ∷ C4 ∷ C5 ∷ C6 ∷ Emergency ∷ Unknown ∷ []
 
--- the numbers in use; a writer refuses any other with 15
+-- the highest number of a kind; a writer refuses one above with 15
 abbrev pub mostKind : ℕ
 mostKind = 2
 
+-- and of a message
 abbrev pub mostMessage : ℕ
 mostMessage = 15
 
+-- the kind of a number; above the last, Unknown
 unfoldable pub kindAt : ℕ → Kind
 kindAt n = getD kinds n kind.Unknown
 
+-- the message of a number; above the last, Unknown
 unfoldable pub messageAt : ℕ → Message
 messageAt n = getD messages n Unknown

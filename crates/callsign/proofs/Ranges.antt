@@ -99,7 +99,8 @@ module _ (c : Callsign) (k : c .«ssid_len» ≡ 0 → ⊥) where
           let s : List ℕ = take K (drop (N + 1) t) in
           let front : take (N + 1) t ≡ take N t ++ (dash ∷ []) =
           ap (λ (m : ℕ). take m t) (add-one N) ∙ take-suc t N 0 (omega arith) ∙ ap (λ (v : ℕ). take N t ++ (v ∷ [])) d in
-          take-add (N + 1) K t ∙ ap (λ (l : List ℕ). l ++ s) front ∙ append-snoc (take N t) dash s
+          let whole : take (N + 1 + K) t ≡ take (N + 1) t ++ s = take-add (N + 1) K t in
+          whole ∙ ap (λ (l : List ℕ). l ++ s) front ∙ append-snoc (take N t) dash s
 
       full-utf8 : utf8 (take (c .«call_len» + 1 + c .«ssid_len») (c .text)) ≡ (utf8 (callPart c) && utf8 (ssidPart c))
       full-utf8 = ap utf8 full-split ∙ utf8-split dash (omega arith) (callPart c) (ssidPart c)

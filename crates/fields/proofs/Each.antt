@@ -27,7 +27,7 @@ module _ {A : Type 0} where
   each-none (suc n) f h = rw (each-none n f (λ k l. h k (omega arith)), h n (omega arith))
 
   -- nothing but at one place: what stands there
-  pub each-one : (n m : ℕ) (f : ℕ → List A) → m < n → ((k : ℕ) → k < n → k ≢ m → f k ≡ []) → each n f ≡ f m
+  each-one : (n m : ℕ) (f : ℕ → List A) → m < n → ((k : ℕ) → k < n → k ≢ m → f k ≡ []) → each n f ≡ f m
   unfolding each
   each-one zero m f l h = absurd (not-suc-le-zero l)
   each-one (suc n) m f l h =

@@ -1,15 +1,16 @@
 -- What it takes for a field to be on a list, in plain arithmetic, both ways; and the third bytes that go with two others.
 -- Assumes nothing.
 use mathlib.Core.Path.{_≡_, refl, sym, ap, subst, _∙_}
+use mathlib.Core.Logic.{⊎-elim}
 use mathlib.Core.Bool.{Bool, true, false, cond, false≢true}
-use Prim.Native.Nat.{ℕ, _+_, _-_, _≤_, _<_}
+use Prim.Native.Nat.{ℕ, _+_, _-_, _*_, _%_, _≤_, _<_}
 use native.Mathlib.Omega.{arith}
-use lib.Dec.{ltb, eqb}
+use lib.Dec.{ltb, leb, eqb}
 use lib.IntN.{ℤ, pos, negsuc, natAbs}
-use borrow.Author.Tests.{eqb-true, eq-eqb, ltb-true, ltb-false}
-use Rattle.laws.proofs.Tests.{and-both}
+use borrow.Author.Tests.{eqb-true, eq-eqb, ltb-true, ltb-false, leb-true, leb-false}
+use Rattle.laws.proofs.Tests.{bool-cases, and-both}
 use Rattle.lonlat.specs.Angle.{signedOf}
-use Rattle.mic_e.specs.Motion.{readMotion}
+use Rattle.mic_e.specs.Motion.{degrees, readMotion}
 use Rattle.mic_e.specs.Longitude.{offsetOf, sizeOf, readLongitude}
 use Rattle.mic_e.specs.declared.Motion.{Motion}
 use Rattle.mic_e.specs.declared.Motion.the-variants.{Read as Motion-read, Refused as Motion-refused}
@@ -17,7 +18,7 @@ use Rattle.mic_e.specs.declared.LongitudeField.{LongitudeField}
 use Rattle.mic_e.specs.declared.LongitudeField.the-variants.{Read as Longitude-read, Refused as Longitude-refused}
 use Rattle.mic_e.proofs.MotionFacts.{Moves, reads-moves}
 use Rattle.mic_e.proofs.LongitudeFacts.{Lies, reads-lies, lies-reads}
-use Rattle.mic_e.proofs.Turn.{lessIf-le}
+use Rattle.mic_e.proofs.Turn.{lessIf-le, lessIf-split}
 use Rattle.fields.specs.Each.{cell}
 use Rattle.fields.specs.Lists.{isMotion, sameAngle, isLongitude}
 use Rattle.fields.specs.Search.{hits, fieldsOf, thirdAt, baseIn, baseOf}
@@ -48,16 +49,37 @@ module _ (s t a b c : ℕ) where
   pub motion-hit : hits (Moving s t) a b c ≡ true → Moves s t a b c
   motion-hit e = reads-moves a b c _ _ (motion-reads e)
 
+-- the third byte is what the second leaves to the course, or to the course and 400
+unfoldable pub courseLeft : ℕ → ℕ → ℕ
+courseLeft t b = cond (leb (100 * ((b - 28) % 10)) t) (t - 100 * ((b - 28) % 10)) (t + 400 - 100 * ((b - 28) % 10))
+
+module _ (s t a b c : ℕ) (byte : c < 256) (h : Moves s t a b c) where
+  pub course-plain : 100 * ((b - 28) % 10) ≤ t → c ≡ t - 100 * ((b - 28) % 10) + 28
+  unfolding degrees
+  course-plain k = ⊎-elim (λ u. omega arith) (λ u. omega arith) (lessIf-split 400 (100 * ((b - 28) % 10) + (c - 28)))
+
+  pub course-round : t < 100 * ((b - 28) % 10) → c ≡ t + 400 - 100 * ((b - 28) % 10) + 28
+  unfolding degrees
+  course-round k = ⊎-elim (λ u. omega arith) (λ u. omega arith) (lessIf-split 400 (100 * ((b - 28) % 10) + (c - 28)))
+
+  pub course-left : c ≡ courseLeft t b + 28
+  unfolding courseLeft
+  course-left =
+      ⊎-elim
+      (λ e. rw e (course-plain (leb-true _ _ e)))
+      (λ e. rw e (course-round (leb-false _ _ e)))
+      (bool-cases (leb (100 * ((b - 28) % 10)) t))
+
 -- ---- longitude
 
-pub same-angle : (y z : ℤ) → sameAngle y z ≡ true → y ≡ z
+same-angle : (y z : ℤ) → sameAngle y z ≡ true → y ≡ z
 unfolding sameAngle
 same-angle (pos a) (pos b) e = ap pos (eqb-true a b e)
 same-angle (pos a) (negsuc b) e = absurd (false≢true e)
 same-angle (negsuc a) (pos b) e = absurd (false≢true e)
 same-angle (negsuc a) (negsuc b) e = ap negsuc (eqb-true a b e)
 
-pub angle-same : (z : ℤ) → sameAngle z z ≡ true
+angle-same : (z : ℤ) → sameAngle z z ≡ true
 unfolding sameAngle
 angle-same (pos a) = eq-eqb a a refl
 angle-same (negsuc a) = eq-eqb a a refl
@@ -81,6 +103,11 @@ module _ (m : ℕ) (hundred : Bool) (a b c : ℕ) where
   pub hit-longitude : Lies m (offsetOf hundred) a b c → hits (Lying m hundred) a b c ≡ true
   unfolding hits signedOf
   hit-longitude h = longitude-is (pos m) (readLongitude hundred false a b c) (lies-reads hundred false a b c m h)
+
+-- the third byte is what the first two leave to the size
+pub size-left : (m offset a b c : ℕ) → Lies m offset a b c → c ≡ m - sizeOf offset a b 28 + 28
+unfolding sizeOf
+size-left m offset a b c h = omega arith
 
 -- ---- the size under two bytes
 

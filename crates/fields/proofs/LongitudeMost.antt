@@ -22,7 +22,7 @@ use Rattle.fields.specs.Each.{each, row, allFields, cell}
 use Rattle.fields.specs.Search.{hits}
 use Rattle.fields.specs.declared.Target.the-variants.{Lying, Moving}
 use Rattle.fields.proofs.Each.{row-none}
-use Rattle.fields.proofs.Hits.{longitude-hit}
+use Rattle.fields.proofs.Hits.{longitude-hit, size-left}
 use Rattle.fields.proofs.Count.{few, member, near, near-mem, cell-few, row-few}
 use Rattle.fields.specs.declared.Target.{Target}
 use Rattle.fields.proofs.MotionMost.{motion-few}
@@ -120,10 +120,8 @@ wrapped-two x =
 
 module _ (m : ℕ) (hundred : Bool) where
   longitude-cell : (a b : ℕ) → length (cell (hits (Lying m hundred)) a b) ≤ 1
-  unfolding sizeOf
   longitude-cell a b =
-      cell-few (hits (Lying m hundred)) a b (m - (6000 * wrapped (a - 28 + offsetOf hundred) + 100 * lessIf 60 (b - 28)))
-      (λ c l q. let h = longitude-hit m hundred a b c q in omega arith)
+      cell-few (hits (Lying m hundred)) a b (m - sizeOf (offsetOf hundred) a b 28) (λ c l q. size-left m (offsetOf hundred) a b c (longitude-hit m hundred a b c q))
 
   both : ℕ → List ℕ
   both d = (28 + d - offsetOf hundred) ∷ (28 + other d - offsetOf hundred) ∷ []

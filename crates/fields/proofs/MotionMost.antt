@@ -17,20 +17,15 @@ use Rattle.fields.specs.Each.{cell, row, allFields}
 use Rattle.fields.specs.Search.{hits}
 use Rattle.fields.specs.declared.Target.the-variants.{Moving}
 use Rattle.fields.proofs.Count.{near, near-mem, cell-few, row-few, fields-few}
-use Rattle.fields.proofs.Hits.{motion-hit}
+use Rattle.fields.proofs.Hits.{motion-hit, courseLeft, course-left}
 
 module _ (s t : ℕ) where
   hit : ℕ → ℕ → ℕ → Bool
   hit = hits (Moving s t)
 
   motion-cell : (a b : ℕ) → length (cell hit a b) ≤ 1
-  unfolding hit degrees
-  motion-cell a b =
-      let e : ℕ = 100 * ((b - 28) % 10) in
-      ⊎-elim
-      (λ p. let k : e ≤ t = leb-true e t p in cell-few (hits (Moving s t)) a b (t - e) (λ c l q. let h = motion-hit s t a b c q in ⊎-elim (λ u. omega arith) (λ u. omega arith) (lessIf-split 400 (e + (c - 28)))))
-      (λ p. let k : t < e = leb-false e t p in cell-few (hits (Moving s t)) a b (t + 400 - e) (λ c l q. let h = motion-hit s t a b c q in ⊎-elim (λ u. omega arith) (λ u. omega arith) (lessIf-split 400 (e + (c - 28)))))
-      (bool-cases (leb e t))
+  unfolding hit
+  motion-cell a b = cell-few (hits (Moving s t)) a b (courseLeft t b) (λ c l q. course-left s t a b c l (motion-hit s t a b c q))
 
   turns : ℕ → List ℕ
   turns base = near base (t / 100) ++ near base ((t + 400) / 100)

@@ -26,18 +26,23 @@ one-side true (pos (suc k)) e = absurd (false≢true (rw (eqb·suc-zero k) at e)
 one-side true (negsuc k) e = refl
 one-side false (negsuc k) e = absurd (false≢true (rw (eqb·suc-zero k) at e))
 
--- a size that makes the angle makes it on the same side
-same-by : (west : Bool) (z : ℤ) (n : ℕ) → signedOf west n ≡ z → sameSide (isMinus z) west (natAbs z) ≡ true
-unfolding sameSide signedOf isMinus
-same-by false z n e = rw (← e) (go (eqb n 0))
+-- east of 0, or on it, is the east side
+pub east-side : (n : ℕ) → sameSide false false n ≡ true
+unfolding sameSide
+east-side n = go (eqb n 0)
   where
     go : (t : Bool) → cond t true true ≡ true
     go true = refl
     go false = refl
+
+-- a size that makes the angle makes it on the same side
+same-by : (west : Bool) (z : ℤ) (n : ℕ) → signedOf west n ≡ z → sameSide (isMinus z) west (natAbs z) ≡ true
+unfolding sameSide signedOf isMinus
+same-by false z n e = rw (← e) (east-side n)
 same-by true z zero e = rw (← e)
 same-by true z (suc n) e = rw (← e, eqb·suc-zero n)
 
-pub both-ways : (a b : Bool) → (a ≡ true → b ≡ true) → (b ≡ true → a ≡ true) → a ≡ b
+both-ways : (a b : Bool) → (a ≡ true → b ≡ true) → (b ≡ true → a ≡ true) → a ≡ b
 both-ways true b h k = sym (h refl)
 both-ways false true h k = k refl
 both-ways false false h k = refl

@@ -13,11 +13,11 @@ use Rattle.fields.specs.Each.{each, flat}
 use Rattle.fields.proofs.Each.{each-mono}
 
 -- a run of stores after a run of stores is one run
-pub sets-append : {A : Type 0} (l : List A) (i : ℕ) (xs ys : List A) → sets (sets l i xs) (i + length xs) ys ≡ sets l i (xs ++ ys)
+sets-append : {A : Type 0} (l : List A) (i : ℕ) (xs ys : List A) → sets (sets l i xs) (i + length xs) ys ≡ sets l i (xs ++ ys)
 sets-append l i [] ys = rw add-zero
 sets-append l i (x ∷ xs) ys = rw (add-suc, ← suc-add) (sets-append (set l i x) (suc i) xs ys)
 
-pub flat-append : (xs ys : List Field) → flat (xs ++ ys) ≡ flat xs ++ flat ys
+flat-append : (xs ys : List Field) → flat (xs ++ ys) ≡ flat xs ++ flat ys
 unfolding flat
 flat-append [] ys = refl
 flat-append (x ∷ xs) ys = ap (λ (l : List ℕ). x .first ∷ x .second ∷ x .third ∷ l) (flat-append xs ys)

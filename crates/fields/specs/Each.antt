@@ -10,6 +10,7 @@ unfoldable pub each : {A : Type 0} → ℕ → (ℕ → List A) → List A
 each zero f = []
 each (suc n) f = each n f ++ f n
 
+-- a field by its three bytes
 abbrev pub field : ℕ → ℕ → ℕ → Field
 field a b c = record { first = a; second = b; third = c }
 

@@ -29,6 +29,7 @@ unfoldable pub isMotion : ℕ → ℕ → Motion → Bool
 isMotion speed course (Moves s c) = eqb (s .0) speed && eqb (c .0) course
 isMotion speed course Still = false
 
+-- all the fields that read as that speed and course
 unfoldable pub motionFields : ℕ → ℕ → List Field
 motionFields speed course = allFields (λ a b c. isMotion speed course (readMotion a b c))
 
@@ -38,6 +39,7 @@ motionRefusal speed course = cond (motionOut speed course) 15 0
 
 -- ---- longitude
 
+-- two angles are one
 unfoldable pub sameAngle : ℤ → ℤ → Bool
 sameAngle (pos a) (pos b) = eqb a b
 sameAngle (pos a) (negsuc b) = false

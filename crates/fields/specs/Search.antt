@@ -36,6 +36,7 @@ fieldsOf a b Nowhere = []
 unfoldable pub thirdAt : (ℕ → ℕ → ℕ → Bool) → ℕ → ℕ → ℕ → Third
 thirdAt test a b z = cond (ltb 227 z) Nowhere (cond (test a b (z + 28)) (At (z + 28)) Nowhere)
 
+-- the size of a longitude that was read
 unfoldable pub baseIn : LongitudeField → Base
 baseIn (Lies l) = Size (natAbs (l .0))
 baseIn Lost = Nothing
@@ -44,6 +45,7 @@ baseIn Lost = Nothing
 unfoldable pub baseOf : Bool → ℕ → ℕ → Base
 baseOf hundred a b = baseIn (readLongitude hundred false a b 28)
 
+-- a span by its ends
 abbrev pub spanFrom : ℕ → ℕ → Span
 spanFrom from to = record { from = from; to = to }
 

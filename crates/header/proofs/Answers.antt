@@ -3,7 +3,7 @@
 -- Assumes nothing.
 use mathlib.Core.Path.{_≡_, refl}
 use mathlib.Core.Logic.{inl}
-use mathlib.Core.Bool.{Bool, true, false, cond}
+use mathlib.Core.Bool.{Bool, true, false, cond, false≢true}
 use mathlib.Core.List.{List, [], _∷_}
 use Prim.Native.Nat.{ℕ, suc, _+_, _-_, _*_, _≤_}
 use native.Mathlib.Omega.{arith}
@@ -23,16 +23,16 @@ use Rattle.callsign.proofs.Made.{blank-range}
 use Rattle.callsign.proofs.Theorems.{text-is-in-range, address-is-in-range}
 use Rattle.header.specs.declared.Hop.{Hop}
 use Rattle.header.specs.declared.HeaderRead.{HeaderRead}
-use Rattle.header.specs.Header.{Hops, blankHop, pathOf, hopsOf, headerOf, blankHeader, pathRead, refusedBy, accepted, unlessRefused}
+use Rattle.header.specs.Header.{Hops, blankHop, pathOf, hopsOf, headerOf, blankHeader, pathRead, headerRefused, headerAccepted, unlessRefused}
 use Rattle.header.specs.Text.{fields, firstOf, othersOf, withPath, readRoute, readBefore, readTextHeader}
 use Rattle.header.specs.Frame.{startsWithPair, withPair, readSource, readFrameHeader}
 use Rattle.header.specs.Range.{hopInRange, isBlank, pathInRange, headerInRange}
 use Rattle.header.proofs.Walks.{InText, InFrame, Sound, none, some, either-sound, call-in-text, text-sound, carried-sound, address-in-frame, frame-sound}
 
 pub data Answered (ok : ℕ → Type 0) (s : List ℕ) : HeaderRead → Type 0 where
-  no : (n : ℕ) → ok n → Answered ok s (refusedBy n)
+  no : (n : ℕ) → ok n → Answered ok s (headerRefused n)
   yes : (from to : Callsign) (l : List Hop) (body : ℕ) → inRange from ≡ true → inRange to ≡ true → length l ≤ 8 → every hopInRange l ≡ true → body ≤ length s
-      → Answered ok s (accepted from to (pathOf l) body)
+      → Answered ok s (headerAccepted from to (pathOf l) body)
 
 module _ (ok : ℕ → Type 0) (s : List ℕ) where
   either : (b : Bool) {x y : HeaderRead} → (b ≡ true → Answered ok s x) → (b ≡ false → Answered ok s y) → Answered ok s (cond b x y)
@@ -88,8 +88,8 @@ unfolding startsWithPair
 pair-within s at e = go (drop at s) (length-drop at s) e
   where
     go : (l : List ℕ) → length l ≡ length s - at → startsWithPair l ≡ true → at + 2 ≤ length s
-    go [] q f = absurd (mathlib.Core.Bool.false≢true f)
-    go (a ∷ []) q f = absurd (mathlib.Core.Bool.false≢true f)
+    go [] q f = absurd (false≢true f)
+    go (a ∷ []) q f = absurd (false≢true f)
     go (a ∷ b ∷ l) q f = omega arith
 
 module _ (s : List ℕ) where
@@ -134,23 +134,27 @@ header-range : (from to : Callsign) (l : List Hop) → inRange from ≡ true →
 unfolding headerInRange headerOf
 header-range from to l a b m q = rw (a, b) (path-range l m q)
 
+pub blank-header-range : headerInRange blankHeader ≡ true
+unfolding blankHeader every
+blank-header-range = header-range blankCall blankCall [] blank-range blank-range (omega arith) refl
+
 module _ (ok : ℕ → Type 0) (s : List ℕ) where
   pub answered-range : {r : HeaderRead} → Answered ok s r → headerInRange (r .header) ≡ true
-  unfolding refusedBy blankHeader accepted every
-  answered-range (no n p) = header-range blankCall blankCall [] blank-range blank-range (omega arith) refl
+  unfolding headerRefused headerAccepted
+  answered-range (no n p) = blank-header-range
   answered-range (yes from to l body a b m q k) = header-range from to l a b m q
 
   pub answered-body : {r : HeaderRead} → Answered ok s r → r .body ≤ length s
-  unfolding refusedBy accepted
+  unfolding headerRefused headerAccepted
   answered-body (no n p) = omega arith
   answered-body (yes from to l body a b m q k) = k
 
   pub answered-number : {r : HeaderRead} → Answered ok s r → (r .refusal ≡ 0 → ⊥) → ok (r .refusal)
-  unfolding refusedBy accepted
+  unfolding headerRefused headerAccepted
   answered-number (no n p) z = p
   answered-number (yes from to l body a b m q k) z = absurd (z refl)
 
-  pub answered-blank : {r : HeaderRead} → Answered ok s r → (r .refusal ≡ 0 → ⊥) → r ≡ refusedBy (r .refusal)
-  unfolding refusedBy accepted
+  pub answered-blank : {r : HeaderRead} → Answered ok s r → (r .refusal ≡ 0 → ⊥) → r ≡ headerRefused (r .refusal)
+  unfolding headerRefused headerAccepted
   answered-blank (no n p) z = refl
   answered-blank (yes from to l body a b m q k) z = absurd (z refl)

@@ -1,7 +1,7 @@
 -- How long a written header is at most: 178 bytes of text, 72 of a frame; and what the writers' last step gives.
 -- Assumes nothing.
 use mathlib.Core.Path.{_≡_, sym, ap, _∙_}
-use mathlib.Core.Bool.{Bool, true, false, not, _&&_}
+use mathlib.Core.Bool.{Bool, true, false, not, cond, _&&_}
 use mathlib.Core.List.{List, [], _∷_, _++_}
 use Prim.Native.Nat.{ℕ, _+_, _*_, _≤_}
 use native.Mathlib.Omega.{arith}
@@ -9,7 +9,7 @@ use borrow.Author.Tests.{not-true, not-false}
 use lib.ListN.{length, take, length-append, length-take}
 use Rattle.laws.specs.Bytes.{colon}
 use Rattle.laws.specs.declared.Answer.{Answer}
-use Rattle.laws.specs.Wrote.{ends, refusedBy, overBy, wrote}
+use Rattle.laws.specs.Wrote.{Wrote, ends, refusedBy, overBy, wrote}
 use Rattle.laws.specs.Lists.{every}
 use Rattle.laws.proofs.Lists.{part-length}
 use Rattle.laws.proofs.Each.{every-first, every-rest}
@@ -20,7 +20,8 @@ use Rattle.header.specs.declared.Hop.{Hop}
 use Rattle.header.specs.declared.Header.{Header}
 use Rattle.header.specs.Header.{hopsOf}
 use Rattle.header.specs.Text.{anyHeard, hopsText, routeText, headerText}
-use Rattle.header.specs.Range.{hopInRange, headerInRange, textRefusal}
+use Rattle.header.specs.Range.{hopInRange, headerInRange, textRefusal, frameRefusal}
+use Rattle.header.specs.Frame.{addresses, firstRefusal, headerFrame}
 use Rattle.header.specs.Written.{Filled, filled, added}
 use Rattle.header.proofs.Built.{added-length, added-len, added-front}
 use Rattle.header.proofs.InRange.{from-fine, to-fine, route-count, route-hops}
@@ -58,9 +59,18 @@ module _ (h : Header) (e : headerInRange h ≡ true) where
 pub range-held : (u : Bool) (h : Header) → u ≡ headerInRange h → not u ≡ false → headerInRange h ≡ true
 range-held u h e t = sym e ∙ not-false u t
 
-pub text-out : (u : Bool) (h : Header) (r : Answer) (out : List ℕ) → u ≡ headerInRange h → not u ≡ true → r ≡ refusedBy 15 → ends r out ≡ wrote (textRefusal h) (headerText h) out
-unfolding textRefusal
-text-out u h r out e t q = passed-on r 15 (textRefusal h) (headerText h) out q (λ z. omega arith) (rw (← e, not-true u t))
+-- 15 before what else is refused, of a line and of a frame
+module _ (u : Bool) (h : Header) (r : Answer) (out : List ℕ) (e : u ≡ headerInRange h) (t : not u ≡ true) (q : r ≡ refusedBy 15) where
+  range-out : (k : ℕ) (bytes : List ℕ) → ends r out ≡ wrote (cond (headerInRange h) k 15) bytes out
+  range-out k bytes = passed-on r 15 (cond (headerInRange h) k 15) bytes out q (λ z. omega arith) (rw (← e, not-true u t))
+
+  pub text-out : ends r out ≡ wrote (textRefusal h) (headerText h) out
+  unfolding textRefusal
+  text-out = range-out 0 (headerText h)
+
+  pub frame-out : ends r out ≡ wrote (frameRefusal h) (headerFrame h) out
+  unfolding frameRefusal
+  frame-out = range-out (firstRefusal (addresses h)) (headerFrame h)
 
 -- ---- what was put into the scratch array
 
@@ -80,6 +90,11 @@ module _ (v t l : List ℕ) (n m : ℕ) (q : filled t n ≡ added (filled v 0) l
   pub put-front : take n t ≡ l
   put-front = rw (ap (λ (f : Filled). f .len) q, ap (λ (f : Filled). f .bytes) q) (added-front v l)
 
+  -- the last step of a writer: what was put, and the bytes that end it
+  pub put-done : (limit : ℕ) (end out : List ℕ) (w : Wrote) → length (l ++ end) ≤ limit → w ≡ wrote (overBy limit (take n t ++ end)) (take n t ++ end) out
+      → w ≡ wrote 0 (l ++ end) out
+  put-done limit end out w s e = e ∙ rw (put-front, not-over limit (l ++ end) s)
+
 module _ (v t : List ℕ) (n : ℕ) (h : Header) (e : headerInRange h ≡ true) (q : filled t n ≡ added (filled v 0) (routeText h)) (room : 177 ≤ length v) where
   pub text-within : n ≤ length t
   text-within = put-within v t (routeText h) n 177 q (route-bound h e) room
@@ -90,7 +105,4 @@ module _ (v t : List ℕ) (n : ℕ) (h : Header) (e : headerInRange h ≡ true) 
   pub text-done : (r : Answer) (out out′ : List ℕ) → ends r out′ ≡ wrote (overBy 178 (take n t ++ colon ∷ [])) (take n t ++ colon ∷ []) out
       → ends r out′ ≡ wrote (textRefusal h) (headerText h) out
   unfolding textRefusal headerText
-  text-done r out out′ w =
-      let f : take n t ≡ routeText h = put-front v t (routeText h) n 177 q (route-bound h e) room in
-      let o : overBy 178 (routeText h ++ colon ∷ []) ≡ 0 = not-over 178 (routeText h ++ colon ∷ []) (text-bound h e) in
-      w ∙ rw (f, o, e)
+  text-done r out out′ w = put-done v t (routeText h) n 177 q (route-bound h e) room 178 (colon ∷ []) out (ends r out′) (text-bound h e) w ∙ rw e

@@ -21,8 +21,8 @@ use Rattle.callsign.proofs.AddressBack.{inAddress, address-seven}
 use Rattle.callsign.proofs.Theorems.{address-reads-back}
 use Rattle.header.specs.declared.Hop.{Hop}
 use Rattle.header.specs.declared.Header.{Header}
-use Rattle.header.specs.Header.{these, before, pathOf, hopsOf, pathRead, accepted, unlessRefused}
-use Rattle.header.specs.Frame.{pair, startsWithPair, addressHop, addressThen, frameHops, withPair, readSource, readFrameHeader, isNone, hopAddresses, addresses, firstRefusal, joined, headerFrame}
+use Rattle.header.specs.Header.{these, before, pathOf, hopsOf, pathRead, headerAccepted, unlessRefused}
+use Rattle.header.specs.Frame.{pair, startsWithPair, addressHop, addressThen, frameHops, withPair, readSource, readFrameHeader, isNone, hopAddresses, addresses, firstRefusal, addressBytes, headerFrame}
 use Rattle.header.specs.Range.{headerInRange, frameRefusal}
 use Rattle.header.proofs.InRange.{route-count}
 use Rattle.header.proofs.Frames.{destination-read}
@@ -44,8 +44,8 @@ hop-back h last k x z =
     rw (le-ltb (length (a .bytes ++ x)) 7 m, take-at (a .bytes) x 7 s, drop-at (a .bytes) x 7 s, address-reads-back (h .call) (HopField (h .heard)) last z)
 
 pub hops-back : (h : Hop) (l : List Hop) (k : ℕ) (x : List ℕ) → length (h ∷ l) ≤ k → firstRefusal (hopAddresses (h ∷ l)) ≡ 0
-    → frameHops k (joined (hopAddresses (h ∷ l)) ++ x) ≡ these (map inFrame (h ∷ l))
-unfolding joined hopAddresses before isNone
+    → frameHops k (addressBytes (hopAddresses (h ∷ l)) ++ x) ≡ these (map inFrame (h ∷ l))
+unfolding addressBytes hopAddresses before isNone
 hops-back h l zero x m z = absurd (omega arith)
 hops-back h [] (suc k) x m z =
     let a = writeAddress (h .call) (HopField (h .heard)) true in
@@ -53,18 +53,18 @@ hops-back h [] (suc k) x m z =
 hops-back h (h′ ∷ l) (suc k) x m z =
     let a = writeAddress (h .call) (HopField (h .heard)) false in
     let p = first-none a (hopAddresses (h′ ∷ l)) z in
-    rw (append-assoc (a .bytes) (joined (hopAddresses (h′ ∷ l))) x)
-    (hop-back h false k (joined (hopAddresses (h′ ∷ l)) ++ x) (p .0) ∙ ap (before (inFrame h)) (hops-back h′ l k x (le-of-suc-le-suc m) (p .1)))
+    rw (append-assoc (a .bytes) (addressBytes (hopAddresses (h′ ∷ l))) x)
+    (hop-back h false k (addressBytes (hopAddresses (h′ ∷ l)) ++ x) (p .0) ∙ ap (before (inFrame h)) (hops-back h′ l k x (le-of-suc-le-suc m) (p .1)))
 
 -- ---- the whole frame
 
 all-hops : (l : List Hop) (n : ℕ) (x : List ℕ) → length l ≡ n → n ≤ 8 → firstRefusal (hopAddresses l) ≡ 0
-    → cond (eqb n 0) (these []) (frameHops 8 (joined (hopAddresses l) ++ x)) ≡ these (map inFrame l)
+    → cond (eqb n 0) (these []) (frameHops 8 (addressBytes (hopAddresses l) ++ x)) ≡ these (map inFrame l)
 all-hops [] n x e m z = rw (eq-eqb n 0 (sym e))
 all-hops (h ∷ l) n x e m z = rw (ne-eqb n 0 (λ q. omega arith)) (hops-back h l 8 x (omega arith) z)
 
 pair-back : (from to : Callsign) (l : List Hop) (s x : List ℕ) → drop (14 + 7 * length l) s ≡ pair ++ x
-    → withPair from to (pathRead (these l)) s ≡ accepted from to (pathOf l) (16 + 7 * length l)
+    → withPair from to (pathRead (these l)) s ≡ headerAccepted from to (pathOf l) (16 + 7 * length l)
 unfolding withPair unlessRefused pathRead pathOf startsWithPair
 pair-back from to l s x e = let q : 14 + 7 * length l + 2 ≡ 16 + 7 * length l = omega arith in rw (e, q)
 
@@ -79,7 +79,7 @@ module _ (h : Header) (body : List ℕ) (full : length (h .path .hops) ≡ 8) (e
   hops = take (h .path .count) (h .path .hops)
 
   abbrev rest : List ℕ
-  rest = joined (hopAddresses hops) ++ (pair ++ body)
+  rest = addressBytes (hopAddresses hops) ++ (pair ++ body)
 
   parts : (a .refusal ≡ 0) × (firstRefusal (b ∷ hopAddresses hops) ≡ 0)
   unfolding addresses hopsOf
@@ -98,7 +98,7 @@ module _ (h : Header) (body : List ℕ) (full : length (h .path .hops) ≡ 8) (e
   counted = let m = route-count h e in length-take-le (h .path .count) (h .path .hops) (omega arith)
 
   spelled : headerFrame h ++ body ≡ a .bytes ++ (b .bytes ++ rest)
-  unfolding headerFrame joined addresses hopsOf
+  unfolding headerFrame addressBytes addresses hopsOf
   spelled = simp append-assoc
 
   from-there : drop 7 (headerFrame h ++ body) ≡ b .bytes ++ rest
@@ -110,12 +110,12 @@ module _ (h : Header) (body : List ℕ) (full : length (h .path .hops) ≡ 8) (e
   pair-there : drop (14 + 7 * length hops) (headerFrame h ++ body) ≡ pair ++ body
   pair-there =
       sym (drop-drop (7 * length hops) 14 (headerFrame h ++ body))
-      ∙ rw (hops-there, drop-at (joined (hopAddresses hops)) (pair ++ body) (7 * length hops) (hops-length hops (others .1)))
+      ∙ rw (hops-there, drop-at (addressBytes (hopAddresses hops)) (pair ++ body) (7 * length hops) (hops-length hops (others .1)))
 
   long : 14 ≤ length (headerFrame h ++ body)
   long = rw (spelled, length-append (a .bytes) (b .bytes ++ rest), length-append (b .bytes) rest, a-seven, b-seven) (omega arith)
 
-  source-back : readSource (inAddress (h .to)) (headerFrame h ++ body) ≡ accepted (inAddress (h .from)) (inAddress (h .to)) (pathOf (map inFrame hops)) (16 + 7 * length hops)
+  source-back : readSource (inAddress (h .to)) (headerFrame h ++ body) ≡ headerAccepted (inAddress (h .from)) (inAddress (h .to)) (pathOf (map inFrame hops)) (16 + 7 * length hops)
   unfolding readSource unlessRefused heardIn
   source-back =
       let m = route-count h e in
@@ -131,22 +131,22 @@ module _ (h : Header) (body : List ℕ) (full : length (h .path .hops) ≡ 8) (e
       )
       (pair-back (inAddress (h .from)) (inAddress (h .to)) (map inFrame hops) (headerFrame h ++ body) body p ∙ rw n)
 
-  back : length (headerFrame h ++ body) ≤ 512 → readFrameHeader (headerFrame h ++ body) ≡ accepted (inAddress (h .from)) (inAddress (h .to)) (pathOf (map inFrame hops)) (16 + 7 * length hops)
+  back : length (headerFrame h ++ body) ≤ 512 → readFrameHeader (headerFrame h ++ body) ≡ headerAccepted (inAddress (h .from)) (inAddress (h .to)) (pathOf (map inFrame hops)) (16 + 7 * length hops)
   unfolding heardIn
   back short =
       let k = long in
       let q : address-as (inAddress (h .to)) true false ≡ readAddress (take 7 (headerFrame h ++ body)) =
       rw (spelled, take-at (a .bytes) (b .bytes ++ rest) 7 a-seven) (sym (address-reads-back (h .to) Destination false (parts .0))) in
-      sym (destination-read (headerFrame h ++ body) (accepted (inAddress (h .from)) (inAddress (h .to)) (pathOf (map inFrame hops)) (16 + 7 * length hops)) short (omega arith)
+      sym (destination-read (headerFrame h ++ body) (headerAccepted (inAddress (h .from)) (inAddress (h .to)) (pathOf (map inFrame hops)) (16 + 7 * length hops)) short (omega arith)
       (address-as (inAddress (h .to)) true false) q refl refl (sym source-back))
 
   size : length (headerFrame h) ≡ 16 + 7 * length hops
-  unfolding headerFrame joined addresses hopsOf
+  unfolding headerFrame addressBytes addresses hopsOf
   size =
       rw (
-        length-append (a .bytes ++ (b .bytes ++ joined (hopAddresses hops))) pair,
-        length-append (a .bytes) (b .bytes ++ joined (hopAddresses hops)),
-        length-append (b .bytes) (joined (hopAddresses hops)),
+        length-append (a .bytes ++ (b .bytes ++ addressBytes (hopAddresses hops))) pair,
+        length-append (a .bytes) (b .bytes ++ addressBytes (hopAddresses hops)),
+        length-append (b .bytes) (addressBytes (hopAddresses hops)),
         a-seven,
         b-seven,
         hops-length hops (others .1),
@@ -154,11 +154,11 @@ module _ (h : Header) (body : List ℕ) (full : length (h .path .hops) ≡ 8) (e
 
 -- a header that can be written, and any body behind it
 pub frame-back : (h : Header) (body : List ℕ) → length (h .path .hops) ≡ 8 → frameRefusal h ≡ 0 → length (headerFrame h ++ body) ≤ 512
-    → readFrameHeader (headerFrame h ++ body) ≡ accepted (inAddress (h .from)) (inAddress (h .to)) (pathOf (map inFrame (hopsOf (h .path)))) (length (headerFrame h))
+    → readFrameHeader (headerFrame h ++ body) ≡ headerAccepted (inAddress (h .from)) (inAddress (h .to)) (pathOf (map inFrame (hopsOf (h .path)))) (length (headerFrame h))
 unfolding frameRefusal hopsOf
 frame-back h body full z short = go (headerInRange h) refl z
   where
     go : (k : Bool) → headerInRange h ≡ k → cond k (firstRefusal (addresses h)) 15 ≡ 0
-        → readFrameHeader (headerFrame h ++ body) ≡ accepted (inAddress (h .from)) (inAddress (h .to)) (pathOf (map inFrame (take (h .path .count) (h .path .hops)))) (length (headerFrame h))
+        → readFrameHeader (headerFrame h ++ body) ≡ headerAccepted (inAddress (h .from)) (inAddress (h .to)) (pathOf (map inFrame (take (h .path .count) (h .path .hops)))) (length (headerFrame h))
     go true e q = back h body full e q short ∙ rw (size h body full e q)
     go false e q = absurd (omega arith)

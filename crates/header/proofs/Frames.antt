@@ -14,7 +14,7 @@ use Rattle.callsign.specs.declared.AddressRead.{AddressRead}
 use Rattle.callsign.specs.Address.{readAddress}
 use Rattle.header.specs.declared.PathRead.{PathRead}
 use Rattle.header.specs.declared.HeaderRead.{HeaderRead}
-use Rattle.header.specs.Header.{Hops, refused, pathOf, pathRead, headerOf, refusedBy, accepted, unlessRefused}
+use Rattle.header.specs.Header.{Hops, refused, pathOf, pathRead, headerOf, headerRefused, headerAccepted, unlessRefused}
 use Rattle.header.specs.Frame.{control, protocol, startsWithPair, frameHops, withPair, readSource, readFrameHeader}
 use Rattle.header.proofs.Walks.{InFrame, Sound, none, some, frame-sound}
 
@@ -47,30 +47,30 @@ module _ (s : List ℕ) (at : ℕ) where
     pair-both p e = rw (two, eq-eqb (getD s at 0) control p, eq-eqb (getD s (at + 1) 0) protocol e)
 
 module _ (from to : Callsign) (p : PathRead) (s : List ℕ) (r : HeaderRead) where
-  pub path-refused : (p .refusal ≡ 0 → ⊥) → r ≡ refusedBy (p .refusal) → r ≡ withPair from to p s
+  pub path-refused : (p .refusal ≡ 0 → ⊥) → r ≡ headerRefused (p .refusal) → r ≡ withPair from to p s
   unfolding withPair unlessRefused
   path-refused z w = rw (ne-eqb (p .refusal) 0 z) w
 
   module _ (z : p .refusal ≡ 0) where
-    wrong : startsWithPair (drop (14 + 7 * p .path .count) s) ≡ false → r ≡ refusedBy 2 → r ≡ withPair from to p s
+    wrong : startsWithPair (drop (14 + 7 * p .path .count) s) ≡ false → r ≡ headerRefused 2 → r ≡ withPair from to p s
     unfolding withPair unlessRefused
     wrong e w = rw (eq-eqb (p .refusal) 0 z, e) w
 
-    pub no-pair : length s < 14 + 7 * p .path .count + 2 → r ≡ refusedBy 2 → r ≡ withPair from to p s
+    pub no-pair : length s < 14 + 7 * p .path .count + 2 → r ≡ headerRefused 2 → r ≡ withPair from to p s
     no-pair h w = wrong (pair-short s (14 + 7 * p .path .count) h) w
 
     module _ (h : 14 + 7 * p .path .count + 2 ≤ length s) where
-      pub no-control : (getD s (14 + 7 * p .path .count) 0 ≡ control → ⊥) → r ≡ refusedBy 2 → r ≡ withPair from to p s
+      pub no-control : (getD s (14 + 7 * p .path .count) 0 ≡ control → ⊥) → r ≡ headerRefused 2 → r ≡ withPair from to p s
       no-control e w = wrong (pair-first s (14 + 7 * p .path .count) h e) w
 
       module _ (c : getD s (14 + 7 * p .path .count) 0 ≡ control) where
-        pub no-protocol : (getD s (14 + 7 * p .path .count + 1) 0 ≡ protocol → ⊥) → r ≡ refusedBy 2 → r ≡ withPair from to p s
+        pub no-protocol : (getD s (14 + 7 * p .path .count + 1) 0 ≡ protocol → ⊥) → r ≡ headerRefused 2 → r ≡ withPair from to p s
         no-protocol e w = wrong (pair-second s (14 + 7 * p .path .count) h c e) w
 
 pub pair-there : (from to : Callsign) (p : PathRead) (s : List ℕ) → p .refusal ≡ 0 → 14 + 7 * p .path .count + 2 ≤ length s
     → getD s (14 + 7 * p .path .count) 0 ≡ control → getD s (14 + 7 * p .path .count + 1) 0 ≡ protocol
     → record { refusal = 0; header = record { from = from; to = to; path = p .path }; body = 14 + 7 * p .path .count + 2 } ≡ withPair from to p s
-unfolding withPair unlessRefused accepted headerOf
+unfolding withPair unlessRefused headerAccepted headerOf
 pair-there from to p s z h c e = rw (eq-eqb (p .refusal) 0 z, pair-both s (14 + 7 * p .path .count) h c e)
 
 -- ---- how many hops a walk can give
@@ -90,12 +90,12 @@ none-count p n e = rw e (omega arith)
 -- ---- source and hops
 
 module _ (to : Callsign) (s : List ℕ) (r : HeaderRead) where
-  pub no-source : length s < 14 → r ≡ refusedBy 2 → r ≡ readSource to s
+  pub no-source : length s < 14 → r ≡ headerRefused 2 → r ≡ readSource to s
   unfolding readSource
   no-source h w = rw (lt-ltb (length s) 14 h) w
 
   module _ (h : 14 ≤ length s) (from : AddressRead) (q : from ≡ readAddress (take 7 (drop 7 s))) where
-    pub source-refused : (from .refusal ≡ 0 → ⊥) → r ≡ refusedBy (from .refusal) → r ≡ readSource to s
+    pub source-refused : (from .refusal ≡ 0 → ⊥) → r ≡ headerRefused (from .refusal) → r ≡ readSource to s
     unfolding readSource unlessRefused
     source-refused z w = rw (le-ltb (length s) 14 h, ← q, ne-eqb (from .refusal) 0 z) w
 
@@ -111,17 +111,17 @@ module _ (to : Callsign) (s : List ℕ) (r : HeaderRead) where
 -- ---- the frame
 
 module _ (s : List ℕ) (r : HeaderRead) (m : length s ≤ 512) where
-  pub no-destination : length s < 7 → r ≡ refusedBy 2 → r ≡ readFrameHeader s
+  pub no-destination : length s < 7 → r ≡ headerRefused 2 → r ≡ readFrameHeader s
   unfolding readFrameHeader
   no-destination h w = rw (le-ltb 512 (length s) m, lt-ltb (length s) 7 h) w
 
   module _ (h : 7 ≤ length s) (to : AddressRead) (q : to ≡ readAddress (take 7 s)) where
-    pub destination-refused : (to .refusal ≡ 0 → ⊥) → r ≡ refusedBy (to .refusal) → r ≡ readFrameHeader s
+    pub destination-refused : (to .refusal ≡ 0 → ⊥) → r ≡ headerRefused (to .refusal) → r ≡ readFrameHeader s
     unfolding readFrameHeader unlessRefused
     destination-refused z w = rw (le-ltb 512 (length s) m, le-ltb (length s) 7 h, ← q, ne-eqb (to .refusal) 0 z) w
 
     module _ (z : to .refusal ≡ 0) where
-      pub destination-last : to .last ≡ true → r ≡ refusedBy 2 → r ≡ readFrameHeader s
+      pub destination-last : to .last ≡ true → r ≡ headerRefused 2 → r ≡ readFrameHeader s
       unfolding readFrameHeader unlessRefused
       destination-last l w = rw (le-ltb 512 (length s) m, le-ltb (length s) 7 h, ← q, eq-eqb (to .refusal) 0 z, l) w
 

@@ -16,7 +16,7 @@ use Rattle.callsign.specs.declared.CallRead.{CallRead}
 use Rattle.callsign.specs.Text.{readText}
 use Rattle.header.specs.declared.PathRead.{PathRead}
 use Rattle.header.specs.declared.HeaderRead.{HeaderRead}
-use Rattle.header.specs.Header.{refused, pathRead, refusedBy, unlessRefused}
+use Rattle.header.specs.Header.{refused, pathRead, headerRefused, unlessRefused}
 use Rattle.header.specs.Text.{fields, firstOf, othersOf, textHops, carried, carriedBack, withPath, readRoute, readBefore, readTextHeader}
 use Rattle.header.proofs.TextHops.{fields-one, fields-two, fields-some, no-parts}
 
@@ -37,7 +37,7 @@ module _ (from : Callsign) (t : List ℕ) (body d : ℕ) (to : CallRead) (r : He
   its-to : readText (firstOf (fields t)) ≡ to
   its-to = rw first-part (rw (← f) (sym q))
 
-  pub to-refused : (to .refusal ≡ 0 → ⊥) → r ≡ refusedBy (to .refusal) → r ≡ readRoute from t body
+  pub to-refused : (to .refusal ≡ 0 → ⊥) → r ≡ headerRefused (to .refusal) → r ≡ readRoute from t body
   unfolding readRoute unlessRefused
   to-refused z w = rw (its-to, ne-eqb (to .refusal) 0 z) w
 
@@ -56,12 +56,12 @@ module _ (from : Callsign) (t : List ℕ) (body d : ℕ) (to : CallRead) (r : He
 -- ---- source
 
 module _ (t : List ℕ) (body g : ℕ) (r : HeaderRead) (f : g ≡ indexOf greater t) where
-  pub no-source : g ≡ length t → r ≡ refusedBy 2 → r ≡ readBefore t body
+  pub no-source : g ≡ length t → r ≡ headerRefused 2 → r ≡ readBefore t body
   unfolding readBefore
   no-source l w = rw (← f, eq-eqb g (length t) l) w
 
   module _ (from : CallRead) (l : g ≡ length t → ⊥) (q : from ≡ readText (take g t)) where
-    pub source-refused : (from .refusal ≡ 0 → ⊥) → r ≡ refusedBy (from .refusal) → r ≡ readBefore t body
+    pub source-refused : (from .refusal ≡ 0 → ⊥) → r ≡ headerRefused (from .refusal) → r ≡ readBefore t body
     unfolding readBefore unlessRefused
     source-refused z w = rw (← f, ← q, ne-eqb g (length t) l, ne-eqb (from .refusal) 0 z) w
 
@@ -72,7 +72,7 @@ module _ (t : List ℕ) (body g : ℕ) (r : HeaderRead) (f : g ≡ indexOf great
 -- ---- the line
 
 module _ (s : List ℕ) (c : ℕ) (r : HeaderRead) (m : length s ≤ 512) (f : c ≡ indexOf colon s) where
-  pub no-colon : c ≡ length s → r ≡ refusedBy 2 → r ≡ readTextHeader s
+  pub no-colon : c ≡ length s → r ≡ headerRefused 2 → r ≡ readTextHeader s
   unfolding readTextHeader
   no-colon l w = rw (le-ltb 512 (length s) m, ← f, eq-eqb c (length s) l) w
 

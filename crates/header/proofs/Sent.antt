@@ -1,18 +1,18 @@
 -- The addresses of a header put into a scratch array one by one, up to the first that is refused.
 -- Assumes nothing.
 use mathlib.Core.Path.{_≡_, refl, sym, ap, _∙_}
-use mathlib.Core.Bool.{Bool, true, false, not, cond}
+use mathlib.Core.Bool.{Bool, true, false, cond}
 use mathlib.Core.List.{List, [], _∷_, _++_}
 use Prim.Native.Nat.{ℕ, suc, _+_, _-_, _*_, _<_, _≤_}
 use native.Mathlib.Numerals.{add-one}
 use native.Mathlib.Omega.{arith}
 use lib.Dec.{eqb}
-use borrow.Author.Tests.{eq-eqb, ne-eqb, eqb-true, eqb-false, not-true}
+use borrow.Author.Tests.{eq-eqb, ne-eqb, eqb-true, eqb-false}
 use lib.ListN.{length, take, drop, getD, length-append, length-take}
 use lib.Seq.{slice, slice-cons, slice-empty, length-slice}
 use Rattle.laws.specs.declared.Answer.{Answer}
 use Rattle.laws.specs.Wrote.{ends, refusedBy, overBy, wrote}
-use Rattle.laws.proofs.Wrote.{passed-on, not-over}
+use Rattle.laws.proofs.Wrote.{passed-on}
 use Rattle.callsign.specs.declared.AddressWritten.{AddressWritten}
 use Rattle.callsign.specs.declared.Field.the-variants.{Destination, Source, Hop as HopField}
 use Rattle.callsign.specs.Packed.{writeAddress}
@@ -20,11 +20,11 @@ use Rattle.callsign.proofs.AddressBack.{address-seven}
 use Rattle.header.specs.declared.Hop.{Hop}
 use Rattle.header.specs.declared.Header.{Header}
 use Rattle.header.specs.Header.{hopsOf}
-use Rattle.header.specs.Frame.{pair, isNone, hopAddresses, addresses, firstRefusal, joined, headerFrame}
+use Rattle.header.specs.Frame.{pair, isNone, hopAddresses, addresses, firstRefusal, addressBytes, headerFrame}
 use Rattle.header.specs.Range.{headerInRange, frameRefusal}
 use Rattle.header.specs.Written.{Filled, filled, added, Placed, placed, addedAll}
 use Rattle.header.proofs.Built.{added-added, added-none, added-length, added-len, part-added}
-use Rattle.header.proofs.Bounds.{put-within, put-prefix, put-front}
+use Rattle.header.proofs.Bounds.{put-within, put-prefix, put-done}
 use Rattle.header.proofs.InRange.{route-count}
 
 -- ---- one address
@@ -205,20 +205,20 @@ refusal-is f (a ∷ l) = go (eqb (a .refusal) 0) (refusal-is (added f (a .bytes)
     go true e = e
     go false e = refl
 
-all-added : (f : Filled) (l : List AddressWritten) → firstRefusal l ≡ 0 → f .len + length (joined l) ≤ length (f .bytes) → addedAll f l .array ≡ added f (joined l)
-unfolding addedAll firstRefusal joined
+all-added : (f : Filled) (l : List AddressWritten) → firstRefusal l ≡ 0 → f .len + length (addressBytes l) ≤ length (f .bytes) → addedAll f l .array ≡ added f (addressBytes l)
+unfolding addedAll firstRefusal addressBytes
 all-added f [] z m = added-none f (omega arith)
 all-added f (a ∷ l) z m = go (eqb (a .refusal) 0) refl z (λ y. all-added (added f (a .bytes)) l y room)
   where
     here : f .len + length (a .bytes) ≤ length (f .bytes)
-    here = omega (arith, length-append (a .bytes) (joined l))
+    here = omega (arith, length-append (a .bytes) (addressBytes l))
 
-    room : added f (a .bytes) .len + length (joined l) ≤ length (added f (a .bytes) .bytes)
-    room = let x = added-length f (a .bytes) here in let y = added-len f (a .bytes) in omega (arith, length-append (a .bytes) (joined l))
+    room : added f (a .bytes) .len + length (addressBytes l) ≤ length (added f (a .bytes) .bytes)
+    room = let x = added-length f (a .bytes) here in let y = added-len f (a .bytes) in omega (arith, length-append (a .bytes) (addressBytes l))
 
-    go : (k : Bool) → eqb (a .refusal) 0 ≡ k → cond k (firstRefusal l) (a .refusal) ≡ 0 → (firstRefusal l ≡ 0 → addedAll (added f (a .bytes)) l .array ≡ added (added f (a .bytes)) (joined l))
-        → cond k (addedAll (added f (a .bytes)) l) (record { refusal = a .refusal; array = f }) .array ≡ added f (a .bytes ++ joined l)
-    go true k e r = r e ∙ added-added f (a .bytes) (joined l) here
+    go : (k : Bool) → eqb (a .refusal) 0 ≡ k → cond k (firstRefusal l) (a .refusal) ≡ 0 → (firstRefusal l ≡ 0 → addedAll (added f (a .bytes)) l .array ≡ added (added f (a .bytes)) (addressBytes l))
+        → cond k (addedAll (added f (a .bytes)) l) (record { refusal = a .refusal; array = f }) .array ≡ added f (a .bytes ++ addressBytes l)
+    go true k e r = r e ∙ added-added f (a .bytes) (addressBytes l) here
     go false k e r = absurd (eqb-false (a .refusal) 0 k e)
 
 pub first-none : (a : AddressWritten) (l : List AddressWritten) → firstRefusal (a ∷ l) ≡ 0 → (a .refusal ≡ 0) × (firstRefusal l ≡ 0)
@@ -229,19 +229,19 @@ first-none a l z = go (eqb (a .refusal) 0) refl z
     go true k e = (eqb-true (a .refusal) 0 k, e)
     go false k e = absurd (eqb-false (a .refusal) 0 k e)
 
-pub hops-length : (l : List Hop) → firstRefusal (hopAddresses l) ≡ 0 → length (joined (hopAddresses l)) ≡ 7 * length l
-unfolding joined hopAddresses
+pub hops-length : (l : List Hop) → firstRefusal (hopAddresses l) ≡ 0 → length (addressBytes (hopAddresses l)) ≡ 7 * length l
+unfolding addressBytes hopAddresses
 hops-length [] z = refl
 hops-length (h ∷ l) z =
     let a = writeAddress (h .call) (HopField (h .heard)) (isNone l) in
     let p = first-none a (hopAddresses l) z in
     let s = address-seven (h .call) (HopField (h .heard)) (isNone l) (p .0) in
     let r = hops-length l (p .1) in
-    rw (length-append (a .bytes) (joined (hopAddresses l)), s, r) (omega arith)
+    rw (length-append (a .bytes) (addressBytes (hopAddresses l)), s, r) (omega arith)
 
 module _ (h : Header) (e : headerInRange h ≡ true) (z : firstRefusal (addresses h) ≡ 0) where
-  addresses-bound : length (joined (addresses h)) ≤ 70
-  unfolding joined addresses hopsOf
+  addresses-bound : length (addressBytes (addresses h)) ≤ 70
+  unfolding addressBytes addresses hopsOf
   addresses-bound =
       let a = writeAddress (h .to) Destination false in
       let b = writeAddress (h .from) Source (eqb (h .path .count) 0) in
@@ -253,11 +253,11 @@ module _ (h : Header) (e : headerInRange h ≡ true) (z : firstRefusal (addresse
       let u = hops-length (take (h .path .count) (h .path .hops)) (q .1) in
       let m = route-count h e in
       let k : length (take (h .path .count) (h .path .hops)) ≤ 8 = rw length-take (omega arith) in
-      rw (length-append (a .bytes) (b .bytes ++ joined l), length-append (b .bytes) (joined l), s, t, u) (omega arith)
+      rw (length-append (a .bytes) (b .bytes ++ addressBytes l), length-append (b .bytes) (addressBytes l), s, t, u) (omega arith)
 
   frame-short : length (headerFrame h) ≤ 72
   unfolding headerFrame
-  frame-short = let a = addresses-bound in rw (length-append (joined (addresses h)) pair) (omega arith)
+  frame-short = let a = addresses-bound in rw (length-append (addressBytes (addresses h)) pair) (omega arith)
 
 -- a header that can be written is at most 72 bytes of a frame
 pub frame-bound : (h : Header) → frameRefusal h ≡ 0 → length (headerFrame h) ≤ 72
@@ -269,10 +269,6 @@ frame-bound h z = go (headerInRange h) refl z
     go false e q = absurd (omega arith)
 
 -- ---- the writer's answers
-
-pub frame-out : (u : Bool) (h : Header) (r : Answer) (out : List ℕ) → u ≡ headerInRange h → not u ≡ true → r ≡ refusedBy 15 → ends r out ≡ wrote (frameRefusal h) (headerFrame h) out
-unfolding frameRefusal
-frame-out u h r out e t q = passed-on r 15 (frameRefusal h) (headerFrame h) out q (λ z. omega arith) (rw (← e, not-true u t))
 
 module _ (h : Header) (v : List ℕ) (r : ℕ) (b : List ℕ) (n : ℕ) (e : headerInRange h ≡ true) (q : placed r b n ≡ addedAll (filled v 0) (addresses h)) where
   its-refusal : frameRefusal h ≡ r
@@ -286,20 +282,19 @@ module _ (h : Header) (v : List ℕ) (r : ℕ) (b : List ℕ) (n : ℕ) (e : hea
     fine : firstRefusal (addresses h) ≡ 0
     fine = sym (refusal-is (filled v 0) (addresses h)) ∙ sym (ap (λ (x : Placed). x .refusal) q) ∙ z
 
-    put : filled b n ≡ added (filled v 0) (joined (addresses h))
+    put : filled b n ≡ added (filled v 0) (addressBytes (addresses h))
     put =
         let k = addresses-bound h e fine in
         ap (λ (x : Placed). x .array) q ∙ all-added (filled v 0) (addresses h) fine (omega arith)
 
     pub frame-within : n ≤ length b
-    frame-within = put-within v b (joined (addresses h)) n 70 put (addresses-bound h e fine) room
+    frame-within = put-within v b (addressBytes (addresses h)) n 70 put (addresses-bound h e fine) room
 
     pub frame-prefix : n ≡ length (take n b)
-    frame-prefix = put-prefix v b (joined (addresses h)) n 70 put (addresses-bound h e fine) room
+    frame-prefix = put-prefix v b (addressBytes (addresses h)) n 70 put (addresses-bound h e fine) room
 
     pub frame-done : (a : Answer) (out out′ : List ℕ) → ends a out′ ≡ wrote (overBy 72 (take n b ++ pair)) (take n b ++ pair) out → ends a out′ ≡ wrote (frameRefusal h) (headerFrame h) out
     unfolding headerFrame
     frame-done a out out′ w =
-        let f : take n b ≡ joined (addresses h) = put-front v b (joined (addresses h)) n 70 put (addresses-bound h e fine) room in
-        let o : overBy 72 (joined (addresses h) ++ pair) ≡ 0 = not-over 72 (joined (addresses h) ++ pair) (frame-short h e fine) in
-        w ∙ rw (f, o, its-refusal, z)
+        put-done v b (addressBytes (addresses h)) n 70 put (addresses-bound h e fine) room 72 pair out (ends a out′) (frame-short h e fine) w
+        ∙ rw (its-refusal, z)

@@ -1,17 +1,18 @@
 -- Stars: carried back over the hops before them in reading, and set on the last heard hop alone in writing.
 -- Assumes nothing.
 use mathlib.Core.Path.{_≡_, refl, sym, ap, _∙_}
-use mathlib.Core.Bool.{Bool, true, false, not, cond, _&&_, _||_}
+use mathlib.Core.Bool.{Bool, true, false, not, cond, _&&_, _||_, or-false, false≢true}
 use mathlib.Core.List.{List, [], _∷_, _++_}
 use Prim.Native.Nat.{ℕ, zero, suc, _+_, _-_, _<_, _≤_}
 use native.Mathlib.Nat.{not-suc-le-zero, le-of-suc-le-suc}
 use native.Mathlib.Numerals.{add-one}
 use native.Mathlib.Omega.{arith}
-use lib.Dec.{eqb}
-use borrow.Author.Tests.{eqb-true, eqb-false, eq-eqb, ne-eqb}
+use lib.Dec.{eqb, eqb·suc-suc}
+use borrow.Author.Tests.{ne-eqb}
 use lib.ListN.{length, take, drop, getD, set, take-append-drop}
 use lib.Seq.{length-take-le, set-at, getD-at, append-snoc, take-suc, slice, slice-cons, slice-empty}
 use Rattle.laws.specs.Bytes.{comma}
+use Rattle.laws.proofs.Tests.{or-neither}
 use Rattle.callsign.specs.Range.{textOf, withStar}
 use Rattle.header.specs.declared.Hop.{Hop}
 use Rattle.header.specs.Text.{anyHeard, carried, hopsText}
@@ -81,11 +82,7 @@ back-done l out n (suc i) e h = absurd (omega arith)
 
 any-snoc : (l : List Hop) (h : Hop) → anyHeard (l ++ h ∷ []) ≡ (anyHeard l || h .heard)
 unfolding anyHeard
-any-snoc [] h = go (h .heard)
-  where
-    go : (b : Bool) → (b || false) ≡ b
-    go true = refl
-    go false = refl
+any-snoc [] h = or-false (h .heard)
 any-snoc (x ∷ l) h = go (x .heard) (any-snoc l h)
   where
     go : (b : Bool) → anyHeard (l ++ h ∷ []) ≡ (anyHeard l || h .heard) → (b || anyHeard (l ++ h ∷ [])) ≡ ((b || anyHeard l) || h .heard)
@@ -125,36 +122,21 @@ module _ (l : List Hop) (last i : ℕ) (d : Hop) (e : last ≡ heardUpTo (take i
   pub last-stays : getD l i d .heard ≡ false → last ≡ heardUpTo (take (i + 1) l)
   last-stays p = e ∙ sym (rw more (up-to-unheard (take i l) (getD l i d) p))
 
-eqb-suc : (a b : ℕ) → eqb (suc a) (suc b) ≡ eqb a b
-eqb-suc a b = go (eqb a b) refl
-  where
-    go : (k : Bool) → eqb a b ≡ k → eqb (suc a) (suc b) ≡ eqb a b
-    go true e = let q = eqb-true a b e in eq-eqb (suc a) (suc b) (omega arith) ∙ sym e
-    go false e = let q = eqb-false a b e in ne-eqb (suc a) (suc b) (λ f. q (omega arith)) ∙ sym e
-
 up-to-some : (l : List Hop) → anyHeard l ≡ true → 0 < heardUpTo l
 unfolding anyHeard heardUpTo
-up-to-some [] e = absurd (mathlib.Core.Bool.false≢true e)
+up-to-some [] e = absurd (false≢true e)
 up-to-some (h ∷ l) e = go (anyHeard l) (h .heard) e
   where
     go : (a b : Bool) → (b || a) ≡ true → 0 < cond a (suc (heardUpTo l)) (cond b 1 0)
     go true b f = omega arith
     go false true f = omega arith
-    go false false f = absurd (mathlib.Core.Bool.false≢true f)
+    go false false f = absurd (false≢true f)
 
 none-heard : (l : List Hop) (i : ℕ) (d : Hop) → anyHeard l ≡ false → i < length l → getD l i d .heard ≡ false
 unfolding anyHeard
 none-heard [] i d e h = absurd (not-suc-le-zero h)
-none-heard (x ∷ l) zero d e h = go (x .heard) e
-  where
-    go : (b : Bool) → (b || anyHeard l) ≡ false → b ≡ false
-    go true f = f
-    go false f = refl
-none-heard (x ∷ l) (suc i) d e h = none-heard l i d (go (x .heard) e) (le-of-suc-le-suc h)
-  where
-    go : (b : Bool) → (b || anyHeard l) ≡ false → anyHeard l ≡ false
-    go true f = absurd (mathlib.Core.Bool.false≢true (sym f))
-    go false f = f
+none-heard (x ∷ l) zero d e h = or-neither (x .heard) (anyHeard l) e .0
+none-heard (x ∷ l) (suc i) d e h = none-heard l i d (or-neither (x .heard) (anyHeard l) e .1) (le-of-suc-le-suc h)
 
 -- the star belongs to the hop at i where the number found is that of i and those before it
 pub star-at : (l : List Hop) (i : ℕ) (d : Hop) → i < length l → eqb (suc i) (heardUpTo l) ≡ (getD l i d .heard && not (anyHeard (drop (suc i) l)))
@@ -175,7 +157,7 @@ star-at (x ∷ l) (suc i) d h = go (anyHeard l) refl (x .heard) (star-at l i d (
 
     go : (a : Bool) → anyHeard l ≡ a → (b : Bool) → eqb (suc i) (heardUpTo l) ≡ (getD l i d .heard && not (anyHeard (drop (suc i) l)))
         → eqb (suc (suc i)) (cond a (suc (heardUpTo l)) (cond b 1 0)) ≡ (getD l i d .heard && not (anyHeard (drop (suc i) l)))
-    go true e b r = eqb-suc (suc i) (heardUpTo l) ∙ r
+    go true e b r = eqb·suc-suc (suc i) (heardUpTo l) ∙ r
     go false e b r = ne-eqb (suc (suc i)) (cond b 1 0) (low b) ∙ rw (none-heard l i d e (le-of-suc-le-suc h))
 
 pub last-found : (l : List Hop) (n last i : ℕ) → last ≡ heardUpTo (take i l) → n ≤ i → i ≤ n → last ≡ heardUpTo (take n l)

@@ -15,7 +15,7 @@ use Rattle.callsign.specs.Range.{callPart, ssidPart, textOf, withStar}
 use Rattle.callsign.proofs.AddressBack.{inAddress}
 use Rattle.header.specs.declared.Hop.{Hop}
 use Rattle.header.specs.declared.Header.{Header}
-use Rattle.header.specs.Header.{these, before, pathOf, hopsOf, refusedBy, accepted}
+use Rattle.header.specs.Header.{these, before, pathOf, hopsOf, headerRefused, headerAccepted}
 use Rattle.header.specs.Text.{onFirst, fields, isQ, hopOf, readHop, hopThen, textHops, anyHeard, carried, carriedBack, readTextHeader, hopsText, headerText}
 use Rattle.header.specs.Frame.{readFrameHeader, headerFrame}
 use Rattle.header.specs.Range.{headerInRange, frameRefusal}
@@ -53,10 +53,10 @@ pub frame-numbers : (s : List ℕ) → (readFrameHeader s .refusal ≡ 0 → ⊥
 frame-numbers s z = answered-number InFrame s (frame-answered s) z .high
 
 -- "A refused decode returns the blank record"
-pub text-refused-blank : (s : List ℕ) → (readTextHeader s .refusal ≡ 0 → ⊥) → readTextHeader s ≡ refusedBy (readTextHeader s .refusal)
+pub text-refused-blank : (s : List ℕ) → (readTextHeader s .refusal ≡ 0 → ⊥) → readTextHeader s ≡ headerRefused (readTextHeader s .refusal)
 text-refused-blank s = answered-blank InText s (text-answered s)
 
-pub frame-refused-blank : (s : List ℕ) → (readFrameHeader s .refusal ≡ 0 → ⊥) → readFrameHeader s ≡ refusedBy (readFrameHeader s .refusal)
+pub frame-refused-blank : (s : List ℕ) → (readFrameHeader s .refusal ≡ 0 → ⊥) → readFrameHeader s ≡ headerRefused (readFrameHeader s .refusal)
 frame-refused-blank s = answered-blank InFrame s (frame-answered s)
 
 -- ---- how long a written header is
@@ -77,7 +77,7 @@ stars-are-kept l = (written-stars (carried l), carried-starred (carried l) ∙ c
 
 -- a header that was written reads back from any frame that starts with it: calls raised, SSIDs as numbers, each hop heard as it was
 pub frame-reads-back : (h : Header) (body : List ℕ) → length (h .path .hops) ≡ 8 → frameRefusal h ≡ 0 → length (headerFrame h ++ body) ≤ 512
-    → readFrameHeader (headerFrame h ++ body) ≡ accepted (inAddress (h .from)) (inAddress (h .to)) (pathOf (map inFrame (hopsOf (h .path)))) (length (headerFrame h))
+    → readFrameHeader (headerFrame h ++ body) ≡ headerAccepted (inAddress (h .from)) (inAddress (h .to)) (pathOf (map inFrame (hopsOf (h .path)))) (length (headerFrame h))
 frame-reads-back = frame-back
 
 -- ---- P11: hops A,B*,C: A and B heard, C not; written A,B*,C

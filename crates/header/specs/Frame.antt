@@ -17,7 +17,7 @@ use Rattle.header.specs.declared.Hop.{Hop}
 use Rattle.header.specs.declared.Header.{Header}
 use Rattle.header.specs.declared.PathRead.{PathRead}
 use Rattle.header.specs.declared.HeaderRead.{HeaderRead}
-use Rattle.header.specs.Header.{Hops, refused, these, before, hopsOf, pathRead, refusedBy, accepted, unlessRefused}
+use Rattle.header.specs.Header.{Hops, refused, these, before, hopsOf, pathRead, headerRefused, headerAccepted, unlessRefused}
 
 -- ---- the control and protocol bytes
 
@@ -66,13 +66,13 @@ unfoldable pub withPair : Callsign → Callsign → PathRead → List ℕ → He
 withPair from to p s =
     let at = 14 + 7 * p .path .count in
     unlessRefused (p .refusal)
-    (cond (startsWithPair (drop at s)) (accepted from to (p .path) (at + 2)) (refusedBy 2))
+    (cond (startsWithPair (drop at s)) (headerAccepted from to (p .path) (at + 2)) (headerRefused 2))
 
 -- source and hops of the frame s, after its destination
 unfoldable pub readSource : Callsign → List ℕ → HeaderRead
 readSource to s =
     let from = readAddress (take 7 (drop 7 s)) in
-    cond (ltb (length s) 14) (refusedBy 2)
+    cond (ltb (length s) 14) (headerRefused 2)
     (unlessRefused (from .refusal)
     (withPair (from .call) to (pathRead (cond (from .last) (these []) (frameHops 8 (drop 14 s)))) s))
 
@@ -80,10 +80,10 @@ readSource to s =
 unfoldable pub readFrameHeader : List ℕ → HeaderRead
 readFrameHeader s =
     let to = readAddress (take 7 s) in
-    cond (ltb 512 (length s)) (refusedBy 1)
-    (cond (ltb (length s) 7) (refusedBy 2)
+    cond (ltb 512 (length s)) (headerRefused 1)
+    (cond (ltb (length s) 7) (headerRefused 2)
     (unlessRefused (to .refusal)
-    (cond (to .last) (refusedBy 2)
+    (cond (to .last) (headerRefused 2)
     (readSource (to .call) s))))
 
 -- ---- the header written
@@ -111,10 +111,10 @@ firstRefusal [] = 0
 firstRefusal (a ∷ l) = cond (eqb (a .refusal) 0) (firstRefusal l) (a .refusal)
 
 -- the bytes of each address in turn
-unfoldable pub joined : List AddressWritten → List ℕ
-joined [] = []
-joined (a ∷ l) = a .bytes ++ joined l
+unfoldable pub addressBytes : List AddressWritten → List ℕ
+addressBytes [] = []
+addressBytes (a ∷ l) = a .bytes ++ addressBytes l
 
 -- the addresses, and the pair behind them
 unfoldable pub headerFrame : Header → List ℕ
-headerFrame h = joined (addresses h) ++ pair
+headerFrame h = addressBytes (addresses h) ++ pair

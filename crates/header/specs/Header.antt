@@ -40,16 +40,16 @@ blankHeader = headerOf blankCall blankCall (pathOf [])
 -- ---- what reading gives
 
 -- a refusal: the blank header, and no place
-unfoldable pub refusedBy : ℕ → HeaderRead
-refusedBy n = record { refusal = n; header = blankHeader; body = 0 }
+unfoldable pub headerRefused : ℕ → HeaderRead
+headerRefused n = record { refusal = n; header = blankHeader; body = 0 }
 
 -- a header that was read, and where its body starts
-unfoldable pub accepted : Callsign → Callsign → Path → ℕ → HeaderRead
-accepted from to path body = record { refusal = 0; header = headerOf from to path; body = body }
+unfoldable pub headerAccepted : Callsign → Callsign → Path → ℕ → HeaderRead
+headerAccepted from to path body = record { refusal = 0; header = headerOf from to path; body = body }
 
 -- a part's refusal is the header's; without one, what follows
 unfoldable pub unlessRefused : ℕ → HeaderRead → HeaderRead
-unlessRefused n next = cond (eqb n 0) next (refusedBy n)
+unlessRefused n next = cond (eqb n 0) next (headerRefused n)
 
 -- ---- hops one after the other
 

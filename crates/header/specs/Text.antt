@@ -17,7 +17,7 @@ use Rattle.header.specs.declared.HopRead.{HopRead}
 use Rattle.header.specs.declared.Header.{Header}
 use Rattle.header.specs.declared.PathRead.{PathRead}
 use Rattle.header.specs.declared.HeaderRead.{HeaderRead}
-use Rattle.header.specs.Header.{Hops, refused, these, before, blankHop, hopsOf, pathRead, refusedBy, accepted, unlessRefused}
+use Rattle.header.specs.Header.{Hops, refused, these, before, blankHop, hopsOf, pathRead, headerRefused, headerAccepted, unlessRefused}
 
 -- ---- the parts between commas
 
@@ -90,7 +90,7 @@ carriedBack (these l) = these (carried l)
 
 -- the path's refusal, or the header
 unfoldable pub withPath : Callsign → Callsign → PathRead → ℕ → HeaderRead
-withPath from to p body = unlessRefused (p .refusal) (accepted from to (p .path) body)
+withPath from to p body = unlessRefused (p .refusal) (headerAccepted from to (p .path) body)
 
 -- destination and hops, between commas, and the hops' stars
 unfoldable pub readRoute : Callsign → List ℕ → ℕ → HeaderRead
@@ -104,15 +104,15 @@ unfoldable pub readBefore : List ℕ → ℕ → HeaderRead
 readBefore t body =
     let g = indexOf greater t in
     let from = readText (take g t) in
-    cond (eqb g (length t)) (refusedBy 2)
+    cond (eqb g (length t)) (headerRefused 2)
     (unlessRefused (from .refusal) (readRoute (from .call) (drop (suc g) t) body))
 
 -- 1, and then `:`
 unfoldable pub readTextHeader : List ℕ → HeaderRead
 readTextHeader s =
     let c = indexOf colon s in
-    cond (ltb 512 (length s)) (refusedBy 1)
-    (cond (eqb c (length s)) (refusedBy 2)
+    cond (ltb 512 (length s)) (headerRefused 1)
+    (cond (eqb c (length s)) (headerRefused 2)
     (readBefore (take c s) (c + 1)))
 
 -- ---- the header written

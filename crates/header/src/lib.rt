@@ -9,7 +9,7 @@ ghost use Rattle.laws.specs.Lists.{every};
 ghost use Rattle.laws.specs.Wrote.{ends, wrote};
 ghost use Rattle.callsign.specs.Range.{inRange, textOf, withStar};
 ghost use Rattle.callsign.specs.Packed.{writeAddress};
-ghost use Rattle.header.specs.Header.{blankHop, blankHeader, refusedBy, pathRead, refused};
+ghost use Rattle.header.specs.Header.{blankHop, blankHeader, headerRefused, pathRead, refused};
 ghost use Rattle.header.specs.Text.{fields, isQ, readHop, textHops, carried, carriedBack, withPath, readRoute, readBefore, readTextHeader, hopsText, routeText, headerText};
 ghost use Rattle.header.specs.Frame.{frameHops, withPair, readSource, readFrameHeader, hopAddresses, addresses, headerFrame};
 ghost use Rattle.header.specs.Range.{hopInRange, isBlank, pathInRange, headerInRange, textRefusal, frameRefusal};
@@ -83,7 +83,7 @@ pub fn blank() -> Header
 }
 
 fn refused(n: u8) -> HeaderRead
-    ensures { λ r. ⌜ r ≡ refusedBy n ⌝ }
+    ensures { λ r. ⌜ r ≡ headerRefused n ⌝ }
 {
     let header = blank();
     HeaderRead {

@@ -45,6 +45,11 @@ pub guard : {A : Type 0} (t : Bool) (r x y : A) → (r ≡ y → ⊥) → cond t
 guard true r x y n e = absurd (n e)
 guard false r x y n e = (refl, e)
 
+-- with the refusal behind, the test held
+pub passed : {A : Type 0} (t : Bool) (x r y : A) → (r ≡ y → ⊥) → cond t x r ≡ y → (t ≡ true) × (x ≡ y)
+passed true x r y n e = (refl, e)
+passed false x r y n e = absurd (n e)
+
 -- ---- classes of bytes
 
 pub within-low : (lo hi b : ℕ) → within lo hi b ≡ true → lo ≤ b

@@ -13,6 +13,7 @@ use lib.ListN.{length, take, drop, getD}
 use Rattle.laws.specs.Bytes.{space, digit0, point, capitalN, capitalS, capitalE, capitalW, isDigit}
 use Rattle.laws.specs.Lists.{indexOf, every}
 use Rattle.laws.proofs.Places.{index-le}
+use Rattle.laws.proofs.Tests.{guard, passed}
 use Rattle.lonlat.specs.Angle.{mostLatitude, mostLongitude, signedOf}
 use Rattle.lonlat.specs.declared.Size.{Size}
 use Rattle.lonlat.specs.declared.Size.the-variants.{Hundredths, NoDigit}
@@ -52,7 +53,7 @@ pub record Blanked (t : List ℕ) (k : ℕ) : Type 0 where
   pub rest : restBlank t ≡ true
   pub starts : indexOf space t ≡ k
 
-pub kept-some : (t : List ℕ) (k : ℕ) → k ≡ keptOf t → (k ≡ 0 → ⊥) → Blanked t k
+kept-some : (t : List ℕ) (k : ℕ) → k ≡ keptOf t → (k ≡ 0 → ⊥) → Blanked t k
 unfolding keptOf
 kept-some t k e h = go (restBlank t) refl e
   where
@@ -68,22 +69,22 @@ pub record Valued (t : List ℕ) (v : ℕ) : Type 0 where
 
 valued : (t : List ℕ) (v : ℕ) → sizeOf t ≡ Hundredths v → Valued t v
 unfolding sizeOf
-valued t v e = go (every isDigit t) refl e
+valued t v e =
+    let g = passed (every isDigit t) (Hundredths (valueOf t)) NoDigit (Hundredths v) none e in
+    record { digits = g .0; value = same (g .1) }
   where
-    same : (x y : ℕ) → Hundredths x ≡ Hundredths y → x ≡ y
-    same x y e = cc
+    none : NoDigit ≡ Hundredths v → ⊥
+    none q = let z : _≡_ {A = ℕ} 0 1 = cc in omega arith
 
-    go : (b : Bool) → every isDigit t ≡ b → cond b (Hundredths (valueOf t)) NoDigit ≡ Hundredths v → Valued t v
-    go true p q = record { digits = p; value = same (valueOf t) v q }
-    go false p q = absurd (let z : _≡_ {A = ℕ} 0 1 = cc in omega arith)
+    same : Hundredths (valueOf t) ≡ Hundredths v → valueOf t ≡ v
+    same q = cc
 
 not-digits : (t : List ℕ) → sizeOf t ≡ NoDigit → every isDigit t ≡ false
 unfolding sizeOf
-not-digits t e = go (every isDigit t) refl e
+not-digits t e = guard (every isDigit t) (Hundredths (valueOf t)) NoDigit NoDigit some e .0
   where
-    go : (b : Bool) → every isDigit t ≡ b → cond b (Hundredths (valueOf t)) NoDigit ≡ NoDigit → every isDigit t ≡ false
-    go true p q = absurd (let z : _≡_ {A = ℕ} 0 1 = cc in omega arith)
-    go false p q = p
+    some : Hundredths (valueOf t) ≡ NoDigit → ⊥
+    some q = let z : _≡_ {A = ℕ} 0 1 = cc in omega arith
 
 module _ (most : ℕ) (minus : Bool) (t : List ℕ) (q : Size) (e : q ≡ sizeOf t) where
   pub angle-none : q ≡ NoDigit → Bad ≡ angleIn most minus t

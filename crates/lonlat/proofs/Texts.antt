@@ -29,11 +29,11 @@ pub every-last : (test : ℕ → Bool) (b n : ℕ) (t : List ℕ) → test b ≡
 unfolding lastAs
 every-last test b n t e f = every-append test (take (length t - n) t) (replicate n b) (every-take test (length t - n) t f) (every-replicate test b e n)
 
-pub digit-is : (v : ℕ) → isDigit (digitOf v) ≡ true
+digit-is : (v : ℕ) → isDigit (digitOf v) ≡ true
 unfolding digitOf
 digit-is v = within-yes digit0 digit9 (digit0 + v % 10) (omega arith) (omega arith)
 
-pub digits-are : (k v : ℕ) → every isDigit (digitsOf k v) ≡ true
+digits-are : (k v : ℕ) → every isDigit (digitsOf k v) ≡ true
 unfolding digitsOf every
 digits-are zero v = refl
 digits-are (suc k) v = every-snoc isDigit (digitsOf k (v / 10)) (digitOf v) (digits-are k (v / 10)) (digit-is v)
@@ -76,15 +76,15 @@ module _ (t : List ℕ) (digits : every isDigit t ≡ true) (n : ℕ) (some : n 
   unfolding lastAs kept
   starts = first-blank kept n (every-take isDigit (length t - n) t digits)
 
-  pub blanked-count : blanksIn (lastAs space n t) ≡ n
+  blanked-count : blanksIn (lastAs space n t) ≡ n
   unfolding blanksIn
   blanked-count = rw (starts, last-length space n t some, kept-length) (omega arith)
 
-  pub blanked-rest : restBlank (lastAs space n t) ≡ true
+  blanked-rest : restBlank (lastAs space n t) ≡ true
   unfolding restBlank lastAs kept
   blanked-rest = rw (starts, drop-append-seam kept (replicate n space)) (every-replicate isBlank space refl n)
 
-  pub blanked-counted : countedDigits (lastAs space n t) ≡ lastAs digit0 n t
+  blanked-counted : countedDigits (lastAs space n t) ≡ lastAs digit0 n t
   unfolding countedDigits lastAs
   blanked-counted = rw (blanked-count, last-length space n t some) (ap (λ (u : List ℕ). u ++ replicate n digit0) (last-start space n t some))
 
@@ -131,7 +131,7 @@ latitude-of-eight a b c d e f letter = refl
 
 module _ (blanks size : ℕ) where
   -- each of the six places written is a digit or a blank
-  pub blanked-each : every isDigitOrBlank (blankedPlaces blanks size) ≡ true
+  blanked-each : every isDigitOrBlank (blankedPlaces blanks size) ≡ true
   unfolding blankedPlaces within
   blanked-each = every-last isDigitOrBlank space blanks (placesOf 2 size) refl (every-weaker isDigit isDigitOrBlank (λ b e. rw e) (placesOf 2 size) (places-are 2 size))
 

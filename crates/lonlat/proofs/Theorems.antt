@@ -11,7 +11,7 @@ use lib.IntN.{ℤ, pos, natAbs}
 use lib.ListN.{length, getD}
 use Rattle.laws.specs.Bytes.{digit0, digit9, point, isDigit, within, capitalN, capitalS, capitalE, capitalW}
 use Rattle.laws.specs.Lists.{indexOf, every}
-use Rattle.laws.proofs.Tests.{and-second, picked}
+use Rattle.laws.proofs.Tests.{and-first, and-second, picked, guard, passed}
 use Rattle.lonlat.specs.Angle.{mostLatitude, mostLongitude, widthOf, cutTo, cutAngle, signedOf, isMinus}
 use Rattle.lonlat.specs.declared.AngleRead.{AngleRead}
 use Rattle.lonlat.specs.declared.AngleRead.the-variants.{Of, Bad}
@@ -54,14 +54,15 @@ fits-most most t p = leb-true (valueOf t) most (and-second (every isDigit t) (le
 
 angle-most : (most : ℕ) (minus : Bool) (t : List ℕ) (z : ℤ) → angleIn most minus t ≡ Of z → natAbs z ≤ most
 unfolding angleIn
-angle-most most minus t z e = go (fits most t) refl e
+angle-most most minus t z e =
+    let g = passed (fits most t) (Of (signedOf minus (valueOf t))) Bad (Of z) bad e in
+    rw (← same (g .1), size-signed minus (valueOf t)) (fits-most most t (g .0))
   where
-    same : (x y : ℤ) → Of x ≡ Of y → x ≡ y
-    same x y e = cc
+    bad : Bad ≡ Of z → ⊥
+    bad q = let n : _≡_ {A = ℕ} 0 1 = cc in omega arith
 
-    go : (b : Bool) → fits most t ≡ b → cond b (Of (signedOf minus (valueOf t))) Bad ≡ Of z → natAbs z ≤ most
-    go true p q = rw (← same (signedOf minus (valueOf t)) z q, size-signed minus (valueOf t)) (fits-most most t p)
-    go false p q = absurd (let n : _≡_ {A = ℕ} 0 1 = cc in omega arith)
+    same : Of (signedOf minus (valueOf t)) ≡ Of z → signedOf minus (valueOf t) ≡ z
+    same q = cc
 
 pub record LatitudeFound (latitude : Latitude) (blanks letter : ℕ) : Type 0 where
   pub near : natAbs (latitude .0) ≤ mostLatitude
@@ -69,6 +70,9 @@ pub record LatitudeFound (latitude : Latitude) (blanks letter : ℕ) : Type 0 wh
   pub side : isNorthOrSouth letter ≡ true
 
 module _ (latitude : Latitude) (blanks letter : ℕ) where
+  no-latitude : lat.Refused ≡ lat.Read latitude blanks letter → ⊥
+  no-latitude q = let k : _≡_ {A = ℕ} 0 1 = cc in omega arith
+
   latitude-with : (n x : ℕ) (a : AngleRead) → ((z : ℤ) → a ≡ Of z → natAbs z ≤ mostLatitude) → n ≤ 5 → isNorthOrSouth x ≡ true
       → latitudeWith n x a ≡ lat.Read latitude blanks letter → LatitudeFound latitude blanks letter
   unfolding latitudeWith
@@ -77,33 +81,29 @@ module _ (latitude : Latitude) (blanks letter : ℕ) where
       let b : n ≡ blanks = cc in
       let y : x ≡ letter = cc in
       record { near = rw (← l) (m z refl); few = rw (← b) h; side = rw (← y) e }
-  latitude-with n x Bad m h e q = absurd (let k : _≡_ {A = ℕ} 0 1 = cc in omega arith)
+  latitude-with n x Bad m h e q = absurd (no-latitude q)
 
   pub latitude-found : (t : List ℕ) (x : ℕ) → latitudeIn t x ≡ lat.Read latitude blanks letter → LatitudeFound latitude blanks letter
   unfolding latitudeIn
-  latitude-found t x e = go (isNorthOrSouth x) refl (restBlank t) (leb (blanksIn t) 5) refl e
-    where
-      go : (p : Bool) → isNorthOrSouth x ≡ p → (q r : Bool) → leb (blanksIn t) 5 ≡ r
-          → cond (p && q && r) (latitudeWith (blanksIn t) x (angleIn mostLatitude (eqb x capitalS) (countedDigits t))) lat.Refused ≡ lat.Read latitude blanks letter
-          → LatitudeFound latitude blanks letter
-      go true i true true j g = latitude-with (blanksIn t) x (angleIn mostLatitude (eqb x capitalS) (countedDigits t)) (λ z. angle-most mostLatitude (eqb x capitalS) (countedDigits t) z) (leb-true (blanksIn t) 5 j) i g
-      go true i true false j g = absurd (let k : _≡_ {A = ℕ} 0 1 = cc in omega arith)
-      go true i false r j g = absurd (let k : _≡_ {A = ℕ} 0 1 = cc in omega arith)
-      go false i q r j g = absurd (let k : _≡_ {A = ℕ} 0 1 = cc in omega arith)
+  latitude-found t x e =
+      let g = passed (isNorthOrSouth x && restBlank t && leb (blanksIn t) 5) _ lat.Refused _ no-latitude e in
+      latitude-with (blanksIn t) x _ (λ z. angle-most mostLatitude (eqb x capitalS) (countedDigits t) z)
+      (leb-true (blanksIn t) 5 (and-second (isNorthOrSouth x && restBlank t) (leb (blanksIn t) 5) (g .0)))
+      (and-first (isNorthOrSouth x) (restBlank t) (and-first (isNorthOrSouth x && restBlank t) (leb (blanksIn t) 5) (g .0)))
+      (g .1)
 
   pub read-latitude-found : (s : List ℕ) → readLatitude s ≡ lat.Read latitude blanks letter → LatitudeFound latitude blanks letter
   unfolding readLatitude
-  read-latitude-found s e = go (eqb (length s) 8 && eqb (getD s 4 0) point) e
-    where
-      go : (p : Bool) → cond p (latitudeIn (latitudePlaces s) (getD s 7 0)) lat.Refused ≡ lat.Read latitude blanks letter → LatitudeFound latitude blanks letter
-      go true g = latitude-found (latitudePlaces s) (getD s 7 0) g
-      go false g = absurd (let k : _≡_ {A = ℕ} 0 1 = cc in omega arith)
+  read-latitude-found s e = latitude-found (latitudePlaces s) (getD s 7 0) (passed (eqb (length s) 8 && eqb (getD s 4 0) point) _ lat.Refused _ no-latitude e .1)
 
 pub record LongitudeFound (longitude : Longitude) (letter : ℕ) : Type 0 where
   pub near : natAbs (longitude .0) ≤ mostLongitude
   pub side : isEastOrWest letter ≡ true
 
 module _ (longitude : Longitude) (letter : ℕ) where
+  no-longitude : lon.Refused ≡ lon.Read longitude letter → ⊥
+  no-longitude q = let k : _≡_ {A = ℕ} 0 1 = cc in omega arith
+
   longitude-with : (x : ℕ) (a : AngleRead) → ((z : ℤ) → a ≡ Of z → natAbs z ≤ mostLongitude) → isEastOrWest x ≡ true
       → longitudeWith x a ≡ lon.Read longitude letter → LongitudeFound longitude letter
   unfolding longitudeWith
@@ -111,24 +111,22 @@ module _ (longitude : Longitude) (letter : ℕ) where
       let l : record { 0 = z } ≡ longitude = cc in
       let y : x ≡ letter = cc in
       record { near = rw (← l) (m z refl); side = rw (← y) e }
-  longitude-with x Bad m e q = absurd (let k : _≡_ {A = ℕ} 0 1 = cc in omega arith)
+  longitude-with x Bad m e q = absurd (no-longitude q)
 
   pub longitude-found : (t : List ℕ) (x : ℕ) → longitudeIn t x ≡ lon.Read longitude letter → LongitudeFound longitude letter
   unfolding longitudeIn
-  longitude-found t x e = go (isEastOrWest x) refl e
-    where
-      go : (p : Bool) → isEastOrWest x ≡ p → cond p (longitudeWith x (angleIn mostLongitude (eqb x capitalW) t)) lon.Refused ≡ lon.Read longitude letter → LongitudeFound longitude letter
-      go true i g = longitude-with x (angleIn mostLongitude (eqb x capitalW) t) (λ z. angle-most mostLongitude (eqb x capitalW) t z) i g
-      go false i g = absurd (let k : _≡_ {A = ℕ} 0 1 = cc in omega arith)
+  longitude-found t x e =
+      let g = passed (isEastOrWest x) _ lon.Refused _ no-longitude e in
+      longitude-with x _ (λ z. angle-most mostLongitude (eqb x capitalW) t z) (g .0) (g .1)
 
   pub read-longitude-found : (s : List ℕ) (blanks : ℕ) → readLongitude s blanks ≡ lon.Read longitude letter → LongitudeFound longitude letter
   unfolding readLongitude
-  read-longitude-found s blanks e = go (ltb 5 blanks) (eqb (length s) 9 && eqb (getD s 5 0) point) e
+  read-longitude-found s blanks e =
+      let g = guard (ltb 5 blanks) lon.OutOfRange _ _ out e in
+      longitude-found (lastAs digit0 blanks (longitudePlaces s)) (getD s 8 0) (passed (eqb (length s) 9 && eqb (getD s 5 0) point) _ lon.Refused _ no-longitude (g .1) .1)
     where
-      go : (p q : Bool) → cond p lon.OutOfRange (cond q (longitudeIn (lastAs digit0 blanks (longitudePlaces s)) (getD s 8 0)) lon.Refused) ≡ lon.Read longitude letter → LongitudeFound longitude letter
-      go true q g = absurd (let k : _≡_ {A = ℕ} 0 1 = cc in omega arith)
-      go false true g = longitude-found (lastAs digit0 blanks (longitudePlaces s)) (getD s 8 0) g
-      go false false g = absurd (let k : _≡_ {A = ℕ} 0 1 = cc in omega arith)
+      out : lon.OutOfRange ≡ lon.Read longitude letter → ⊥
+      out q = let k : _≡_ {A = ℕ} 0 1 = cc in omega arith
 
 -- up to five blanks are never out of range
 pub longitude-few : (s : List ℕ) (blanks : ℕ) → blanks ≤ 5 → readLongitude s blanks ≡ lon.OutOfRange → ⊥
@@ -156,12 +154,12 @@ places-angle most k n size minus h e =
     let l : size - size % widthOf n ≤ most = omega arith in
     rw (every-last isDigit digit0 n (placesOf k size) refl (places-are k size), e, le-leb (size - size % widthOf n) most l)
 
-pub cut-multiple : (n size : ℕ) → size % widthOf n ≡ 0 → cutTo n size ≡ size
+cut-multiple : (n size : ℕ) → size % widthOf n ≡ 0 → cutTo n size ≡ size
 unfolding cutTo
 cut-multiple n size h = omega arith
 
 -- the six places of a size and a letter: what Mic-E writes and reads
-pub latitude-back : (size blanks letter : ℕ) → size ≤ mostLatitude → blanks ≤ 5 → isNorthOrSouth letter ≡ true
+latitude-back : (size blanks letter : ℕ) → size ≤ mostLatitude → blanks ≤ 5 → isNorthOrSouth letter ≡ true
     → latitudeIn (blankedPlaces blanks size) letter ≡ lat.Read (record { 0 = signedOf (eqb letter capitalS) (cutTo blanks size) }) blanks letter
 unfolding blankedPlaces latitudeWith
 latitude-back size blanks letter h few e =

@@ -25,6 +25,7 @@ unfoldable pub numberAfter : ℕ → List ℕ → ℕ
 numberAfter v [] = v
 numberAfter v (b ∷ t) = numberAfter (10 * v + (b - digit0)) t
 
+-- the decimal number that digits write
 unfoldable pub numberOf : List ℕ → ℕ
 numberOf t = numberAfter 0 t
 
@@ -32,9 +33,11 @@ numberOf t = numberAfter 0 t
 unfoldable pub degreesOf : List ℕ → ℕ
 degreesOf t = numberOf (take (length t - 4) t)
 
+-- the two places behind the degrees
 unfoldable pub minutesOf : List ℕ → ℕ
 minutesOf t = numberOf (take 2 (drop (length t - 4) t))
 
+-- the last two places
 unfoldable pub hundredthsOf : List ℕ → ℕ
 hundredthsOf t = numberOf (drop 2 (drop (length t - 4) t))
 

@@ -16,9 +16,11 @@ use Rattle.lonlat.specs.declared.AngleRead.the-variants.{Of, Bad}
 use Rattle.lonlat.specs.declared.LatitudeRead.{LatitudeRead}
 use Rattle.lonlat.specs.declared.LatitudeRead.the-variants.{Read, Refused}
 
+-- a digit left blank is a space
 abbrev pub isBlank : ℕ → Bool
 isBlank b = eqb b space
 
+-- what may stand at a latitude's digit place
 abbrev pub isDigitOrBlank : ℕ → Bool
 isDigitOrBlank b = isDigit b || isBlank b
 
@@ -40,6 +42,7 @@ countedDigits t = lastAs digit0 (blanksIn t) t
 unfoldable pub keptOf : List ℕ → ℕ
 keptOf t = cond (restBlank t) (indexOf space t) 0
 
+-- the letters that end a latitude
 abbrev pub isNorthOrSouth : ℕ → Bool
 isNorthOrSouth letter = eqb letter capitalN || eqb letter capitalS
 
@@ -78,6 +81,7 @@ northOrSouth angle = cond (isMinus angle) capitalS capitalN
 unfoldable pub blankedPlaces : ℕ → ℕ → List ℕ
 blankedPlaces blanks size = lastAs space blanks (placesOf 2 size)
 
+-- the eight bytes, with the angle's last digits blank
 unfoldable pub latitudeText : ℤ → ℕ → List ℕ
 latitudeText angle blanks = textOf (blankedPlaces blanks (natAbs angle)) (northOrSouth angle)
 

@@ -17,6 +17,7 @@ use Rattle.lonlat.specs.declared.LongitudeRead.the-variants.{Read, Refus
 
 -- ---- read
 
+-- the letters that end a longitude
 abbrev pub isEastOrWest : ℕ → Bool
 isEastOrWest letter = eqb letter capitalE || eqb letter capitalW
 
@@ -49,9 +50,11 @@ longitudeNumber OutOfRange = 15
 
 -- ---- written
 
+-- the angle's own side; 0 is E
 unfoldable pub eastOrWest : ℤ → ℕ
 eastOrWest angle = cond (isMinus angle) capitalW capitalE
 
+-- the nine bytes: "Writing .. writes longitude in full."
 unfoldable pub longitudeText : ℤ → List ℕ
 longitudeText angle = textOf (placesOf 3 (natAbs angle)) (eastOrWest angle)
 

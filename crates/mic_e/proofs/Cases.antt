@@ -5,7 +5,7 @@ use mathlib.Core.Bool.{true, false}
 use mathlib.Core.List.{List, [], _∷_}
 use Prim.Native.Nat.{ℕ}
 use lib.IntN.{pos, negsuc}
-use Rattle.laws.specs.Bytes.{capitalL, capitalS, within}
+use Rattle.laws.specs.Bytes.{capitalL, capitalS, capitalT, capitalU, within}
 use Rattle.laws.specs.Lists.{indexOf, every}
 use Rattle.lonlat.specs.Angle.{signedOf}
 use Rattle.lonlat.specs.Digits.{lastAs, numberAfter, numberOf, degreesOf, minutesOf, hundredthsOf, valueOf, fits, angleIn}
@@ -27,7 +27,7 @@ field a b c = record { first = a; second = b; third = c }
 
 -- `S32U6T`, `LLLLLL` and `4LLLLL`
 abbrev S32U6T : List ℕ
-S32U6T = capitalS ∷ 0x33 ∷ 0x32 ∷ 0x55 ∷ 0x36 ∷ 0x54 ∷ []
+S32U6T = capitalS ∷ 0x33 ∷ 0x32 ∷ capitalU ∷ 0x36 ∷ capitalT ∷ []
 
 abbrev LLLLL : List ℕ
 LLLLL = capitalL ∷ capitalL ∷ capitalL ∷ capitalL ∷ capitalL ∷ []

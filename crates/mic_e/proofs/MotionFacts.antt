@@ -63,7 +63,7 @@ moves-reads s t a b c h =
 
 -- ---- as written
 
-pub tens-cases : (s : ℕ) → ((tensOf s ≡ s / 10 + 80) × (s / 10 < 20)) ⊎ ((tensOf s ≡ s / 10) × (20 ≤ s / 10))
+tens-cases : (s : ℕ) → ((tensOf s ≡ s / 10 + 80) × (s / 10 < 20)) ⊎ ((tensOf s ≡ s / 10) × (20 ≤ s / 10))
 unfolding tensOf
 tens-cases s =
     ⊎-elim (λ e. inl (rw e, ltb-true _ _ e)) (λ e. inr (rw e, ltb-false _ _ e)) (bool-cases (ltb (s / 10) 20))

@@ -6,8 +6,8 @@ use Prim.Native.Nat.{ℕ, _≤_}
 use Rattle.laws.specs.Bytes.{within}
 use Rattle.laws.proofs.Tests.{within-low, within-high}
 
-pub call-from : (u : Bool) (lo hi b : ℕ) → u ≡ within lo hi b → u ≡ true → lo ≤ b
-call-from u lo hi b e p = within-low lo hi b (sym e ∙ p)
+pub call-low : (u : Bool) (lo hi b : ℕ) → u ≡ within lo hi b → u ≡ true → lo ≤ b
+call-low u lo hi b e p = within-low lo hi b (sym e ∙ p)
 
-pub call-to : (u : Bool) (lo hi b : ℕ) → u ≡ within lo hi b → u ≡ true → b ≤ hi
-call-to u lo hi b e p = within-high lo hi b (sym e ∙ p)
+pub call-high : (u : Bool) (lo hi b : ℕ) → u ≡ within lo hi b → u ≡ true → b ≤ hi
+call-high u lo hi b e p = within-high lo hi b (sym e ∙ p)

@@ -2,7 +2,7 @@
 -- whole Mic-E part of a record. And what is read is in range.
 -- Assumes nothing.
 use mathlib.Core.Path.{_≡_, refl, ap, _∙_}
-use mathlib.Core.Bool.{Bool, true, false, cond, not}
+use mathlib.Core.Bool.{Bool, false, not}
 use mathlib.Core.List.{List, _++_}
 use Prim.Native.Nat.{ℕ, _/_, _%_, _≤_, _<_}
 use native.Mathlib.Omega.{arith}
@@ -10,6 +10,7 @@ use borrow.Author.Tests.{le-ltb, lt-leb}
 use lib.IntN.{ℤ, natAbs}
 use lib.Dec.{eqb, ltb}
 use lib.ListN.{length, getD, drop}
+use Rattle.laws.proofs.Tests.{guard, passed}
 use Rattle.lonlat.specs.Angle.{mostLatitude, mostLongitude, widthOf, isMinus}
 use Rattle.lonlat.specs.Latitude.{latitudeRefusal, readLatitude}
 use Rattle.lonlat.specs.declared.LatitudeRead.{LatitudeRead}
@@ -121,6 +122,9 @@ pub record InformationFound (i : Information) : Type 0 where
   pub slow : i .speed .0 ≤ mostSpeed
   pub turned : i .course .0 ≤ mostCourse
 
+no-information : (i : Information) → Information-refused ≡ Information-read i → ⊥
+no-information i e = let z : _≡_ {A = ℕ} 0 1 = cc in omega arith
+
 informed : (i : Information) (code table : ℕ) (l : LongitudeField) (m : Motion)
     → ((x : Longitude) → l ≡ Longitude-read x → natAbs (x .0) ≤ mostLongitude)
     → ((v : Speed) (d : Course) → m ≡ Motion-read v d → (v .0 ≤ mostSpeed) × (d .0 ≤ mostCourse))
@@ -129,8 +133,8 @@ unfolding informationOf
 informed i code table (Longitude-read x) (Motion-read v d) near range e =
     let r : record { longitude = x; speed = v; course = d; code = code; table = table } ≡ i = cc in
     rw (← r) (record { near = near x refl; slow = range v d refl .0; turned = range v d refl .1 })
-informed i code table (Longitude-read x) Motion-refused near range e = absurd (let z : _≡_ {A = ℕ} 0 1 = cc in omega arith)
-informed i code table Longitude-refused m near range e = absurd (let z : _≡_ {A = ℕ} 0 1 = cc in omega arith)
+informed i code table (Longitude-read x) Motion-refused near range e = absurd (no-information i e)
+informed i code table Longitude-refused m near range e = absurd (no-information i e)
 
 module _ (s : List ℕ) (hundred west : Bool) (i : Information) where
   near-read : (x : Longitude) → readLongitude hundred west (getD s 0 0) (getD s 1 0) (getD s 2 0) ≡ Longitude-read x → natAbs (x .0) ≤ mostLongitude
@@ -143,13 +147,11 @@ module _ (s : List ℕ) (hundred west : Bool) (i : Information) where
 
   pub read-information-found : readInformation s hundred west ≡ Information-read i → InformationFound i
   unfolding readInformation
-  read-information-found e = go (ltb (length s) 8) e
-    where
-      go : (t : Bool)
-          → cond t Information-refused (informationOf (getD s 6 0) (getD s 7 0) (readLongitude hundred west (getD s 0 0) (getD s 1 0) (getD s 2 0)) (readMotion (getD s 3 0) (getD s 4 0) (getD s 5 0))) ≡ Information-read i
-          → InformationFound i
-      go true f = absurd (let z : _≡_ {A = ℕ} 0 1 = cc in omega arith)
-      go false f = informed i (getD s 6 0) (getD s 7 0) _ _ near-read range-read f
+  read-information-found e =
+      informed i (getD s 6 0) (getD s 7 0) _ _ near-read range-read (guard (ltb (length s) 8) Information-refused _ _ (no-information i) e .1)
+
+no-destination : (d : Destination) → Destination-refused ≡ Destination-read d → ⊥
+no-destination d e = let z : _≡_ {A = ℕ} 0 1 = cc in omega arith
 
 -- the latitude and blanks of a destination that was read, as lonlat has them
 sited : (call : List ℕ) (d : Destination) (r : LatitudeRead)
@@ -168,14 +170,11 @@ sited call d (Latitude-read l b k) h e =
     blanks-in : DestinationRead → ℕ
     blanks-in (Destination-read x) = x .blanks
     blanks-in Destination-refused = b
-sited call d Latitude-refused h e = absurd (let z : _≡_ {A = ℕ} 0 1 = cc in omega arith)
+sited call d Latitude-refused h e = absurd (no-destination d e)
 
 pub read-destination-found : (call : List ℕ) (d : Destination) → readDestination call ≡ Destination-read d → (natAbs (d .latitude .0) ≤ mostLatitude) × (d .blanks ≤ 5)
 unfolding readDestination
-read-destination-found call d e = go (eqb (length call) 6) (areCharacters call) e
-  where
-    go : (t u : Bool) → cond t (cond u (destinationWith call (readLatitude (textIn call))) Destination-refused) Destination-refused ≡ Destination-read d
-        → (natAbs (d .latitude .0) ≤ mostLatitude) × (d .blanks ≤ 5)
-    go true true f = sited call d (readLatitude (textIn call)) (λ l b k q. let h = read-latitude-found l b k (textIn call) q in (h .near, h .few)) f
-    go true false f = absurd (let z : _≡_ {A = ℕ} 0 1 = cc in omega arith)
-    go false u f = absurd (let z : _≡_ {A = ℕ} 0 1 = cc in omega arith)
+read-destination-found call d e =
+    let g = passed (eqb (length call) 6) _ Destination-refused _ (no-destination d) e in
+    let k = passed (areCharacters call) _ Destination-refused _ (no-destination d) (g .1) in
+    sited call d (readLatitude (textIn call)) (λ l b n q. let h = read-latitude-found l b n (textIn call) q in (h .near, h .few)) (k .1)

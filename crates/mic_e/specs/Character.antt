@@ -9,6 +9,7 @@ use Rattle.mic_e.specs.declared.Bit.the-variants.{Zero, Custom, Standard
 
 -- ---- read
 
+-- one of the characters above
 unfoldable pub isCharacter : ℕ → Bool
 isCharacter c = isDigit c || (within capitalA capitalL c || within capitalP capitalZ c)
 
@@ -24,6 +25,7 @@ digitOf c =
     (cond (within capitalP capitalY c) (c - capitalP + digit0)
     space))
 
+-- the bit that goes with it
 unfoldable pub bitOf : ℕ → Bit
 bitOf c = cond (within capitalA capitalK c) Custom (cond (within capitalP capitalZ c) Standard Zero)
 
@@ -31,12 +33,14 @@ bitOf c = cond (within capitalA capitalK c) Custom (cond (within capitalP capita
 abbrev pub isFlagged : ℕ → Bool
 isFlagged c = within capitalP capitalZ c
 
--- ---- written: a digit, or any other character for a blank
+-- ---- written
 
+-- the character of a bit and a digit; any other byte than a digit is a blank
 unfoldable pub characterOf : Bit → ℕ → ℕ
 characterOf Zero d = cond (isDigit d) d capitalL
 characterOf Custom d = cond (isDigit d) (d - digit0 + capitalA) capitalK
 characterOf Standard d = cond (isDigit d) (d - digit0 + capitalP) capitalZ
 
+-- a flag is a standard 1 or a 0
 unfoldable pub flagBit : Bool → Bit
 flagBit flag = cond flag Standard Zero

@@ -70,6 +70,7 @@ charactersOf text bits hundred west =
     ∷ characterOf (flagBit (eqb (getD text 7 0) capitalN)) (getD text 3 0)
     ∷ characterOf (flagBit hundred) (getD text 5 0) ∷ characterOf (flagBit west) (getD text 6 0) ∷ []
 
+-- the six characters of a latitude, a message and a longitude's flags
 unfoldable pub destinationBytes : ℤ → ℕ → Message → ℤ → List ℕ
 destinationBytes latitude blanks message longitude =
     charactersOf (latitudeText latitude blanks) (bitsOf message) (hundredOf longitude) (isMinus longitude)

@@ -42,15 +42,19 @@ informationNumber Refused = 12
 
 -- ---- written
 
+-- out of the range that a writer takes
 unfoldable pub informationOut : Information → Bool
 informationOut i = longitudeOut (i .longitude .0) || motionOut (i .speed .0) (i .course .0)
 
+-- 15 for a part out of range
 unfoldable pub informationRefusal : Information → ℕ
 informationRefusal i = cond (informationOut i) 15 0
 
+-- a field's bytes in front of others
 abbrev pub fieldBytes : Field → List ℕ → List ℕ
 fieldBytes f rest = f .first ∷ f .second ∷ f .third ∷ rest
 
+-- longitude, then speed and course, then code and table
 unfoldable pub informationBytes : Information → List ℕ
 informationBytes i =
     fieldBytes (longitudeField (natAbs (i .longitude .0)))

@@ -13,6 +13,7 @@ use Rattle.mic_e.specs.declared.LongitudeField.the-variants.{Read, Refus
 
 -- ---- read
 
+-- the degrees that the destination's flag adds
 unfoldable pub offsetOf : Bool → ℕ
 offsetOf hundred = cond hundred 100 0
 

@@ -39,6 +39,7 @@ messageOf x y z =
     cond ((isStandard x || isStandard y || isStandard z) && (isCustom x || isCustom y || isCustom z)) Unknown
     (messageBy (isStandard x || isStandard y || isStandard z) (isOne x) (isOne y) (isOne z))
 
+-- three bits by the characters that carry them
 abbrev pub bits : Bit → Bit → Bit → Bits
 bits x y z = record { first = x; second = y; third = z }
 

@@ -11,7 +11,7 @@ use Rattle.laws.specs.Lists.{indexOf, every, padTo}
 use Rattle.callsign.specs.Utf8.{after, characters, utf8}
 use Rattle.callsign.specs.Text.{joined, made, isZero, callAccepted, parted, readUnstarred, readText as readCall}
 use Rattle.callsign.specs.Range.{callPart, ssidPart, textOf as callText, withStar}
-use Rattle.header.specs.Header.{pathOf, hopsOf, headerOf, accepted, unlessRefused, before, pathRead}
+use Rattle.header.specs.Header.{pathOf, hopsOf, headerOf, headerAccepted, unlessRefused, before, pathRead}
 use Rattle.header.specs.Text.{onFirst, fields, firstOf, othersOf, isQ, hopOf, readHop, hopThen, textHops, anyHeard, carried, carriedBack}
 use Rattle.header.specs.Text.{withPath, readRoute, readBefore, readTextHeader, hopsText, routeText, headerText}
 use Rattle.header.proofs.Theorems.{P11-text, P11-hops}
@@ -50,7 +50,7 @@ P11-record =
 pub P11-read : readText P11-line ≡ record { refusal = 0; «record» = P11-record }
 unfolding
     readText packetAfter packetOf recordOf keptTo readBody openingOf bodyAfter positionBody readTextHeader readBefore
-    readRoute withPath pathRead pathOf headerOf unlessRefused accepted firstOf othersOf fields onFirst textHops hopThen
+    readRoute withPath pathRead pathOf headerOf unlessRefused headerAccepted firstOf othersOf fields onFirst textHops hopThen
     before readHop isQ hopOf readCall readUnstarred parted callAccepted indexOf utf8 characters after within isZero made
     joined padTo carriedBack carried anyHeard readPosition isUncompressed isNumeric withLatitude withLongitude
     readLatitude latitudeIn latitudeWith readLongitude longitudeIn longitudeWith blanksIn restBlank countedDigits every

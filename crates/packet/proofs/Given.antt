@@ -3,22 +3,22 @@
 -- Assumes nothing.
 use mathlib.Core.Path.{_≡_, refl}
 use mathlib.Core.Bool.{Bool, true, false, not, cond}
-use mathlib.Core.List.{List, []}
+use mathlib.Core.List.{List}
 use Prim.Native.Nat.{ℕ, _+_, _≤_}
 use native.Mathlib.Omega.{arith}
 use lib.Dec.{eqb}
 use lib.ListN.{length, drop, length-drop}
-use Rattle.laws.specs.Lists.{indexOf}
 use Rattle.callsign.specs.declared.Callsign.{Callsign}
 use Rattle.callsign.specs.Text.{blankCall}
 use Rattle.callsign.specs.Range.{inRange}
 use Rattle.callsign.proofs.Made.{blank-range}
 use Rattle.header.specs.declared.Header.{Header}
 use Rattle.header.specs.declared.HeaderRead.{HeaderRead}
-use Rattle.header.specs.Header.{blankHeader, refusedBy}
+use Rattle.header.specs.Header.{blankHeader}
 use Rattle.header.specs.Text.{readTextHeader}
 use Rattle.header.specs.Frame.{readFrameHeader}
 use Rattle.header.specs.Range.{headerInRange}
+use Rattle.header.proofs.Answers.{blank-header-range}
 use Rattle.header.proofs.InRange.{from-fine, to-fine, path-fine}
 use Rattle.header.proofs.Theorems.{text-is-in-range, frame-is-in-range, text-body-within, frame-body-within}
 use Rattle.mic_e.specs.Message.{messageNumber}
@@ -79,8 +79,7 @@ of-given h b size e f =
     }
 
 header-blank : headerInRange (record { from = blankHeader .from; to = blankHeader .to; path = blankHeader .path }) ≡ true
-unfolding readTextHeader refusedBy indexOf
-header-blank = text-is-in-range []
+header-blank = blank-header-range
 
 blank-given : (size : ℕ) → Given size blankRecord
 unfolding blankRecord noComment noReport recordInRange headerOf isExcepted partsInRange unknownInRange isNoPlace isNoReport messageNumber

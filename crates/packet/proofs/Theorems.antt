@@ -62,24 +62,26 @@ unfolding orElse
 or-or zero b c = refl
 or-or (suc a) b c = refl
 
+module _ {size : ℕ} {r : Record} (g : Given size r) where
+  given-refusal : (n : ℕ) → orElse (recordRefusal r) n ≡ orElse (cond (isExcepted (r .kind) (r .place)) 15 0) (orElse (kindRefusal (r .kind)) n)
+  unfolding recordRefusal
+  given-refusal n = or-or (rangeRefusal r) (kindRefusal (r .kind)) n ∙ ap (λ (k : ℕ). orElse k (orElse (kindRefusal (r .kind)) n)) (given-range g)
+
 pub text-unwritten : (s comment : List ℕ) → textRefusal (readText s .«record») comment
     ≡ orElse (cond (isExcepted (readText s .«record» .kind) (readText s .«record» .place)) 15 0)
     (orElse (kindRefusal (readText s .«record» .kind)) (overBy most (textBytes (readText s .«record») comment)))
-unfolding textRefusal recordRefusal
-text-unwritten s comment =
-    or-or (rangeRefusal (readText s .«record»)) (kindRefusal (readText s .«record» .kind)) (overBy most (textBytes (readText s .«record») comment))
-    ∙ ap (λ (n : ℕ). orElse n (orElse (kindRefusal (readText s .«record» .kind)) (overBy most (textBytes (readText s .«record») comment)))) (given-range (text-given s))
+unfolding textRefusal
+text-unwritten s comment = given-refusal (text-given s) (overBy most (textBytes (readText s .«record») comment))
 
 -- the same of a frame, where 13 stands before 1
 pub frame-unwritten : (s comment : List ℕ) → frameRefusal (readFrame s .«record») comment
     ≡ orElse (cond (isExcepted (readFrame s .«record» .kind) (readFrame s .«record» .place)) 15 0)
     (orElse (kindRefusal (readFrame s .«record» .kind))
     (orElse (headerFrameRefusal (writtenHeader (readFrame s .«record»))) (overBy most (frameBytes (readFrame s .«record») comment))))
-unfolding frameRefusal recordRefusal
+unfolding frameRefusal
 frame-unwritten s comment =
     let r = readFrame s .«record» in
-    let n = orElse (headerFrameRefusal (writtenHeader r)) (overBy most (frameBytes r comment)) in
-    or-or (rangeRefusal r) (kindRefusal (r .kind)) n ∙ ap (λ (k : ℕ). orElse k (orElse (kindRefusal (r .kind)) n)) (given-range (frame-given s))
+    given-refusal (frame-given s) (orElse (headerFrameRefusal (writtenHeader r)) (overBy most (frameBytes r comment)))
 
 -- ---- "A Mic-E body and destination as written, read by themselves, give back the Mic-E part of the record and the comment
 -- bytes, if latitude is a multiple of the width its blanks leave."

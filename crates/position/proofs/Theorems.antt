@@ -3,7 +3,7 @@
 use mathlib.Core.Path.{_≡_, refl, sym, ap, _∙_}
 use mathlib.Core.Bool.{Bool, true, false, false≢true, cond, _||_}
 use mathlib.Core.List.{List, [], _∷_, _++_, append-assoc}
-use Prim.Native.Nat.{ℕ, _+_, _%_, _≤_}
+use Prim.Native.Nat.{ℕ, _%_, _≤_}
 use native.Mathlib.Omega.{arith}
 use borrow.Author.Tests.{le-leb, le-ltb}
 use lib.Dec.{eqb, ltb}
@@ -53,7 +53,7 @@ module _ (P : PositionRead → Type 0) (s : List ℕ)
       longitude-cases latitude blanks north (read-latitude-found latitude blanks north (take 8 s) e) (readLongitude (take 9 (drop 9 s)) blanks) refl
   latitude-cases lat.Refused e = blank 8 refl
 
-  pub position-cases : P (readPosition s)
+  position-cases : P (readPosition s)
   unfolding readPosition
   position-cases = go (isUncompressed s) (ltb (length s) fixedBytes)
     where

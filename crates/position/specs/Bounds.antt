@@ -13,6 +13,7 @@ use Rattle.position.specs.declared.Bounds.{Bounds}
 use Rattle.position.specs.declared.BoundsAnswer.{BoundsAnswer}
 use Rattle.position.specs.Reach.{inReach}
 
+-- a whole number as a float
 abbrev pub whole : ℕ → Float
 whole n = ofInt binary64 (pos n)
 
@@ -44,9 +45,10 @@ rangeOf center blanks = record {
   upper = add binary64 center (div binary64 (degreeWidth blanks) (whole 2));
 }
 
+-- "Out of range, both give 15 and bounds 0, 0."
 abbrev pub noBounds : BoundsAnswer
 noBounds = record { refusal = 15; bounds = record { lower = whole 0; upper = whole 0 } }
 
--- "Out of range, both give 15 and bounds 0, 0."
+-- the range around an angle on its side
 unfoldable pub boundsOf : ℕ → ℤ → ℕ → BoundsAnswer
 boundsOf most angle blanks = cond (inReach most (natAbs angle) blanks) (record { refusal = 0; bounds = rangeOf (centerOf angle) blanks }) noBounds

@@ -9,9 +9,11 @@ use Rattle.lonlat.specs.Angle.{widthOf}
 use Rattle.position.specs.declared.PageBox.{PageBox}
 use Rattle.position.specs.Reach.{inReach}
 
+-- out of range
 abbrev pub noBox : PageBox
 noBox = record { refusal = 15; from = pos 0; to = pos 0 }
 
+-- in half hundredths, so twice the angle
 unfoldable pub boxOf : ℕ → ℤ → ℕ → PageBox
 boxOf most angle blanks =
     cond (inReach most (natAbs angle) blanks)

@@ -38,6 +38,7 @@ isUncompressed s = isNumeric (getD s 0 0)
 abbrev pub noPlace : Place
 noPlace = record { latitude = record { 0 = pos 0 }; longitude = record { 0 = pos 0 }; blanks = 0; table = 0; code = 0 }
 
+-- a refusal by its number, and nothing else
 abbrev pub refusedPosition : ℕ → PositionRead
 refusedPosition n = record { refusal = n; place = noPlace; north = 0; east = 0 }
 
@@ -71,8 +72,10 @@ placeInRange p = inReach mostLatitude (natAbs (p .latitude .0)) (p .blanks) && i
 unfoldable pub symbolsInRange : Place → Bool
 symbolsInRange p = ltb (p .table) 128 && ltb (p .code) 128
 
+-- 15 for a place or a symbol out of range
 unfoldable pub positionRefusal : Place → ℕ
 positionRefusal p = cond (placeInRange p && symbolsInRange p) 0 15
 
+-- the 19 bytes in front of the comment
 unfoldable pub positionText : Place → List ℕ
 positionText p = latitudeText (p .latitude .0) (p .blanks) ++ (p .table ∷ longitudeText (p .longitude .0) ++ (p .code ∷ []))

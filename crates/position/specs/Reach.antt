@@ -5,5 +5,6 @@ use Prim.Native.Nat.{ℕ}
 use mathlib.Core.Bool.{Bool, _&&_}
 use lib.Dec.{leb}
 
+-- a size of at most `most`, with at most five blanks
 unfoldable pub inReach : ℕ → ℕ → ℕ → Bool
 inReach most size blanks = leb size most && leb blanks 5

@@ -97,9 +97,6 @@ byte-not b at out h = sym (placed-not (b ∷ []) out at (omega arith))
 -- ---- bytes moved to the front, i of them so far
 
 module _ (out : List ℕ) (from to : ℕ) where
-  pub shift-none : leaves 0 out ≡ leaves 0 (take 0 (drop from out) ++ drop 0 out)
-  shift-none = refl
-
   pub shift-back : to < from → leaves 0 out ≡ shifted out from to
   unfolding shifted
   shift-back h = rw (lt-leb from to h)

@@ -12,7 +12,7 @@ use Rattle.fields.specs.declared.Target.the-variants.{Moving}
 use Rattle.fields.specs.declared.Third.{Third}
 use Rattle.fields.specs.declared.Third.the-variants.{Nowhere}
 use Rattle.fields.proofs.Each.{cell-none}
-use Rattle.fields.proofs.Hits.{motion-hit, third-at}
+use Rattle.fields.proofs.Hits.{motion-hit, course-plain, course-round, third-at}
 use borrow.Author.Needs.{needs}
 use Rattle.fields.proofs.third_motion.Statement.{statement}
 use Rattle.fields.proofs.third_motion.Tie as tie
@@ -29,10 +29,9 @@ module _ (s t a b : ℕ) where
   turned k = nowhere (λ c l h. omega arith)
 
   plain : (r : Third) → t ≤ mostCourse → 100 * ((b - 28) % 10) ≤ t → r ≡ thirdAt (hits (Moving s t)) a b (t - 100 * ((b - 28) % 10)) → fieldsOf a b r ≡ cell (hits (Moving s t)) a b
-  unfolding degrees
   plain r m k e =
       ap (fieldsOf a b) e
-      ∙ third-at _ a b _ (λ c l q. let h = motion-hit s t a b c q in ⊎-elim (λ u. omega arith) (λ u. omega arith) (lessIf-split 400 (100 * ((b - 28) % 10) + (c - 28))))
+      ∙ third-at _ a b _ (λ c l q. course-plain s t a b c l (motion-hit s t a b c q) k)
 
   far : t < 100 * ((b - 28) % 10) → t + 400 < 100 * ((b - 28) % 10) → fieldsOf a b Nowhere ≡ cell (hits (Moving s t)) a b
   unfolding degrees
@@ -40,10 +39,9 @@ module _ (s t a b : ℕ) where
 
   round : (r : Third) → t < 100 * ((b - 28) % 10) → 100 * ((b - 28) % 10) ≤ t + 400
       → r ≡ thirdAt (hits (Moving s t)) a b (t + 400 - 100 * ((b - 28) % 10)) → fieldsOf a b r ≡ cell (hits (Moving s t)) a b
-  unfolding degrees
   round r k n e =
       ap (fieldsOf a b) e
-      ∙ third-at _ a b _ (λ c l q. let h = motion-hit s t a b c q in ⊎-elim (λ u. omega arith) (λ u. omega arith) (lessIf-split 400 (100 * ((b - 28) % 10) + (c - 28))))
+      ∙ third-at _ a b _ (λ c l q. course-round s t a b c l (motion-hit s t a b c q) k)
 
 returns : tie.Need-returns
 returns c = search low

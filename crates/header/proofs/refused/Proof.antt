@@ -1,5 +1,5 @@
 -- A refusal. Assumes nothing.
-use Rattle.header.specs.Header.{refusedBy}
+use Rattle.header.specs.Header.{headerRefused}
 use borrow.Author.Needs.{needs}
 use Rattle.header.proofs.refused.Statement.{statement}
 use Rattle.header.proofs.refused.Tie as tie
@@ -8,7 +8,7 @@ blank-requires : tie.Need-blank-requires
 blank-requires c κs = search needs
 
 returns : tie.Need-returns
-unfolding refusedBy
+unfolding headerRefused
 returns c = rw (c .blank .ensures)
 
 pub refused-spec : {M : Type 1} → statement M

@@ -1,7 +1,7 @@
 -- The addresses are built in a scratch array and written with the control pair. Assumes nothing.
 use Rattle.header.proofs.InRange.{route-count}
-use Rattle.header.proofs.Bounds.{range-held}
-use Rattle.header.proofs.Sent.{frame-out, frame-refused, frame-within, frame-prefix, frame-done}
+use Rattle.header.proofs.Bounds.{range-held, frame-out}
+use Rattle.header.proofs.Sent.{frame-refused, frame-within, frame-prefix, frame-done}
 use borrow.Author.Needs.{needs}
 use Rattle.header.proofs.write_frame.Statement.{statement}
 use Rattle.header.proofs.write_frame.Tie as tie

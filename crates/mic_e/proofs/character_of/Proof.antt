@@ -5,7 +5,7 @@ use native.Mathlib.Omega.{arith}
 use Rattle.laws.proofs.Picks.{picks}
 use Rattle.mic_e.specs.Character.{characterOf}
 use Rattle.mic_e.specs.declared.Bit.{Bit}
-use Rattle.mic_e.proofs.Tests.{call-from, call-to}
+use Rattle.mic_e.proofs.Tests.{call-low, call-high}
 use borrow.Author.Needs.{needs}
 use Rattle.mic_e.proofs.character_of.Statement.{statement}
 use Rattle.mic_e.proofs.character_of.Tie as tie
@@ -23,22 +23,22 @@ enum-told-2 : tie.Need-enum-told-2
 enum-told-2 c = search needs
 
 sub-result : tie.Need-sub-result
-sub-result c = search call-from
+sub-result c = search call-low
 
 add-result : tie.Need-add-result
 add-result c =
-    let h : c .before .before .before .before .args .d ≤ 57 = search call-to in
+    let h : c .before .before .before .before .args .d ≤ 57 = search call-high in
     omega arith
 
 enum-told-3 : tie.Need-enum-told-3
 enum-told-3 c = search needs
 
 sub-result-2 : tie.Need-sub-result-2
-sub-result-2 c = search call-from
+sub-result-2 c = search call-low
 
 add-result-2 : tie.Need-add-result-2
 add-result-2 c =
-    let h : c .before .before .before .before .args .d ≤ 57 = search call-to in
+    let h : c .before .before .before .before .args .d ≤ 57 = search call-high in
     omega arith
 
 returns : tie.Need-returns

@@ -1,7 +1,7 @@
 -- `digit_of`: each `return` is a case of `digitOf`. Assumes nothing.
 use Rattle.laws.proofs.Picks.{picks}
 use Rattle.mic_e.specs.Character.{digitOf}
-use Rattle.mic_e.proofs.Tests.{call-from}
+use Rattle.mic_e.proofs.Tests.{call-low}
 use borrow.Author.Needs.{needs}
 use Rattle.mic_e.proofs.digit_of.Statement.{statement}
 use Rattle.mic_e.proofs.digit_of.Tie as tie
@@ -17,7 +17,7 @@ between-requires-2 : tie.Need-between-requires-2
 between-requires-2 c κs = search needs
 
 sub-result : tie.Need-sub-result
-sub-result c = search call-from
+sub-result c = search call-low
 
 add-result : tie.Need-add-result
 add-result c = search needs
@@ -30,7 +30,7 @@ between-requires-3 : tie.Need-between-requires-3
 between-requires-3 c κs = search needs
 
 sub-result-2 : tie.Need-sub-result-2
-sub-result-2 c = search call-from
+sub-result-2 c = search call-low
 
 add-result-2 : tie.Need-add-result-2
 add-result-2 c = search needs

@@ -117,4 +117,38 @@ unfolding messageNumber
 returns-16 c = cc
 
 pub message-number-spec : {M : Type 1} → statement M
-message-number-spec = tie.close (tie.spec enum-told enum-told-2 enum-told-3 enum-told-4 enum-told-5 enum-told-6 enum-told-7 enum-told-8 enum-told-9 enum-told-10 enum-told-11 enum-told-12 enum-told-13 enum-told-14 enum-told-15 enum-told-16 returns returns-2 returns-3 returns-4 returns-5 returns-6 returns-7 returns-8 returns-9 returns-10 returns-11 returns-12 returns-13 returns-14 returns-15 returns-16)
+message-number-spec =
+    tie.close
+    (tie.spec
+    enum-told
+    enum-told-2
+    enum-told-3
+    enum-told-4
+    enum-told-5
+    enum-told-6
+    enum-told-7
+    enum-told-8
+    enum-told-9
+    enum-told-10
+    enum-told-11
+    enum-told-12
+    enum-told-13
+    enum-told-14
+    enum-told-15
+    enum-told-16
+    returns
+    returns-2
+    returns-3
+    returns-4
+    returns-5
+    returns-6
+    returns-7
+    returns-8
+    returns-9
+    returns-10
+    returns-11
+    returns-12
+    returns-13
+    returns-14
+    returns-15
+    returns-16)
