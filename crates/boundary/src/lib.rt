@@ -1,6 +1,7 @@
 // The way in for C and Rust: packets read and written, fields listed, bounds and boxes, as functions of the C ABI over
 // lent bytes, numbers and flat records by value. No function asks more of its caller than its C type says.
 ghost use mathlib.Core.Path.{_≡_};
+ghost use mathlib.Core.Bool.{cond};
 ghost use Rattle.laws.specs.Wrote.{ends, wrote};
 ghost use Rattle.lonlat.specs.Angle.{mostLatitude, mostLongitude};
 ghost use Rattle.position.specs.Bounds.{boundsOf};
@@ -197,12 +198,19 @@ fn stands_for(r: Flat) -> Record
 
 // ---- packets
 
+// Reads a frame where framed, else a line of text. One function, so that it is compiled once and in one piece.
+fn read(s: &[u8], framed: bool) -> FlatRead
+    ensures { λ r. ⌜ r ≡ readOf (cond framed (readFrame (now (s .entry))) (readText (now (s .entry)))) ⌝ }
+{
+    read_of(packet::read(s, framed))
+}
+
 // Reads a line of text: the record, or the number of its first fault and zeros.
 #[no_mangle]
 pub extern "C" fn tusselgro_read_text(line: &[u8]) -> FlatRead
     ensures { λ r. ⌜ r ≡ readOf (readText (now (line .entry))) ⌝ }
 {
-    read_of(packet::read_text(line))
+    read(line, false)
 }
 
 // Reads an AX.25 frame, from its destination to the end of its information: as tusselgro_read_text.
@@ -210,7 +218,7 @@ pub extern "C" fn tusselgro_read_text(line: &[u8]) -> FlatRead
 pub extern "C" fn tusselgro_read_frame(frame: &[u8]) -> FlatRead
     ensures { λ r. ⌜ r ≡ readOf (readFrame (now (frame .entry))) ⌝ }
 {
-    read_of(packet::read_frame(frame))
+    read(frame, true)
 }
 
 // Writes a record and a comment as a line of text; refused with 15, 14, 1 or 16. The record's comment is ignored.

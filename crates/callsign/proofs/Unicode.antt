@@ -54,7 +54,7 @@ unfolding owed
 owed-tails zero = refl
 owed-tails (suc n) = refl
 
-ascii-after : (b : ℕ) → b < 0x80 → after b ≡ []
+pub ascii-after : (b : ℕ) → b < 0x80 → after b ≡ []
 unfolding after within
 ascii-after b h = rw (le-leb 0 b (omega arith), le-leb b 0x7f (omega arith))
 

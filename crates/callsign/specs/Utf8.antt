@@ -4,6 +4,7 @@ use Prim.Native.Nat.{ℕ, zero, suc}
 use mathlib.Core.Bool.{Bool, true, false, cond, _&&_}
 use mathlib.Core.List.{List, [], _∷_}
 use lib.ListN.{replicate}
+use lib.Dec.{ltb}
 use Rattle.laws.specs.Bytes.{within}
 
 -- the lowest and the highest byte of a range
@@ -48,3 +49,7 @@ utf8 l = characters [] l
 unfoldable pub owed : ℕ → ℕ → ℕ → List Span
 owed zero lo hi = []
 owed (suc n) lo hi = (lo, hi) ∷ replicate n tail
+
+-- a byte of ASCII: for the contract of a private function
+abbrev pub ascii : ℕ → Bool
+ascii b = ltb b 0x80

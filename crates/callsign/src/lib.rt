@@ -4,9 +4,9 @@ ghost use mathlib.Core.Path.{_≡_};
 ghost use Prim.Native.Nat.{_≤_, _<_};
 ghost use lib.ListN.{length, take, drop};
 ghost use Rattle.laws.specs.Bytes.{isLetterOrDigit, raised};
-ghost use Rattle.laws.specs.Lists.{padTo, zeros};
+ghost use Rattle.laws.specs.Lists.{every, padTo, zeros};
 ghost use Rattle.laws.specs.Wrote.{ends, wrote};
-ghost use Rattle.callsign.specs.Utf8.{after, owed, utf8};
+ghost use Rattle.callsign.specs.Utf8.{after, ascii, owed, utf8};
 ghost use Rattle.callsign.specs.Text.{callAs, made, blankCall, callRefused, callAccepted, readUnstarred, readText};
 ghost use Rattle.callsign.specs.Range.{inRange, isBlankCall, rangeRefusal, sound, textOf, withStar};
 ghost use Rattle.callsign.specs.Address.{heardOf, lastOf, ssidOf, ssidText, addressRefused, readAddress};
@@ -23,10 +23,10 @@ pub struct Callsign {
 // What reading a text gives: the refusal's number or 0, the callsign, whether a star followed it, and whether its
 // SSID was a lone `0`, which is dropped.
 pub struct CallRead {
-    pub refusal: u8,
     pub call: Callsign,
     pub starred: bool,
     pub zero: bool,
+    pub refusal: u8,
 }
 
 // What reading an address gives: the refusal's number or 0, the callsign, and the two flags of the seventh byte.
@@ -242,26 +242,41 @@ pub fn read_text(s: &[u8]) -> CallRead
 
 // ---- the range, and the text written
 
-// Whether the bytes from n on are zero.
+// Whether the bytes from n on are zero. All sixteen are looked at and no test is left early, so that they are tested at once.
 fn is_spare(text: [u8; 16], n: usize) -> bool
     requires { ⌜ n ≤ 16 ⌝ }
     ensures { λ r. ⌜ r ≡ zeros (drop n text) ⌝ }
 {
-    let mut i = n;
+    let mut fine = true;
+    let mut i: usize = 0;
     while i < 16 {
-        if text[i] != 0 {
-            return false;
-        }
+        fine = fine & ((i < n) | (text[i] == 0));
         i += 1;
     }
-    true
+    fine
 }
 
-// Whether the first n bytes are UTF-8 and the others zero.
+// Whether all sixteen bytes are ASCII, tested at once.
+fn is_ascii(text: [u8; 16]) -> bool
+    ensures { λ r. ⌜ r ≡ every ascii text ⌝ }
+{
+    let mut fine = true;
+    let mut i: usize = 0;
+    while i < 16 {
+        fine = fine & (text[i] < 0x80);
+        i += 1;
+    }
+    fine
+}
+
+// Whether the first n bytes are UTF-8 and the others zero. Nearly all texts are ASCII.
 fn is_sound(text: [u8; 16], n: usize) -> bool
     requires { ⌜ n ≤ 16 ⌝ }
     ensures { λ r. ⌜ r ≡ sound text n ⌝ }
 {
+    if is_ascii(text) {
+        return is_spare(text, n);
+    }
     if is_utf8(&text[..n]) {
         is_spare(text, n)
     } else {

@@ -3,6 +3,7 @@ pub mod Going
 pub mod TextHops
 pub mod Heads
 pub mod Built
+pub mod Calls
 pub mod InRange
 pub mod TextWritten
 pub mod Bounds

@@ -7,7 +7,7 @@ ghost use Prim.Native.Nat.{_+_, _≤_};
 ghost use lib.ListN.{length, take, drop};
 ghost use Rattle.laws.specs.Lists.{every};
 ghost use Rattle.laws.specs.Wrote.{ends, wrote};
-ghost use Rattle.callsign.specs.Range.{inRange, textOf, withStar};
+ghost use Rattle.callsign.specs.Range.{inRange, textLen, textOf, withStar};
 ghost use Rattle.callsign.specs.Packed.{writeAddress};
 ghost use Rattle.header.specs.Header.{blankHop, blankHeader, headerRefused, pathRead, refused};
 ghost use Rattle.header.specs.Text.{fields, isQ, readHop, textHops, carried, carriedBack, withPath, readRoute, readBefore, readTextHeader, hopsText, routeText, headerText};
@@ -41,21 +41,21 @@ pub struct Header {
 // What reading gives: the refusal's number or 0, the header, and the place of the first body byte. At a refusal the header is
 // blank and the place 0.
 pub struct HeaderRead {
-    pub refusal: u8,
     pub header: Header,
     pub body: usize,
+    pub refusal: u8,
 }
 
 // One hop read, or the refusal's number and a blank hop.
 struct HopRead {
-    refusal: u8,
     hop: Hop,
+    refusal: u8,
 }
 
 // Hops read, or the refusal's number and no hops.
 struct PathRead {
-    refusal: u8,
     path: Path,
+    refusal: u8,
 }
 
 // ---- nothing, and refusals
@@ -482,12 +482,38 @@ fn heard_up_to(hops: [Hop; 8], n: usize) -> usize
     last
 }
 
+// How many bytes a callsign in range takes.
+fn text_len(c: Callsign) -> usize
+    requires { ⌜ inRange c ≡ true ⌝ }
+    ensures { λ r. ⌜ r ≡ textLen c ⌝ }
+{
+    let k = c.ssid_len;
+    if k == 0 {
+        return c.call_len;
+    }
+    c.call_len + 1 + k
+}
+
+// Writes a callsign that is in range, which is not judged again.
+fn write_call(c: Callsign, starred: bool, out: &mut [u8]) -> laws::Answer
+    requires { ⌜ inRange c ≡ true ⌝ }
+    ensures { λ r. ⌜ ends r (now (out .exit)) ≡ wrote 0 (withStar (textOf c) starred) (now (out .entry)) ⌝ }
+{
+    let n = text_len(c);
+    let text = c.text;
+    if starred {
+        laws::write_two(17, &text[..n], b"*", out)
+    } else {
+        laws::write(&text[..n], out)
+    }
+}
+
 // Puts a callsign at a place of the text, and answers the place behind it.
 fn put_call(c: Callsign, starred: bool, text: &mut [u8], at: usize) -> usize
     requires { ⌜ (inRange c ≡ true) × (at + length (withStar (textOf c) starred) ≤ length (now text)) ⌝ }
     ensures { λ r. ⌜ filled (now (text .exit)) r ≡ added (filled (now (text .entry)) at) (withStar (textOf c) starred) ⌝ }
 {
-    let w = callsign::write_text(c, starred, &mut text[at..]);
+    let w = write_call(c, starred, &mut text[at..]);
     at + w.reported
 }
 

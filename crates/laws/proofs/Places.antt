@@ -1,18 +1,17 @@
--- Laws of `indexOf` and `zeros`, as loops over a slice and parts of a text cite them.
+-- Laws of `indexOf`, as loops over a slice and parts of a text cite them.
 -- Assumes nothing.
-use mathlib.Core.Path.{_≡_, refl, sym, ap, _∙_}
+use mathlib.Core.Path.{_≡_, refl, ap}
 use mathlib.Core.Bool.{Bool, true, false, cond}
 use mathlib.Core.List.{List, [], _∷_, _++_}
-use Prim.Native.Nat.{ℕ, zero, suc, _+_, _-_, _^_, _<_, _≤_}
+use Prim.Native.Nat.{ℕ, suc, _+_, _-_, _^_, _<_, _≤_}
 use native.Mathlib.Nat.{not-suc-le-zero, le-of-suc-le-suc}
-use native.Mathlib.Numerals.{add-one}
 use native.Mathlib.Omega.{arith}
 use mir.Val.{Fits}
 use mir.Syntax.{w64}
 use lib.Dec.{eqb}
-use borrow.Author.Tests.{eqb-true, eq-eqb, ne-eqb}
-use lib.ListN.{length, take, drop, getD, drop-of-length-le}
-use Rattle.laws.specs.Lists.{indexOf, zeros}
+use borrow.Author.Tests.{eqb-true}
+use lib.ListN.{length, take, drop}
+use Rattle.laws.specs.Lists.{indexOf}
 use Rattle.laws.proofs.Lists.{part-length}
 
 -- ---- the first place of a byte
@@ -57,29 +56,3 @@ module _ (b : ℕ) (t : List ℕ) (d : ℕ) (f : d ≡ indexOf b t) where
 
     pub found-fits : length t < 2 ^ 64 → Fits w64 (d + 1)
     found-fits m = record { fits = omega (arith, index-le b t) }
-
--- ---- zeros
-
-zeros-suc : (l : List ℕ) (i : ℕ) → getD l i 0 ≡ 0 → zeros (drop i l) ≡ zeros (drop (suc i) l)
-unfolding zeros
-zeros-suc [] zero h = refl
-zeros-suc [] (suc i) h = refl
-zeros-suc (x ∷ l) zero h = rw (eq-eqb x 0 h)
-zeros-suc (x ∷ l) (suc i) h = zeros-suc l i h
-
--- a turn of the loop that looks for a byte that is not 0
-pub zeros-more : (b : Bool) (l : List ℕ) (i : ℕ) → getD l i 0 ≡ 0 → b ≡ zeros (drop i l) → b ≡ zeros (drop (i + 1) l)
-zeros-more b l i h e = rw add-one (e ∙ zeros-suc l i h)
-
-zeros-at : (l : List ℕ) (i : ℕ) → (getD l i 0 ≡ 0 → ⊥) → false ≡ zeros (drop i l)
-unfolding zeros
-zeros-at [] i h = absurd (h refl)
-zeros-at (x ∷ l) zero h = rw (ne-eqb x 0 h)
-zeros-at (x ∷ l) (suc i) h = zeros-at l i h
-
-pub zeros-not : (b : Bool) (l : List ℕ) (i : ℕ) → (getD l i 0 ≡ 0 → ⊥) → b ≡ zeros (drop i l) → false ≡ b
-zeros-not b l i h e = zeros-at l i h ∙ sym e
-
-pub zeros-end : (b : Bool) (l : List ℕ) (i : ℕ) → b ≡ zeros (drop i l) → length l ≤ i → true ≡ b
-unfolding zeros
-zeros-end b l i e h = sym (e ∙ rw (drop-of-length-le l h))

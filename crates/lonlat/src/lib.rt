@@ -19,8 +19,8 @@ pub struct Longitude(pub i32);
 
 // An angle taken apart: whether it lies south or west, and its size. 0 does not.
 pub struct Sides {
-    pub minus: bool,
     pub size: u32,
+    pub minus: bool,
 }
 
 // A longitude put together, or the refusal of one past 180 degrees.

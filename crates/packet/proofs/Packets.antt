@@ -1,6 +1,7 @@
 -- Laws of a packet's definitions, one for each answer of the code.
 -- Assumes nothing.
 use mathlib.Core.Path.{_≡_}
+use mathlib.Core.Bool.{Bool, true, false, cond}
 use mathlib.Core.List.{List}
 use Prim.Native.Nat.{ℕ, _-_, _≤_}
 use borrow.Author.Tests.{eq-eqb, ne-eqb}
@@ -71,3 +72,14 @@ module _ (s : List ℕ) (h : HeaderRead) where
   pub frame-read : (r : PacketRead) → h ≡ readFrameHeader s → r ≡ packetAfter h s → r ≡ readFrame s
   unfolding readFrame
   frame-read r e w = rw (← e) w
+
+-- ---- a frame or a line
+
+module _ (s : List ℕ) (h : HeaderRead) where
+  pub either-within : (framed : Bool) → h ≡ cond framed (readFrameHeader s) (readTextHeader s) → h .body ≤ length s
+  either-within true e = frame-within s h e
+  either-within false e = text-within s h e
+
+  pub either-read : (framed : Bool) (r : PacketRead) → h ≡ cond framed (readFrameHeader s) (readTextHeader s) → r ≡ packetAfter h s → r ≡ cond framed (readFrame s) (readText s)
+  either-read true r e w = frame-read s h r e w
+  either-read false r e w = text-read s h r e w

@@ -1,7 +1,7 @@
 -- What each public function promises fixes its result: two results that meet one promise are equal.
 -- Assumes nothing.
 use mathlib.Core.Path.{_≡_}
-use mathlib.Core.Bool.{Bool}
+use mathlib.Core.Bool.{Bool, cond}
 use mathlib.Core.List.{List}
 use Prim.Native.Nat.{ℕ}
 use Rattle.laws.specs.declared.Answer.{Answer}
@@ -16,6 +16,12 @@ use Rattle.packet.specs.Written.{textBytes, frameBytes, textRefusal, fra
 
 pub unique-blank : (r r′ : Record) → r ≡ blankRecord → r′ ≡ blankRecord → r ≡ r′
 unique-blank r r′ = one-value r r′ blankRecord
+
+pub unique-read : (framed : Bool) (s : List ℕ) (r r′ : PacketRead)
+    → r ≡ cond framed (readFrame s) (readText s)
+    → r′ ≡ cond framed (readFrame s) (readText s)
+    → r ≡ r′
+unique-read framed s r r′ = one-value r r′ (cond framed (readFrame s) (readText s))
 
 pub unique-read-text : (s : List ℕ) (r r′ : PacketRead) → r ≡ readText s → r′ ≡ readText s → r ≡ r′
 unique-read-text s r r′ = one-value r r′ (readText s)

@@ -1,5 +1,6 @@
 // A packet: the record of its header and body, read from a line of text or an AX.25 frame, and written as either.
 ghost use mathlib.Core.Path.{_≡_};
+ghost use mathlib.Core.Bool.{cond};
 ghost use Prim.Native.Nat.{_+_, _<_, _≤_, _^_};
 ghost use lib.ListN.{length, take};
 ghost use Rattle.callsign.specs.Text.{blankCall};
@@ -7,6 +8,8 @@ ghost use Rattle.callsign.specs.Range.{callPart};
 ghost use Rattle.position.specs.Position.{noPlace, readPosition, positionRefusal};
 ghost use Rattle.mic_e.specs.Destination.{readDestination};
 ghost use Rattle.mic_e.specs.Information.{readInformation, informationRefusal};
+ghost use Rattle.header.specs.Text.{readTextHeader};
+ghost use Rattle.header.specs.Frame.{readFrameHeader};
 ghost use Rattle.header.specs.Range.{headerInRange};
 ghost use Rattle.laws.specs.Wrote.{ends, wrote};
 ghost use Rattle.packet.specs.Record.{noReport, blankRecord, packetRefused, headerOf};
@@ -39,9 +42,9 @@ pub enum Kind {
 
 // What a Mic-E report adds to a place.
 pub struct Report {
-    pub message: Message,
     pub speed: Speed,
     pub course: Course,
+    pub message: Message,
     pub current: bool,
 }
 
@@ -53,7 +56,6 @@ pub struct Comment {
 
 // A packet by its parts. A part that the kind lacks is zero; a Mic-E record has no destination.
 pub struct Record {
-    pub kind: Kind,
     pub from: Callsign,
     pub to: Callsign,
     pub path: Path,
@@ -61,12 +63,13 @@ pub struct Record {
     pub messaging: bool,
     pub mic_e: Report,
     pub comment: Comment,
+    pub kind: Kind,
 }
 
 // What reading gives: the refusal's number and the blank record, or 0 and the record.
 pub struct PacketRead {
-    pub refusal: u8,
     pub record: Record,
+    pub refusal: u8,
 }
 
 // What a body's first byte says: a type that is not read, a position (messaging or not), a Mic-E report (current or
@@ -80,12 +83,12 @@ enum Opening {
 
 // What a body gives to the record, or the refusal's number.
 struct Body {
-    refusal: u8,
-    kind: Kind,
     place: Place,
     messaging: bool,
     mic_e: Report,
     comment: Comment,
+    refusal: u8,
+    kind: Kind,
 }
 
 // ---- nothing
@@ -332,18 +335,34 @@ fn packet_after(h: HeaderRead, s: &[u8]) -> PacketRead
     packet_of(header, read_body(to, &s[at..], at))
 }
 
-// Reads a line of text: the record, or the number of its first fault and the blank record.
+fn header_in(s: &[u8], framed: bool) -> HeaderRead
+    ensures { λ r. ⌜ r ≡ cond framed (readFrameHeader (now (s .entry))) (readTextHeader (now (s .entry))) ⌝ }
+{
+    if framed {
+        return header::read_frame(s);
+    }
+    header::read_text(s)
+}
+
+// Reads an AX.25 frame where framed, else a line of text: the record, or the number of its first fault and the blank record.
+pub fn read(s: &[u8], framed: bool) -> PacketRead
+    ensures { λ r. ⌜ r ≡ cond framed (readFrame (now (s .entry))) (readText (now (s .entry))) ⌝ }
+{
+    packet_after(header_in(s, framed), s)
+}
+
+// Reads a line of text.
 pub fn read_text(s: &[u8]) -> PacketRead
     ensures { λ r. ⌜ r ≡ readText (now (s .entry)) ⌝ }
 {
-    packet_after(header::read_text(s), s)
+    read(s, false)
 }
 
-// Reads an AX.25 frame, from its destination to the end of its information: as read_text.
+// Reads an AX.25 frame, from its destination to the end of its information.
 pub fn read_frame(s: &[u8]) -> PacketRead
     ensures { λ r. ⌜ r ≡ readFrame (now (s .entry)) ⌝ }
 {
-    packet_after(header::read_frame(s), s)
+    read(s, true)
 }
 
 // ---- the range

@@ -30,10 +30,10 @@ pub struct Place {
 
 // What a position reads as: the refusal's number or 0, the place, and the letters of its angles as they stood.
 pub struct PositionRead {
-    pub refusal: u8,
     pub place: Place,
     pub north: u8,
     pub east: u8,
+    pub refusal: u8,
 }
 
 // A refusal: no place and no letters.
