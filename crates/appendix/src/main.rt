@@ -21,7 +21,7 @@ fn add(i: usize, input: &mut [u8], at: usize) -> usize {
     if most - at < n {
         return most;
     }
-    words::put_byte(b' ', input, at + n)
+    buffer::put_byte(b' ', input, at + n)
 }
 
 // Puts the arguments to the front of input; answers how many bytes they are.
@@ -71,7 +71,7 @@ fn filled(text: &[u8]) -> usize
 
 // Writes the first `used` bytes of out.
 fn flush(out: &[u8], used: usize) {
-    io::write_all(1, words::cut(out, used));
+    io::write_all(1, lines::cut(out, used));
 }
 
 // Writes what is in use where little room is left; answers how many bytes are in use then.
@@ -142,5 +142,5 @@ fn main() {
     let mut input = io::large_buffer();
     let n = gather(&mut input);
     tidy::tidy(&mut input);
-    serve(words::cut(&input, n));
+    serve(lines::cut(&input, n));
 }

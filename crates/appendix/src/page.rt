@@ -26,11 +26,11 @@ fn character(b: u8) -> u8 {
 
 // The first 64 bytes of s, as characters.
 fn characters(s: &[u8], out: &mut [u8], at: usize) -> usize {
-    let s = words::cut(s, 64);
+    let s = lines::cut(s, 64);
     let mut end = at;
     let mut i: usize = 0;
     while i < s.len() {
-        end = words::put_byte(character(s[i]), out, end);
+        end = buffer::put_byte(character(s[i]), out, end);
         i += 1;
     }
     end
@@ -38,11 +38,11 @@ fn characters(s: &[u8], out: &mut [u8], at: usize) -> usize {
 
 // Begins the line for a wrong setting: its number and its text.
 fn wrong(number: usize, text: &[u8], out: &mut [u8], at: usize) -> usize {
-    let end = words::put(b"Setting ", out, at);
-    let end = words::put_count(number, out, end);
-    let end = words::put(b", \"", out, end);
+    let end = buffer::put(b"Setting ", out, at);
+    let end = numbers::put_count(number, out, end);
+    let end = buffer::put(b", \"", out, end);
     let end = characters(text, out, end);
-    words::put(b"\": ", out, end)
+    buffer::put(b"\": ", out, end)
 }
 
 // A setting that a lister refuses.
@@ -55,17 +55,17 @@ fn refused(
     at: usize,
 ) -> usize {
     let end = wrong(number, text, out, at);
-    let end = words::put(b"refused with ", out, end);
-    let end = words::put_count(refusal as usize, out, end);
-    let end = words::put(b", out of range\n  ", out, end);
-    words::put(range, out, end)
+    let end = buffer::put(b"refused with ", out, end);
+    let end = numbers::put_count(refusal as usize, out, end);
+    let end = buffer::put(b", out of range\n  ", out, end);
+    buffer::put(range, out, end)
 }
 
 // A setting whose words are not understood.
 fn unread(number: usize, text: &[u8], expected: &[u8], out: &mut [u8], at: usize) -> usize {
     let end = wrong(number, text, out, at);
-    let end = words::put(b"not understood\n  expected ", out, end);
-    words::put(expected, out, end)
+    let end = buffer::put(b"not understood\n  expected ", out, end);
+    buffer::put(expected, out, end)
 }
 
 // The hundreds and the tens of a byte's decimal, or blanks.
@@ -87,9 +87,9 @@ fn tens(b: u8) -> u8 {
 fn cell(b: u8, k: usize, row: &mut [u8])
     requires { ⌜ k ≤ 2 ⌝ }
 {
-    words::put(&[hundreds(b), tens(b), b'0' + b % 10], row, 4 * k + 2);
-    words::put_hex(b, row, 3 * k + 16);
-    words::put_byte(character(b), row, k + 28);
+    buffer::put(&[hundreds(b), tens(b), b'0' + b % 10], row, 4 * k + 2);
+    numbers::put_hex(b, row, 3 * k + 16);
+    buffer::put_byte(character(b), row, k + 28);
 }
 
 // A row before its bytes: the three columns stand under their headings.
@@ -100,7 +100,7 @@ fn row(a: u8, b: u8, c: u8, out: &mut [u8], at: usize) -> usize {
     cell(a, 0, &mut text);
     cell(b, 1, &mut text);
     cell(c, 2, &mut text);
-    words::put(&text, out, at)
+    buffer::put(&text, out, at)
 }
 
 // The rows of the first `count` fields of found.
@@ -120,38 +120,38 @@ fn rows(found: &[u8], count: usize, out: &mut [u8], at: usize) -> usize {
 
 // The number of fields.
 fn total(count: usize, out: &mut [u8], at: usize) -> usize {
-    let end = words::put_count(count, out, at);
+    let end = numbers::put_count(count, out, at);
     if count == 1 {
-        return words::put(b" field\n", out, end);
+        return buffer::put(b" field\n", out, end);
     }
-    words::put(b" fields\n", out, end)
+    buffer::put(b" fields\n", out, end)
 }
 
 // The table, and the number of fields below it.
 fn table(found: &[u8], count: usize, out: &mut [u8], at: usize) -> usize {
     if count == 0 {
-        return words::put(b"no field: no unit can send this setting\n", out, at);
+        return buffer::put(b"no field: no unit can send this setting\n", out, at);
     }
-    let end = words::put(b"  decimal       hex        characters\n", out, at);
+    let end = buffer::put(b"  decimal       hex        characters\n", out, at);
     let end = rows(found, count, out, end);
     total(count, out, end)
 }
 
 fn unit(knots: u32, out: &mut [u8], at: usize) -> usize {
     if knots == 1 {
-        return words::put(b" knot", out, at);
+        return buffer::put(b" knot", out, at);
     }
-    words::put(b" knots", out, at)
+    buffer::put(b" knots", out, at)
 }
 
 // The heading of a motion.
 fn motion_heading(knots: u32, course: u32, out: &mut [u8], at: usize) -> usize {
-    let end = words::put(b"Motion: ", out, at);
-    let end = words::put_count(knots as usize, out, end);
+    let end = buffer::put(b"Motion: ", out, at);
+    let end = numbers::put_count(knots as usize, out, end);
     let end = unit(knots, out, end);
-    let end = words::put(b", course ", out, end);
-    let end = words::put_count(course as usize, out, end);
-    words::put_byte(b'\n', out, end)
+    let end = buffer::put(b", course ", out, end);
+    let end = numbers::put_count(course as usize, out, end);
+    buffer::put_byte(b'\n', out, end)
 }
 
 // A motion.
@@ -181,21 +181,21 @@ fn motion(
 
 // Degrees and minutes of a text `dddmm.hh`.
 fn degrees(text: &[u8], out: &mut [u8], at: usize) -> usize {
-    let end = words::put(words::cut(text, 3), out, at);
-    let end = words::put_byte(b' ', out, end);
-    words::put(words::tail(text, 3), out, end)
+    let end = buffer::put(lines::cut(text, 3), out, at);
+    let end = buffer::put_byte(b' ', out, end);
+    buffer::put(lines::tail(text, 3), out, end)
 }
 
 // Degrees, minutes and the letter; zero lies on neither side, and has none.
 fn angle(longitude: Longitude, out: &mut [u8], at: usize) -> usize {
     let mut text = [0u8; 9];
     lonlat::write_longitude(longitude, &mut text);
-    let end = degrees(words::cut(&text, 8), out, at);
+    let end = degrees(lines::cut(&text, 8), out, at);
     if longitude.0 == 0 {
         return end;
     }
-    let end = words::put_byte(b' ', out, end);
-    words::put(words::tail(&text, 8), out, end)
+    let end = buffer::put_byte(b' ', out, end);
+    buffer::put(lines::tail(&text, 8), out, end)
 }
 
 fn offset(hundred: bool) -> usize {
@@ -204,9 +204,9 @@ fn offset(hundred: bool) -> usize {
 
 fn direction(west: bool, out: &mut [u8], at: usize) -> usize {
     if west {
-        return words::put(b", west\n", out, at);
+        return buffer::put(b", west\n", out, at);
     }
-    words::put(b", east\n", out, at)
+    buffer::put(b", east\n", out, at)
 }
 
 // The heading of a longitude.
@@ -217,12 +217,12 @@ fn longitude_heading(
     out: &mut [u8],
     at: usize,
 ) -> usize {
-    let end = words::put(b"Longitude: ", out, at);
+    let end = buffer::put(b"Longitude: ", out, at);
     let end = angle(longitude, out, end);
-    let end = words::put(b" (", out, end);
-    let end = words::put_number(longitude.0, out, end);
-    let end = words::put(b" hundredths), offset ", out, end);
-    let end = words::put_count(offset(hundred), out, end);
+    let end = buffer::put(b" (", out, end);
+    let end = numbers::put_number(longitude.0, out, end);
+    let end = buffer::put(b" hundredths), offset ", out, end);
+    let end = numbers::put_count(offset(hundred), out, end);
     direction(west, out, end)
 }
 
@@ -230,12 +230,12 @@ fn longitude_heading(
 fn sides(angle: i32, west: bool, out: &mut [u8], at: usize) -> usize {
     if west {
         if 0 < angle {
-            return words::put(b"the longitude lies east, the direction is west\n", out, at);
+            return buffer::put(b"the longitude lies east, the direction is west\n", out, at);
         }
         return at;
     }
     if angle < 0 {
-        return words::put(b"the longitude lies west, the direction is east\n", out, at);
+        return buffer::put(b"the longitude lies west, the direction is east\n", out, at);
     }
     at
 }
@@ -296,10 +296,10 @@ pub fn part(number: usize, text: &[u8], out: &mut [u8], at: usize) -> usize {
         return at;
     }
     if number == 1 {
-        let end = words::put(&NOTE, out, at);
-        let end = words::put_byte(b'\n', out, end);
+        let end = buffer::put(&NOTE, out, at);
+        let end = buffer::put_byte(b'\n', out, end);
         return answer(number, text, out, end);
     }
-    let end = words::put_byte(b'\n', out, at);
+    let end = buffer::put_byte(b'\n', out, at);
     answer(number, text, out, end)
 }

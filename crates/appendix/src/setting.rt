@@ -5,7 +5,7 @@ use lonlat::Longitude;
 use lonlat::LongitudeMade;
 use mic_e::Course;
 use mic_e::Speed;
-use words::Count;
+use numbers::Count;
 
 // A speed and course; a longitude, whether the offset is 100, and whether the direction is west; or words that are
 // neither, by what they begin with.
@@ -19,7 +19,7 @@ pub enum Setting {
 
 // Digits that stand for a number. One over 99,999,999 counts as that: it is out of range either way.
 fn number(s: &[u8]) -> Count {
-    let read = words::read_count(s, 99999999);
+    let read = numbers::read_count(s, 99999999);
     match read {
         Count::Is(n) => Count::Is(n),
         Count::Over => Count::Is(99999999),
@@ -29,7 +29,7 @@ fn number(s: &[u8]) -> Count {
 
 // `KNOTS COURSE`
 fn motion(s: &[u8]) -> Setting {
-    let read = number(words::first(s));
+    let read = number(lines::first(s));
     let Count::Is(knots) = read else {
         return Setting::BadMotion;
     };
@@ -42,7 +42,7 @@ fn motion(s: &[u8]) -> Setting {
 
 // `0 DIRECTION` or `100 DIRECTION`
 fn offset(angle: Longitude, s: &[u8]) -> Setting {
-    let word = words::first(s);
+    let word = lines::first(s);
     let hundred = check::same(word, b"100");
     if !hundred {
         if !check::same(word, b"0") {
@@ -83,11 +83,11 @@ fn dotted(s: &[u8]) -> Count {
     if s[5] != b'.' {
         return Count::Bad;
     }
-    let read = number(words::cut(s, 5));
+    let read = number(lines::cut(s, 5));
     let Count::Is(whole) = read else {
         return Count::Bad;
     };
-    let read = number(words::tail(s, 6));
+    let read = number(lines::tail(s, 6));
     let Count::Is(hundredths) = read else {
         return Count::Bad;
     };
@@ -113,21 +113,21 @@ fn is_minus(s: &[u8]) -> bool {
 
 // `ANGLE offset OFFSET DIRECTION`
 fn longitude(s: &[u8]) -> Setting {
-    let word = words::first(s);
+    let word = lines::first(s);
     let minus = is_minus(word);
-    let read = size(words::tail(word, minus as usize));
+    let read = size(lines::tail(word, minus as usize));
     let Count::Is(size) = read else {
         return Setting::BadLongitude;
     };
     let s = tidy::rest(s);
-    if check::same(words::first(s), b"offset") {
+    if check::same(lines::first(s), b"offset") {
         return offset(angle(size, minus), tidy::rest(s));
     }
     Setting::BadLongitude
 }
 
 pub fn read(s: &[u8]) -> Setting {
-    let word = words::first(s);
+    let word = lines::first(s);
     if check::same(word, b"motion") {
         return motion(tidy::rest(s));
     }

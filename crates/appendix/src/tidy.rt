@@ -43,11 +43,11 @@ fn used(s: &[u8]) -> usize {
 
 // s without the spaces at either end.
 pub fn bare(s: &[u8]) -> &[u8] {
-    let t = words::cut(s, used(s));
-    words::tail(t, spaces(t))
+    let t = lines::cut(s, used(s));
+    lines::tail(t, spaces(t))
 }
 
 // The words behind the first.
 pub fn rest(s: &[u8]) -> &[u8] {
-    bare(words::rest(s))
+    bare(lines::rest(s))
 }

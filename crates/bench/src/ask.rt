@@ -15,7 +15,7 @@ use packet::PacketRead;
 use packet::Record;
 
 // What a writer wrote to the front of out, or its refusal.
-fn written(w: laws::Answer, out: &mut [u8]) -> usize {
+fn written(w: buffer::Answer, out: &mut [u8]) -> usize {
     if w.refusal != 0 {
         return put::refusal(w.refusal, out);
     }
@@ -60,9 +60,9 @@ fn packed(k: usize, s: &[u8], out: &mut [u8]) -> usize {
 
 // `CALL_LEN SSID_LEN TEXT`: a callsign by its array and lengths, written as text.
 fn spelled(s: &[u8], out: &mut [u8]) -> usize {
-    let rest = words::rest(s);
+    let rest = lines::rest(s);
     let mut text = [0u8; 16];
-    laws::write(words::rest(rest), &mut text);
+    buffer::write(lines::rest(rest), &mut text);
     let c = Callsign {
         text,
         call_len: line::number(s) as usize,
@@ -80,12 +80,12 @@ fn longitude(s: &[u8], out: &mut [u8]) -> usize {
     if 255 < blanks {
         return 0;
     }
-    show::longitude(lonlat::read_longitude(words::rest(s), blanks as u8), out)
+    show::longitude(lonlat::read_longitude(lines::rest(s), blanks as u8), out)
 }
 
 // `ANGLE BLANKS`
 fn latitude_text(s: &[u8], out: &mut [u8]) -> usize {
-    let blanks = line::number(words::rest(s));
+    let blanks = line::number(lines::rest(s));
     if 255 < blanks {
         return 0;
     }
@@ -103,11 +103,11 @@ fn longitude_text(s: &[u8], out: &mut [u8]) -> usize {
 
 // `LONGITUDE SPEED COURSE`, with the symbol `/>`: the bytes in decimal.
 fn information(s: &[u8], out: &mut [u8]) -> usize {
-    let speed = words::rest(s);
+    let speed = lines::rest(s);
     let i = Information {
         longitude: Longitude(line::signed(s)),
         speed: Speed(line::number(speed)),
-        course: Course(line::number(words::rest(speed))),
+        course: Course(line::number(lines::rest(speed))),
         code: b'>',
         table: b'/',
     };
@@ -120,7 +120,7 @@ fn information(s: &[u8], out: &mut [u8]) -> usize {
 }
 
 // A lister's count and fields, or the refusal and the bytes needed.
-fn listed(w: laws::Answer, bytes: &[u8], out: &mut [u8]) -> usize {
+fn listed(w: buffer::Answer, bytes: &[u8], out: &mut [u8]) -> usize {
     if w.refusal != 0 {
         let end = put::refusal(w.refusal, out);
         return put::counts(&[w.needed], out, end);
@@ -128,21 +128,21 @@ fn listed(w: laws::Answer, bytes: &[u8], out: &mut [u8]) -> usize {
     if 40 < w.reported {
         return 0;
     }
-    let end = words::put_count(w.reported, out, 0);
-    put::fields(words::cut(bytes, 3 * w.reported), out, end)
+    let end = numbers::put_count(w.reported, out, 0);
+    put::fields(lines::cut(bytes, 3 * w.reported), out, end)
 }
 
 // `SPEED COURSE`
 fn motions(s: &[u8], out: &mut [u8]) -> usize {
     let speed = line::number(s);
-    let course = line::number(words::rest(s));
+    let course = line::number(lines::rest(s));
     let mut bytes = [0u8; 120];
     let w = fields::list_motion(Speed(speed), Course(course), &mut bytes);
     listed(w, &bytes, out)
 }
 
 // The fields of a longitude under offset 100, east, in the first `room` bytes of a buffer.
-fn longitudes_in(angle: i32, room: usize, bytes: &mut [u8]) -> laws::Answer {
+fn longitudes_in(angle: i32, room: usize, bytes: &mut [u8]) -> buffer::Answer {
     if room <= bytes.len() {
         return fields::list_longitude(Longitude(angle), true, false, &mut bytes[..room]);
     }
@@ -151,7 +151,7 @@ fn longitudes_in(angle: i32, room: usize, bytes: &mut [u8]) -> laws::Answer {
 
 // `ANGLE ROOM`
 fn longitudes(s: &[u8], out: &mut [u8]) -> usize {
-    let room = line::number(words::rest(s)) as usize;
+    let room = line::number(lines::rest(s)) as usize;
     let mut bytes = [0u8; 120];
     let w = longitudes_in(line::signed(s), room, &mut bytes);
     listed(w, &bytes, out)
@@ -178,11 +178,11 @@ fn read(frame: bool, s: &[u8], out: &mut [u8]) -> usize {
 
 // The comment at a place of s.
 fn comment(place: Comment, s: &[u8]) -> &[u8] {
-    words::cut(words::tail(s, place.at), place.len)
+    lines::cut(lines::tail(s, place.at), place.len)
 }
 
 // A record written as a frame, or as a line.
-fn write(frame: bool, r: Record, comment: &[u8], out: &mut [u8]) -> laws::Answer {
+fn write(frame: bool, r: Record, comment: &[u8], out: &mut [u8]) -> buffer::Answer {
     if frame {
         return packet::write_frame(r, comment, out);
     }
@@ -206,12 +206,12 @@ fn as_frame(s: &[u8], out: &mut [u8]) -> usize {
     if w.refusal != 0 {
         return put::refusal(w.refusal, out);
     }
-    put::hex(words::cut(&bytes, w.reported), out)
+    put::hex(lines::cut(&bytes, w.reported), out)
 }
 
 // `NUMBER LINE`: the row of the listing, without its LF.
 fn row(s: &[u8], out: &mut [u8]) -> usize {
-    capture::write_row(line::number(s) as usize, words::rest(s), out);
+    row::write_row(line::number(s) as usize, lines::rest(s), out);
     laws::find(out, b'\n')
 }
 
@@ -225,7 +225,7 @@ fn again(frame: bool, r: Record, s: &[u8], out: &mut [u8], at: usize) -> usize {
     if w.refusal != 0 {
         return put::plain(b"refused", out, at);
     }
-    let got = words::cut(&bytes, w.reported);
+    let got = lines::cut(&bytes, w.reported);
     if check::same(got, s) {
         return put::plain(b"=", out, at);
     }
@@ -236,7 +236,7 @@ fn again(frame: bool, r: Record, s: &[u8], out: &mut [u8], at: usize) -> usize {
 fn replayed(frame: bool, s: &[u8], out: &mut [u8]) -> usize {
     let r = packet_of(frame, s);
     if r.refusal != 0 {
-        return words::put(b"refused", out, 0);
+        return buffer::put(b"refused", out, 0);
     }
     let record = r.record;
     let mut end = show::record(record, out);
@@ -277,7 +277,7 @@ fn of_packets(k: usize, s: &[u8], out: &mut [u8]) -> usize {
         19 => as_frame(s, out),
         20 => as_text(true, s, out),
         21 => row(s, out),
-        _ => words::put(b"no such question", out, 0),
+        _ => buffer::put(b"no such question", out, 0),
     }
 }
 
@@ -296,10 +296,10 @@ fn place(word: &[u8], list: &[u8]) -> usize {
     let mut t = list;
     let mut k: usize = 0;
     while k < 255 {
-        if check::same(words::first(t), word) {
+        if check::same(lines::first(t), word) {
             return k;
         }
-        let next = words::rest(t);
+        let next = lines::rest(t);
         t = next;
         k += 1;
     }
@@ -318,10 +318,10 @@ fn place(word: &[u8], list: &[u8]) -> usize {
 //   T LINE, F BYTES                      read, and written both ways: a recorded answer
 pub fn answer(question: &[u8], out: &mut [u8]) -> usize {
     let k = place(
-        words::first(question),
+        lines::first(question),
         b"callsign address to from last-from last-hop spelled latitude longitude latitude-text longitude-text information motions longitudes T F text frame text-text text-frame frame-text row",
     );
     let mut input = io::buffer();
-    let n = line::bytes(words::rest(question), &mut input);
-    asked(k, words::cut(&input, n), out)
+    let n = line::bytes(lines::rest(question), &mut input);
+    asked(k, lines::cut(&input, n), out)
 }

@@ -1,11 +1,11 @@
 // A line of the table: the arrow in it, the numbers that its words mean, and the bytes that they stand for.
 ghost use Prim.Native.Nat.{_≤_};
-use words::Count;
-use words::Number;
+use numbers::Count;
+use numbers::Number;
 
 // Whether s starts with t.
 pub fn starts(s: &[u8], t: &[u8]) -> bool {
-    check::same(words::cut(s, t.len()), t)
+    check::same(lines::cut(s, t.len()), t)
 }
 
 // The place of the arrow between what is asked and what the answer should be, or the length where there is none.
@@ -22,7 +22,7 @@ pub fn arrow(s: &[u8]) -> usize {
 
 // The number that the first word of s means; 0 for a word that means none.
 pub fn number(s: &[u8]) -> u32 {
-    let read = words::read_count(words::first(s), 0xffff_ffff);
+    let read = numbers::read_count(lines::first(s), 0xffff_ffff);
     match read {
         Count::Is(n) => n,
         Count::Over => 0xffff_ffff,
@@ -32,7 +32,7 @@ pub fn number(s: &[u8]) -> u32 {
 
 // The same with a sign; one past 180 degrees for a word that means none.
 pub fn signed(s: &[u8]) -> i32 {
-    let read = words::read_number(words::first(s));
+    let read = numbers::read_number(lines::first(s));
     match read {
         Number::Is(n) => n,
         Number::Bad => 2000000,
@@ -68,7 +68,7 @@ fn meant(s: &[u8]) -> u8 {
     if s.len() < 3 {
         return 0;
     }
-    joined(words::hex_value(s[1]), words::hex_value(s[2]))
+    joined(numbers::hex_value(s[1]), numbers::hex_value(s[2]))
 }
 
 // Puts the bytes that s stands for to the front of out: `%` and two hexadecimal digits for one of any value, another
@@ -77,8 +77,8 @@ pub fn bytes(s: &[u8], out: &mut [u8]) -> usize {
     let mut t = s;
     let mut n: usize = 0;
     while 0 < t.len() {
-        n = words::put_byte(meant(t), out, n);
-        let next = words::tail(t, width(t[0]));
+        n = buffer::put_byte(meant(t), out, n);
+        let next = lines::tail(t, width(t[0]));
         t = next;
     }
     n

@@ -10,7 +10,7 @@ use tell::Tally;
 
 // What a line's answer should be.
 fn wanted(s: &[u8]) -> &[u8] {
-    words::tail(words::tail(s, line::arrow(s)), 4)
+    lines::tail(lines::tail(s, line::arrow(s)), 4)
 }
 
 // Whether a line is a recorded answer.
@@ -23,10 +23,10 @@ fn is_recorded(s: &[u8]) -> bool {
 
 // Asks what one line asks, and compares.
 fn compare(t: Tally, s: &[u8], out: &mut [u8]) -> Tally {
-    let question = words::cut(s, line::arrow(s));
+    let question = lines::cut(s, line::arrow(s));
     let mut got = io::buffer();
     let n = ask::answer(question, &mut got);
-    let is = words::cut(&got, n);
+    let is = lines::cut(&got, n);
     if check::same(is, wanted(s)) {
         return tell::right(t, question, is_recorded(s), out);
     }
@@ -68,7 +68,7 @@ fn serve(tally: Tally, input: &[u8], out: &mut [u8]) -> Step {
                 done: from,
             };
         }
-        t = take(t, words::cut(rest, n), out);
+        t = take(t, lines::cut(rest, n), out);
         from += n + 1;
     }
     Step {
@@ -106,9 +106,9 @@ fn run(input: &mut [u8], out: &mut [u8]) -> Step {
         if now == held {
             break;
         }
-        let step = serve(t, words::cut(input, now), out);
+        let step = serve(t, lines::cut(input, now), out);
         t = step.tally;
-        held = words::shift(input, step.done, now);
+        held = buffer::shift(input, step.done, now);
     }
     Step {
         tally: t,
@@ -121,6 +121,6 @@ fn main() {
     let mut out = io::large_buffer();
     let step = run(&mut input, &mut out);
     let t = step.tally;
-    let t = take(t, words::cut(&input, step.done), &mut out);
+    let t = take(t, lines::cut(&input, step.done), &mut out);
     tell::totals(t, &mut out);
 }

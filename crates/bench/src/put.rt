@@ -6,13 +6,13 @@ pub fn gap(out: &mut [u8], at: usize) -> usize {
     if at == 0 {
         return 0;
     }
-    words::put_byte(b' ', out, at)
+    buffer::put_byte(b' ', out, at)
 }
 
 // A number that may have a sign.
 pub fn number(n: i32, out: &mut [u8], at: usize) -> usize {
     let end = gap(out, at);
-    words::put_number(n, out, end)
+    numbers::put_number(n, out, end)
 }
 
 // Numbers, a word each.
@@ -21,7 +21,7 @@ pub fn counts(ns: &[usize], out: &mut [u8], at: usize) -> usize {
     let mut i: usize = 0;
     while i < ns.len() {
         end = gap(out, end);
-        end = words::put_count(ns[i], out, end);
+        end = numbers::put_count(ns[i], out, end);
         i += 1;
     }
     end
@@ -32,12 +32,12 @@ fn escaped(b: u8, out: &mut [u8], at: usize) -> usize {
     if b'!' <= b {
         if b <= b'~' {
             if b != b'%' {
-                return words::put_byte(b, out, at);
+                return buffer::put_byte(b, out, at);
             }
         }
     }
-    let end = words::put_byte(b'%', out, at);
-    words::put_hex(b, out, end)
+    let end = buffer::put_byte(b'%', out, at);
+    numbers::put_hex(b, out, end)
 }
 
 // Bytes, each escaped, without a space before them.
@@ -63,7 +63,7 @@ pub fn hex(s: &[u8], out: &mut [u8]) -> usize {
     let mut i: usize = 0;
     while i < s.len() {
         end = gap(out, end);
-        end = words::put_hex(s[i], out, end);
+        end = numbers::put_hex(s[i], out, end);
         i += 1;
     }
     end
@@ -74,7 +74,7 @@ pub fn lead(first: bool, out: &mut [u8], at: usize) -> usize {
     if first {
         return gap(out, at);
     }
-    words::put_byte(b',', out, at)
+    buffer::put_byte(b',', out, at)
 }
 
 fn wide(b: u8) -> usize {
@@ -87,7 +87,7 @@ pub fn fields(s: &[u8], out: &mut [u8], at: usize) -> usize {
     let mut i: usize = 0;
     while i < s.len() {
         end = lead(i % 3 == 0, out, end);
-        end = words::put_count(wide(s[i]), out, end);
+        end = numbers::put_count(wide(s[i]), out, end);
         i += 1;
     }
     end
@@ -95,6 +95,6 @@ pub fn fields(s: &[u8], out: &mut [u8], at: usize) -> usize {
 
 // A refusal by its number, at the front of out.
 pub fn refusal(n: u8, out: &mut [u8]) -> usize {
-    let end = words::put(b"refused", out, 0);
+    let end = buffer::put(b"refused", out, 0);
     counts(&[n as usize], out, end)
 }

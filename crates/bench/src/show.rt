@@ -15,9 +15,9 @@ use position::Place;
 
 // A callsign's text, without a space before it.
 fn call(c: Callsign, out: &mut [u8], at: usize) -> usize {
-    let n = capture::text_len(c);
+    let n = row::text_len(c);
     let text = c.text;
-    put::bytes(words::cut(&text, n), out, at)
+    put::bytes(lines::cut(&text, n), out, at)
 }
 
 fn call_or_refusal(refusal: u8, c: Callsign, out: &mut [u8]) -> usize {
@@ -36,7 +36,7 @@ pub fn called(refusal: u8, c: Callsign, flags: [usize; 2], out: &mut [u8]) -> us
 fn hop(h: Hop, out: &mut [u8], at: usize) -> usize {
     let mark = if h.heard { b'+' } else { b'-' };
     let c = h.call;
-    let end = words::put_byte(mark, out, at);
+    let end = buffer::put_byte(mark, out, at);
     call(c, out, end)
 }
 
@@ -93,17 +93,17 @@ pub fn longitude(r: LongitudeRead, out: &mut [u8]) -> usize {
 
 fn kind(k: Kind, out: &mut [u8]) -> usize {
     match k {
-        Kind::Unknown => words::put(b"unknown", out, 0),
-        Kind::Position => words::put(b"position", out, 0),
-        Kind::MicE => words::put(b"mic-e", out, 0),
+        Kind::Unknown => buffer::put(b"unknown", out, 0),
+        Kind::Position => buffer::put(b"position", out, 0),
+        Kind::MicE => buffer::put(b"mic-e", out, 0),
     }
 }
 
 // Two letters for a message: `Em` is emergency, `Un` unknown.
 fn message(m: Message, out: &mut [u8], at: usize) -> usize {
     let n = mic_e::message_number(m) as usize;
-    let names = words::tail(b"M0M1M2M3M4M5M6C0C1C2C3C4C5C6EmUn", 2 * n);
-    put::plain(words::cut(names, 2), out, at)
+    let names = lines::tail(b"M0M1M2M3M4M5M6C0C1C2C3C4C5C6EmUn", 2 * n);
+    put::plain(lines::cut(names, 2), out, at)
 }
 
 // `KIND FROM TO HOPS`

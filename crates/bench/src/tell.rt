@@ -9,7 +9,7 @@ pub struct Tally {
 
 // Writes the first `used` bytes of out.
 pub fn flush(out: &[u8], used: usize) {
-    io::write_all(1, words::cut(out, used));
+    io::write_all(1, lines::cut(out, used));
 }
 
 // Where the next line goes: behind the first `used` bytes, or, where little room is left, at the front once those are
@@ -27,9 +27,9 @@ fn ready(out: &[u8], used: usize) -> usize {
 // A line of two parts.
 pub fn line(first: &[u8], second: &[u8], out: &mut [u8], used: usize) -> usize {
     let from = ready(out, used);
-    let mut end = words::put(first, out, from);
-    end = words::put(second, out, end);
-    words::put_byte(b'\n', out, end)
+    let mut end = buffer::put(first, out, from);
+    end = buffer::put(second, out, end);
+    buffer::put_byte(b'\n', out, end)
 }
 
 // One more.
@@ -67,10 +67,10 @@ pub fn wrong(t: Tally, s: &[u8], got: &[u8], out: &mut [u8]) -> Tally {
 }
 
 fn sum(right: usize, all: usize, out: &mut [u8], at: usize) -> usize {
-    let mut end = words::put_count(right, out, at);
-    end = words::put(b" of ", out, end);
-    end = words::put_count(all, out, end);
-    words::put(b" as they should be\n", out, end)
+    let mut end = numbers::put_count(right, out, at);
+    end = buffer::put(b" of ", out, end);
+    end = numbers::put_count(all, out, end);
+    buffer::put(b" as they should be\n", out, end)
 }
 
 // The last line, and all that is not written yet.

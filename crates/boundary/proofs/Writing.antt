@@ -6,9 +6,9 @@ use mathlib.Core.List.{List}
 use Prim.Native.Nat.{ℕ}
 use native.Mathlib.Omega.{arith}
 use borrow.Author.Tests.{not-true, not-false}
-use Rattle.laws.specs.declared.Answer.{Answer}
-use Rattle.laws.specs.Wrote.{Wrote, ends, refusedBy, wrote}
-use Rattle.laws.proofs.Wrote.{passed-on}
+use Rattle.buffer.specs.declared.Answer.{Answer}
+use Rattle.buffer.specs.Wrote.{Wrote, ends, refusedBy, wrote}
+use Rattle.buffer.proofs.Wrote.{passed-on}
 use Rattle.packet.specs.declared.Record.{Record}
 use Rattle.packet.specs.Written.{textRefusal, frameRefusal, textBytes, frameBytes}
 use Rattle.boundary.specs.declared.Flat.{Flat}

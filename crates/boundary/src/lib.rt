@@ -2,7 +2,7 @@
 // lent bytes, numbers and flat records by value. No function asks more of its caller than its C type says.
 ghost use mathlib.Core.Path.{_≡_};
 ghost use mathlib.Core.Bool.{cond};
-ghost use Rattle.laws.specs.Wrote.{ends, wrote};
+ghost use Rattle.buffer.specs.Wrote.{ends, wrote};
 ghost use Rattle.lonlat.specs.Angle.{mostLatitude, mostLongitude};
 ghost use Rattle.position.specs.Bounds.{boundsOf};
 ghost use Rattle.position.specs.Page.{boxOf};
@@ -223,22 +223,22 @@ pub extern "C" fn tusselgro_read_frame(frame: &[u8]) -> FlatRead
 
 // Writes a record and a comment as a line of text; refused with 15, 14, 1 or 16. The record's comment is ignored.
 #[no_mangle]
-pub extern "C" fn tusselgro_write_text(r: Flat, comment: &[u8], out: &mut [u8]) -> laws::Answer
+pub extern "C" fn tusselgro_write_text(r: Flat, comment: &[u8], out: &mut [u8]) -> buffer::Answer
     ensures { λ a. ⌜ ends a (now (out .exit)) ≡ wrote (flatTextRefusal r (now (comment .entry))) (textBytes (standsFor r) (now (comment .entry))) (now (out .entry)) ⌝ }
 {
     if !is_known(r) {
-        return laws::refused(15);
+        return buffer::refused(15);
     }
     packet::write_text(stands_for(r), comment, out)
 }
 
 // Writes a record and a comment as an AX.25 frame; refused with 15, 14, 13, 1 or 16. The record's comment is ignored.
 #[no_mangle]
-pub extern "C" fn tusselgro_write_frame(r: Flat, comment: &[u8], out: &mut [u8]) -> laws::Answer
+pub extern "C" fn tusselgro_write_frame(r: Flat, comment: &[u8], out: &mut [u8]) -> buffer::Answer
     ensures { λ a. ⌜ ends a (now (out .exit)) ≡ wrote (flatFrameRefusal r (now (comment .entry))) (frameBytes (standsFor r) (now (comment .entry))) (now (out .entry)) ⌝ }
 {
     if !is_known(r) {
-        return laws::refused(15);
+        return buffer::refused(15);
     }
     packet::write_frame(stands_for(r), comment, out)
 }
@@ -247,7 +247,7 @@ pub extern "C" fn tusselgro_write_frame(r: Flat, comment: &[u8], out: &mut [u8])
 
 // All the Mic-E fields that read as that speed and course, in ascending order; or 15 or 16.
 #[no_mangle]
-pub extern "C" fn tusselgro_list_motion(speed: u32, course: u32, out: &mut [u8]) -> laws::Answer
+pub extern "C" fn tusselgro_list_motion(speed: u32, course: u32, out: &mut [u8]) -> buffer::Answer
     ensures { λ r. ⌜ ends r (now (out .exit)) ≡ listed (motionRefusal speed course) (motionFields speed course) (now (out .entry)) ⌝ }
 {
     fields::list_motion(Speed(speed), Course(course), out)
@@ -260,7 +260,7 @@ pub extern "C" fn tusselgro_list_longitude(
     hundred: bool,
     west: bool,
     out: &mut [u8],
-) -> laws::Answer
+) -> buffer::Answer
     ensures { λ r. ⌜ ends r (now (out .exit)) ≡ listed (longitudeRefusal longitude) (longitudeFields hundred west longitude) (now (out .entry)) ⌝ }
 {
     fields::list_longitude(Longitude(longitude), hundred, west, out)

@@ -6,9 +6,10 @@ use mathlib.Core.List.{List}
 use Prim.Native.Nat.{ℕ}
 use lib.ListN.{take}
 use Rattle.laws.specs.Bytes.{isLetterOrDigit, raised}
-use Rattle.laws.specs.Wrote.{ends, wrote}
-use Rattle.laws.specs.declared.Answer.{Answer}
-use Rattle.laws.proofs.Wrote.{one-value, one-end}
+use Rattle.buffer.specs.Wrote.{ends, wrote}
+use Rattle.buffer.specs.declared.Answer.{Answer}
+use Rattle.laws.proofs.Unique.{one-value}
+use Rattle.buffer.proofs.Wrote.{one-end}
 use Rattle.callsign.specs.declared.Callsign.{Callsign}
 use Rattle.callsign.specs.declared.CallRead.{CallRead}
 use Rattle.callsign.specs.declared.AddressRead.{AddressRead}

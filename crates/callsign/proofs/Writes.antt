@@ -9,9 +9,9 @@ use borrow.Author.Tests.{not-true}
 use lib.ListN.{length, take, length-append}
 use lib.Seq.{length-take-le}
 use Rattle.laws.specs.Bytes.{star}
-use Rattle.laws.specs.Wrote.{Wrote, ends, refusedBy, overBy, wrote}
-use Rattle.laws.specs.declared.Answer.{Answer}
-use Rattle.laws.proofs.Wrote.{not-over, passed-on}
+use Rattle.buffer.specs.Wrote.{Wrote, ends, refusedBy, overBy, wrote}
+use Rattle.buffer.specs.declared.Answer.{Answer}
+use Rattle.buffer.proofs.Wrote.{not-over, passed-on}
 use Rattle.callsign.specs.declared.Callsign.{Callsign}
 use Rattle.callsign.specs.Range.{textLen, inRange, rangeRefusal, textOf, withStar}
 use Rattle.callsign.proofs.Ranges.{bare-length, full-length, found-in-range, text-in-use, accepted, rejected}

@@ -5,7 +5,7 @@ ghost use Prim.Native.Nat.{_≤_, _<_};
 ghost use lib.ListN.{length, take, drop};
 ghost use Rattle.laws.specs.Bytes.{isLetterOrDigit, raised};
 ghost use Rattle.laws.specs.Lists.{every, padTo, zeros};
-ghost use Rattle.laws.specs.Wrote.{ends, wrote};
+ghost use Rattle.buffer.specs.Wrote.{ends, wrote};
 ghost use Rattle.callsign.specs.Utf8.{after, ascii, owed, utf8};
 ghost use Rattle.callsign.specs.Text.{callAs, made, blankCall, callRefused, callAccepted, readUnstarred, readText};
 ghost use Rattle.callsign.specs.Range.{inRange, isBlankCall, rangeRefusal, sound, textOf, withStar};
@@ -328,23 +328,23 @@ pub fn in_range(c: Callsign) -> bool
 }
 
 // Writes the first n bytes of text, and a star where starred.
-fn write_starred(text: [u8; 16], n: usize, starred: bool, out: &mut [u8]) -> laws::Answer
+fn write_starred(text: [u8; 16], n: usize, starred: bool, out: &mut [u8]) -> buffer::Answer
     requires { ⌜ n ≤ 16 ⌝ }
     ensures { λ r. ⌜ ends r (now (out .exit)) ≡ wrote 0 (withStar (take n text) starred) (now (out .entry)) ⌝ }
 {
     if starred {
-        laws::write_two(17, &text[..n], b"*", out)
+        buffer::write_two(17, &text[..n], b"*", out)
     } else {
-        laws::write(&text[..n], out)
+        buffer::write(&text[..n], out)
     }
 }
 
 // Writes a callsign as text, with a star after it where starred; refused with 15 or 16.
-pub fn write_text(c: Callsign, starred: bool, out: &mut [u8]) -> laws::Answer
+pub fn write_text(c: Callsign, starred: bool, out: &mut [u8]) -> buffer::Answer
     ensures { λ r. ⌜ ends r (now (out .exit)) ≡ wrote (rangeRefusal c) (withStar (textOf c) starred) (now (out .entry)) ⌝ }
 {
     if !in_range(c) {
-        return laws::refused(15);
+        return buffer::refused(15);
     }
     let k = c.ssid_len;
     let text = c.text;

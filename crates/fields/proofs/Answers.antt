@@ -9,9 +9,9 @@ use lib.Dec.{ltb}
 use lib.ListN.{length, take, drop, replicate}
 use lib.Seq.{sets, sets-eq, take-at}
 use borrow.Author.Tests.{le-ltb}
-use Rattle.laws.specs.Wrote.{Wrote, ends, refusedBy, noRoom, doneBy, wrote, wroteAs}
-use Rattle.laws.specs.declared.Answer.{Answer}
-use Rattle.laws.proofs.Wrote.{refused-as}
+use Rattle.buffer.specs.Wrote.{Wrote, ends, refusedBy, noRoom, doneBy, wrote, wroteAs}
+use Rattle.buffer.specs.declared.Answer.{Answer}
+use Rattle.buffer.proofs.Wrote.{refused-as}
 use Rattle.mic_e.specs.declared.Field.{Field}
 use Rattle.fields.specs.Each.{flat}
 use Rattle.fields.specs.Lists.{listed}

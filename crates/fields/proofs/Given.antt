@@ -11,7 +11,7 @@ use lib.Dec.{ltb, leb}
 use lib.IntN.{pos}
 use lib.ListN.{length}
 use borrow.Author.Tests.{le-leb, lt-ltb}
-use Rattle.lonlat.specs.Angle.{signedOf, isMinus}
+use Rattle.numbers.specs.Sign.{signedOf, isMinus}
 use Rattle.mic_e.specs.Turn.{lessIf}
 use Rattle.mic_e.specs.Motion.{knots, degrees, readMotion}
 use Rattle.mic_e.specs.Longitude.{offsetOf, wrapped, sizeOf, readLongitude}

@@ -9,7 +9,7 @@ use lib.Dec.{ltb, leb, eqb}
 use lib.IntN.{ℤ, pos, negsuc, natAbs}
 use borrow.Author.Tests.{eqb-true, eq-eqb, ltb-true, ltb-false, leb-true, leb-false}
 use Rattle.laws.proofs.Tests.{bool-cases, and-both}
-use Rattle.lonlat.specs.Angle.{signedOf}
+use Rattle.numbers.specs.Sign.{signedOf}
 use Rattle.mic_e.specs.Motion.{degrees, readMotion}
 use Rattle.mic_e.specs.Longitude.{offsetOf, sizeOf, readLongitude}
 use Rattle.mic_e.specs.declared.Motion.{Motion}

@@ -6,8 +6,8 @@ use mathlib.Core.List.{[]}
 use Prim.Native.Nat.{ℕ, zero, suc}
 use lib.Dec.{eqb, eqb·suc-zero}
 use lib.IntN.{ℤ, pos, negsuc, natAbs}
-use Rattle.lonlat.specs.Angle.{signedOf, isMinus}
-use Rattle.lonlat.proofs.Angle.{size-signed}
+use Rattle.numbers.specs.Sign.{signedOf, isMinus}
+use Rattle.numbers.proofs.Sign.{size-signed}
 use Rattle.mic_e.specs.Longitude.{offsetOf, sizeOf, readLongitude}
 use Rattle.mic_e.proofs.LongitudeFacts.{Lies, reads-lies, lies-reads}
 use Rattle.fields.specs.Each.{allFields}

@@ -10,7 +10,8 @@ use native.Mathlib.Omega.{arith}
 use lib.ListN.{length}
 use lib.IntN.{ℤ, natAbs}
 use Rattle.laws.proofs.Tests.{bool-cases}
-use Rattle.lonlat.specs.Angle.{mostLongitude, isMinus}
+use Rattle.lonlat.specs.Angle.{mostLongitude}
+use Rattle.numbers.specs.Sign.{isMinus}
 use Rattle.mic_e.specs.Motion.{mostSpeed, mostCourse, readMotion, motionField}
 use Rattle.mic_e.specs.Longitude.{readLongitude, hundredOf, longitudeField}
 use Rattle.mic_e.specs.declared.Field.{Field}

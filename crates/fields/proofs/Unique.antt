@@ -5,9 +5,9 @@ use mathlib.Core.Bool.{Bool}
 use mathlib.Core.List.{List}
 use Prim.Native.Nat.{ℕ}
 use lib.IntN.{ℤ}
-use Rattle.laws.specs.Wrote.{ends}
-use Rattle.laws.specs.declared.Answer.{Answer}
-use Rattle.laws.proofs.Wrote.{one-end}
+use Rattle.buffer.specs.Wrote.{ends}
+use Rattle.buffer.specs.declared.Answer.{Answer}
+use Rattle.buffer.proofs.Wrote.{one-end}
 use Rattle.fields.specs.Lists.{listed, motionFields, motionRefusal, longitudeFields, longitudeRefusal}
 
 module _ (r r′ : Answer) (o o′ out : List ℕ) where

@@ -7,7 +7,7 @@ use Prim.Native.Nat.{ℕ}
 use lib.Dec.{eqb, ltb}
 use lib.IntN.{ℤ, pos, negsuc, natAbs}
 use lib.ListN.{length}
-use Rattle.laws.specs.Wrote.{Wrote, wroteAs}
+use Rattle.buffer.specs.Wrote.{Wrote, wroteAs}
 use Rattle.lonlat.specs.Angle.{mostLongitude}
 use Rattle.mic_e.specs.Motion.{readMotion, motionOut}
 use Rattle.mic_e.specs.Longitude.{readLongitude}

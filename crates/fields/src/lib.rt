@@ -5,7 +5,7 @@ ghost use mathlib.Core.Path.{_≡_};
 ghost use Prim.Native.Nat.{_+_, _*_, _≤_};
 ghost use lib.ListN.{length};
 ghost use lib.Seq.{sets};
-ghost use Rattle.laws.specs.Wrote.{ends};
+ghost use Rattle.buffer.specs.Wrote.{ends};
 ghost use Rattle.fields.specs.Each.{cell, row, allFields, flat};
 ghost use Rattle.fields.specs.Lists.{listed, motionFields, motionRefusal, longitudeFields, longitudeRefusal};
 ghost use Rattle.fields.specs.Search.{hits, fieldsOf, thirdAt, baseOf, tenFrom, Spans, sameSide};
@@ -90,7 +90,7 @@ fn base_of(hundred: bool, a: u8, b: u8) -> Base
     match read {
         LongitudeField::Read(longitude) => {
             let angle = longitude.0;
-            let sides = lonlat::parts(angle);
+            let sides = numbers::parts(angle);
             Base::Size(sides.size)
         }
         LongitudeField::Refused => Base::Nothing,
@@ -245,29 +245,29 @@ fn fill(t: Target, out: &mut [u8]) -> usize
 }
 
 // A list holds at most 36 fields: they are found in a buffer of that size, and then written out.
-fn list(t: Target, out: &mut [u8]) -> laws::Answer
+fn list(t: Target, out: &mut [u8]) -> buffer::Answer
     ensures { λ r. ⌜ ends r (now (out .exit)) ≡ listed 0 (allFields (hits t)) (now (out .entry)) ⌝ }
 {
     let mut found = [0u8; 108];
     let n = fill(t, &mut found);
-    let answer = laws::write(&found[..n], out);
+    let answer = buffer::write(&found[..n], out);
     if answer.refusal == 0 {
-        return laws::done(n / 3);
+        return buffer::done(n / 3);
     }
     answer
 }
 
 // All the fields that read as that speed and course, in ascending order; or 15 or 16.
-pub fn list_motion(speed: Speed, course: Course, out: &mut [u8]) -> laws::Answer
+pub fn list_motion(speed: Speed, course: Course, out: &mut [u8]) -> buffer::Answer
     ensures { λ r. ⌜ ends r (now (out .exit)) ≡ listed (motionRefusal (speed .0) (course .0)) (motionFields (speed .0) (course .0)) (now (out .entry)) ⌝ }
 {
     let s = speed.0;
     let c = course.0;
     if 799 < s {
-        return laws::refused(15);
+        return buffer::refused(15);
     }
     if 360 < c {
-        return laws::refused(15);
+        return buffer::refused(15);
     }
     list(Target::Moving(s, c), out)
 }
@@ -283,18 +283,23 @@ fn same_side(minus: bool, west: bool, size: u32) -> bool
 }
 
 // All the fields that read as that longitude under the offset and the side, in ascending order; or 15 or 16.
-pub fn list_longitude(target: Longitude, hundred: bool, west: bool, out: &mut [u8]) -> laws::Answer
+pub fn list_longitude(
+    target: Longitude,
+    hundred: bool,
+    west: bool,
+    out: &mut [u8],
+) -> buffer::Answer
     ensures { λ r. ⌜ ends r (now (out .exit)) ≡ listed (longitudeRefusal (target .0)) (longitudeFields hundred west (target .0)) (now (out .entry)) ⌝ }
 {
     let angle = target.0;
-    let sides = lonlat::parts(angle);
+    let sides = numbers::parts(angle);
     let size = sides.size;
     let minus = sides.minus;
     if 1080000 < size {
-        return laws::refused(15);
+        return buffer::refused(15);
     }
     if same_side(minus, west, size) {
         return list(Target::Lying(size, hundred), out);
     }
-    laws::done(0)
+    buffer::done(0)
 }

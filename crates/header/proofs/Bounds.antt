@@ -8,12 +8,12 @@ use native.Mathlib.Omega.{arith}
 use borrow.Author.Tests.{not-true, not-false}
 use lib.ListN.{length, take, length-append, length-take}
 use Rattle.laws.specs.Bytes.{colon}
-use Rattle.laws.specs.declared.Answer.{Answer}
-use Rattle.laws.specs.Wrote.{Wrote, ends, refusedBy, overBy, wrote}
+use Rattle.buffer.specs.declared.Answer.{Answer}
+use Rattle.buffer.specs.Wrote.{Wrote, ends, refusedBy, overBy, wrote}
 use Rattle.laws.specs.Lists.{every}
 use Rattle.laws.proofs.Lists.{part-length}
 use Rattle.laws.proofs.Each.{every-first, every-rest}
-use Rattle.laws.proofs.Wrote.{passed-on, not-over}
+use Rattle.buffer.proofs.Wrote.{passed-on, not-over}
 use Rattle.callsign.specs.Range.{textOf, withStar}
 use Rattle.callsign.proofs.Ranges.{text-short, star-short}
 use Rattle.header.specs.declared.Hop.{Hop}

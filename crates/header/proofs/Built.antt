@@ -11,9 +11,9 @@ use mir.Syntax.{w64}
 use borrow.Rule.Slice.PartAt.{part-to-end}
 use lib.ListN.{length, take, drop, set, length-append, length-drop, take-append-drop}
 use lib.Seq.{set-split, drop-drop, take-at, length-take-le, drop-length, drop-append-add}
-use Rattle.laws.specs.declared.Answer.{Answer}
-use Rattle.laws.specs.Wrote.{ends, wrote}
-use Rattle.laws.proofs.Answers.{reported-is, bytes-are}
+use Rattle.buffer.specs.declared.Answer.{Answer}
+use Rattle.buffer.specs.Wrote.{ends, wrote}
+use Rattle.buffer.proofs.Answers.{reported-is, bytes-are}
 use Rattle.header.specs.Written.{Filled, filled, added}
 
 -- ---- one piece after another

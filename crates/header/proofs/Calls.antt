@@ -8,8 +8,8 @@ use native.Mathlib.Omega.{arith}
 use lib.ListN.{length, take, length-append}
 use lib.Seq.{length-take-le}
 use Rattle.laws.specs.Bytes.{star}
-use Rattle.laws.specs.Wrote.{Wrote, overBy, wrote}
-use Rattle.laws.proofs.Wrote.{not-over}
+use Rattle.buffer.specs.Wrote.{Wrote, overBy, wrote}
+use Rattle.buffer.proofs.Wrote.{not-over}
 use Rattle.callsign.specs.declared.Callsign.{Callsign}
 use Rattle.callsign.specs.Range.{textLen, inRange, textOf, withStar}
 use Rattle.callsign.proofs.Ranges.{from-range, text-in-use}

@@ -6,7 +6,7 @@ ghost use mathlib.Core.List.{[], _∷_, _++_};
 ghost use Prim.Native.Nat.{_+_, _≤_};
 ghost use lib.ListN.{length, take, drop};
 ghost use Rattle.laws.specs.Lists.{every};
-ghost use Rattle.laws.specs.Wrote.{ends, wrote};
+ghost use Rattle.buffer.specs.Wrote.{ends, wrote};
 ghost use Rattle.callsign.specs.Range.{inRange, textLen, textOf, withStar};
 ghost use Rattle.callsign.specs.Packed.{writeAddress};
 ghost use Rattle.header.specs.Header.{blankHop, blankHeader, headerRefused, pathRead, refused};
@@ -495,16 +495,16 @@ fn text_len(c: Callsign) -> usize
 }
 
 // Writes a callsign that is in range, which is not judged again.
-fn write_call(c: Callsign, starred: bool, out: &mut [u8]) -> laws::Answer
+fn write_call(c: Callsign, starred: bool, out: &mut [u8]) -> buffer::Answer
     requires { ⌜ inRange c ≡ true ⌝ }
     ensures { λ r. ⌜ ends r (now (out .exit)) ≡ wrote 0 (withStar (textOf c) starred) (now (out .entry)) ⌝ }
 {
     let n = text_len(c);
     let text = c.text;
     if starred {
-        laws::write_two(17, &text[..n], b"*", out)
+        buffer::write_two(17, &text[..n], b"*", out)
     } else {
-        laws::write(&text[..n], out)
+        buffer::write(&text[..n], out)
     }
 }
 
@@ -552,15 +552,15 @@ fn put_route(h: Header, text: &mut [u8]) -> usize
 }
 
 // Writes a header as text, with its colon; refused with 15 or 16.
-pub fn write_text(h: Header, out: &mut [u8]) -> laws::Answer
+pub fn write_text(h: Header, out: &mut [u8]) -> buffer::Answer
     ensures { λ r. ⌜ ends r (now (out .exit)) ≡ wrote (textRefusal h) (headerText h) (now (out .entry)) ⌝ }
 {
     if !in_range(h) {
-        return laws::refused(15);
+        return buffer::refused(15);
     }
     let mut text = [0u8; 177];
     let n = put_route(h, &mut text);
-    laws::write_two(178, &text[..n], b":", out)
+    buffer::write_two(178, &text[..n], b":", out)
 }
 
 // ---- a frame written
@@ -584,7 +584,7 @@ fn put_address(c: Callsign, field: Field, last: bool, bytes: &mut [u8], at: usiz
         };
     }
     let seven = a.bytes;
-    laws::write(&seven, &mut bytes[at..]);
+    buffer::write(&seven, &mut bytes[at..]);
     Put {
         refusal: 0,
         at: at + 7,
@@ -634,17 +634,17 @@ fn put_addresses(h: Header, bytes: &mut [u8]) -> Put
 }
 
 // Writes the header of a frame, addresses and control pair; refused with 15, 13 or 16.
-pub fn write_frame(h: Header, out: &mut [u8]) -> laws::Answer
+pub fn write_frame(h: Header, out: &mut [u8]) -> buffer::Answer
     ensures { λ r. ⌜ ends r (now (out .exit)) ≡ wrote (frameRefusal h) (headerFrame h) (now (out .entry)) ⌝ }
 {
     if !in_range(h) {
-        return laws::refused(15);
+        return buffer::refused(15);
     }
     let mut bytes = [0u8; 70];
     let p = put_addresses(h, &mut bytes);
     if p.refusal != 0 {
-        return laws::refused(p.refusal);
+        return buffer::refused(p.refusal);
     }
     let n = p.at;
-    laws::write_two(72, &bytes[..n], b"\x03\xf0", out)
+    buffer::write_two(72, &bytes[..n], b"\x03\xf0", out)
 }

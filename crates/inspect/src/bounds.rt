@@ -3,10 +3,10 @@ use crate::put;
 use crate::request;
 use lonlat::Latitude;
 use lonlat::Longitude;
+use numbers::Count;
+use numbers::Number;
 use position::BoundsAnswer;
 use position::PageBox;
-use words::Count;
-use words::Number;
 
 fn put_bounds(b: BoundsAnswer, page: PageBox, out: &mut [u8], at: usize) -> usize {
     let mut end = put::count(b"", b.refusal as usize, out, at);
@@ -42,17 +42,17 @@ fn bounds_of(angle: i32, blanks: u8, limit: &[u8], out: &mut [u8], at: usize) ->
 
 // `B ANGLE BLANKS LIMIT`
 pub fn answer(s: &[u8], out: &mut [u8], at: usize) -> usize {
-    let read = words::read_number(words::first(s));
+    let read = numbers::read_number(lines::first(s));
     let Number::Is(angle) = read else {
         return at;
     };
-    let s = words::rest(s);
-    let read = words::read_count(words::first(s), 255);
+    let s = lines::rest(s);
+    let read = numbers::read_count(lines::first(s), 255);
     let Count::Is(blanks) = read else {
         return at;
     };
     if 255 < blanks {
         return at;
     }
-    bounds_of(angle, blanks as u8, words::rest(s), out, at)
+    bounds_of(angle, blanks as u8, lines::rest(s), out, at)
 }

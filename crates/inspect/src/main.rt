@@ -20,11 +20,11 @@ fn answered(request: &[u8], out: &mut [u8], at: usize) -> usize {
     if 4096 < request.len() {
         return at;
     }
-    let word = words::first(request);
+    let word = lines::first(request);
     if word.len() != 1 {
         return at;
     }
-    let rest = words::rest(request);
+    let rest = lines::rest(request);
     match word[0] {
         b'T' => read::answer(false, rest, out, at),
         b'F' => read::answer(true, rest, out, at),
@@ -43,7 +43,7 @@ fn roomy(out: &[u8], used: usize) -> usize {
             return used;
         }
     }
-    io::write_all(1, words::cut(out, used));
+    io::write_all(1, lines::cut(out, used));
     0
 }
 
@@ -55,9 +55,9 @@ fn answer(over: bool, request: &[u8], out: &mut [u8], used: usize) -> usize {
     let at = roomy(out, used);
     let end = answered(request, out, at);
     if end == at {
-        return words::put(b"bad request\n", out, at);
+        return buffer::put(b"bad request\n", out, at);
     }
-    words::put_byte(b'\n', out, end)
+    buffer::put_byte(b'\n', out, end)
 }
 
 // Answers the requests of input that have an LF; `held` is then the place behind the last one.
@@ -76,7 +76,7 @@ fn serve(input: &[u8], out: &mut [u8], used: usize, passing: bool) -> State {
                 passing: over,
             };
         }
-        end = answer(over, words::cut(t, n), out, end);
+        end = answer(over, lines::cut(t, n), out, end);
         over = false;
         from += n + 1;
     }
@@ -89,10 +89,10 @@ fn serve(input: &[u8], out: &mut [u8], used: usize, passing: bool) -> State {
 
 // Answers what is held, and keeps the request begun; one that is too long already is answered and passed over.
 fn step(input: &mut [u8], out: &mut [u8], held: usize, used: usize, passing: bool) -> State {
-    let after = serve(words::cut(input, held), out, used, passing);
-    let kept = words::shift(input, after.held, held);
+    let after = serve(lines::cut(input, held), out, used, passing);
+    let kept = buffer::shift(input, after.held, held);
     if 4096 < kept {
-        let end = answer(after.passing, words::cut(input, kept), out, after.used);
+        let end = answer(after.passing, lines::cut(input, kept), out, after.used);
         return State {
             held: 0,
             used: end,
@@ -130,8 +130,8 @@ fn fill(input: &mut [u8], held: usize) -> usize {
 // Answers the last request, which need not have an LF.
 fn finish(input: &[u8], out: &mut [u8], s: State) {
     let over = s.passing | (s.held == 0);
-    let used = answer(over, words::cut(input, s.held), out, s.used);
-    io::write_all(1, words::cut(out, used));
+    let used = answer(over, lines::cut(input, s.held), out, s.used);
+    io::write_all(1, lines::cut(out, used));
 }
 
 fn run(input: &mut [u8], out: &mut [u8]) {

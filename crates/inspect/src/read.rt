@@ -17,42 +17,42 @@ fn put_message(m: Message, out: &mut [u8], at: usize) -> usize {
     if n < 14 {
         let names = b"M0M1M2M3M4M5M6C0C1C2C3C4C5C6";
         let from = (n as usize) * 2;
-        return words::put(words::cut(words::tail(names, from), 2), out, at);
+        return buffer::put(lines::cut(lines::tail(names, from), 2), out, at);
     }
     if n == 14 {
-        return words::put(b"emergency", out, at);
+        return buffer::put(b"emergency", out, at);
     }
-    words::put(b"unknown", out, at)
+    buffer::put(b"unknown", out, at)
 }
 
 // The answer 0 and the kind.
 fn put_kind(kind: Kind, out: &mut [u8], at: usize) -> usize {
     match kind {
-        Kind::Unknown => words::put(b"0 unknown", out, at),
-        Kind::Position => words::put(b"0 position", out, at),
-        Kind::MicE => words::put(b"0 mic-e", out, at),
+        Kind::Unknown => buffer::put(b"0 unknown", out, at),
+        Kind::Position => buffer::put(b"0 position", out, at),
+        Kind::MicE => buffer::put(b"0 mic-e", out, at),
     }
 }
 
 // A callsign's text: call, dash and SSID.
 fn put_call(label: &[u8], c: Callsign, out: &mut [u8], at: usize) -> usize {
-    let n = capture::text_len(c);
+    let n = row::text_len(c);
     let text = c.text;
-    let end = words::put(label, out, at);
-    put::hex(words::cut(&text, n), out, end)
+    let end = buffer::put(label, out, at);
+    put::hex(lines::cut(&text, n), out, end)
 }
 
 // One hop, a comma before it unless it is the first, and a star behind it if it is heard.
 fn put_hop(hop: Hop, first: bool, out: &mut [u8], at: usize) -> usize {
     let call = hop.call;
-    let end = put_call(words::cut(b",", !first as usize), call, out, at);
-    words::put(words::cut(b"*", hop.heard as usize), out, end)
+    let end = put_call(lines::cut(b",", !first as usize), call, out, at);
+    buffer::put(lines::cut(b"*", hop.heard as usize), out, end)
 }
 
 fn put_hops(path: Path, out: &mut [u8], at: usize) -> usize {
-    let mut end = words::put(b" hops=", out, at);
+    let mut end = buffer::put(b" hops=", out, at);
     if path.count == 0 {
-        return words::put_byte(b'-', out, end);
+        return buffer::put_byte(b'-', out, end);
     }
     let mut i: usize = 0;
     while i < 8 {
@@ -82,10 +82,10 @@ fn put_symbol(p: Place, flag: bool, out: &mut [u8], at: usize) -> usize {
 
 // Only Mic-E has a message.
 fn put_word(kind: Kind, m: Message, out: &mut [u8], at: usize) -> usize {
-    let end = words::put(b" message=", out, at);
+    let end = buffer::put(b" message=", out, at);
     match kind {
-        Kind::Unknown => words::put_byte(b'-', out, end),
-        Kind::Position => words::put_byte(b'-', out, end),
+        Kind::Unknown => buffer::put_byte(b'-', out, end),
+        Kind::Position => buffer::put_byte(b'-', out, end),
         Kind::MicE => put_message(m, out, end),
     }
 }
@@ -109,13 +109,13 @@ fn put_body(r: Record, out: &mut [u8], at: usize) -> usize {
 }
 
 // What a writer answered, and what it wrote.
-fn put_written(label: &[u8], w: laws::Answer, bytes: &[u8], out: &mut [u8], at: usize) -> usize {
+fn put_written(label: &[u8], w: buffer::Answer, bytes: &[u8], out: &mut [u8], at: usize) -> usize {
     let mut end = put::count(label, w.refusal as usize, out, at);
-    end = words::put_byte(b':', out, end);
+    end = buffer::put_byte(b':', out, end);
     if w.refusal != 0 {
-        return words::put_byte(b'-', out, end);
+        return buffer::put_byte(b'-', out, end);
     }
-    put::hex(words::cut(bytes, w.reported), out, end)
+    put::hex(lines::cut(bytes, w.reported), out, end)
 }
 
 // The record written again, both ways, with the comment that it was read with.
@@ -134,7 +134,7 @@ fn put_comment(r: Record, line: &[u8], out: &mut [u8], at: usize) -> usize {
     end = put::count(b"+", place.len, out, end);
     put_again(
         r,
-        words::cut(words::tail(line, place.at), place.len),
+        lines::cut(lines::tail(line, place.at), place.len),
         out,
         end,
     )
@@ -169,7 +169,7 @@ pub fn answer(frame: bool, s: &[u8], out: &mut [u8], at: usize) -> usize {
     let Bytes::Are(n) = read else {
         return at;
     };
-    let line = words::cut(&bytes, n);
+    let line = lines::cut(&bytes, n);
     if frame {
         return put_read(packet::read_frame(line), line, out, at);
     }

@@ -11,7 +11,7 @@ pub fn skip(s: &[u8], n: usize) -> &[u8] {
     let mut t = s;
     let mut i: usize = 0;
     while i < n {
-        let next = words::rest(t);
+        let next = lines::rest(t);
         t = next;
         i += 1;
     }
@@ -49,8 +49,8 @@ pub fn unhex(s: &[u8], out: &mut [u8]) -> Bytes {
     }
     let mut i: usize = 0;
     while i < n {
-        let high = words::hex_value(s[i + i]);
-        let low = words::hex_value(s[i + i + 1]);
+        let high = numbers::hex_value(s[i + i]);
+        let low = numbers::hex_value(s[i + i + 1]);
         if 15 < high {
             return Bytes::Bad;
         }

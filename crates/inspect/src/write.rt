@@ -11,13 +11,13 @@ use lonlat::Longitude;
 use mic_e::Course;
 use mic_e::Message;
 use mic_e::Speed;
+use numbers::Count;
+use numbers::Number;
 use packet::Comment;
 use packet::Kind;
 use packet::Record;
 use packet::Report;
 use position::Place;
-use words::Count;
-use words::Number;
 
 struct CallWord {
     good: bool,
@@ -64,10 +64,10 @@ fn no_call() -> CallWord {
 // Call and SSID as they were given. What a text of sixteen bytes cannot hold is cut off it: the lengths tell.
 fn joined(call: &[u8], ssid: &[u8]) -> CallWord {
     let mut text = [0u8; 16];
-    let mut end = words::put(call, &mut text, 0);
-    end = words::put(words::cut(b"-", ssid.len()), &mut text, end);
+    let mut end = buffer::put(call, &mut text, 0);
+    end = buffer::put(lines::cut(b"-", ssid.len()), &mut text, end);
     let room = if end <= 16 { 16 - end } else { 0 };
-    words::put(words::cut(ssid, room), &mut text, end);
+    buffer::put(lines::cut(ssid, room), &mut text, end);
     let made = Callsign {
         text,
         call_len: call.len(),
@@ -87,11 +87,11 @@ fn call_word(s: &[u8]) -> CallWord {
     }
     let mut call = [0u8; 16];
     let mut ssid = [0u8; 16];
-    let read = request::unhex(words::cut(s, slash), &mut call);
+    let read = request::unhex(lines::cut(s, slash), &mut call);
     let Bytes::Are(n) = read else {
         return no_call();
     };
-    let read = request::unhex(words::tail(words::tail(s, slash), 1), &mut ssid);
+    let read = request::unhex(lines::tail(lines::tail(s, slash), 1), &mut ssid);
     let Bytes::Are(k) = read else {
         return no_call();
     };
@@ -101,16 +101,16 @@ fn call_word(s: &[u8]) -> CallWord {
     if 16 - n < k {
         return no_call();
     }
-    joined(words::cut(&call, n), words::cut(&ssid, k))
+    joined(lines::cut(&call, n), lines::cut(&ssid, k))
 }
 
 // A callsign, and a star behind it where the hop is heard.
 fn hop_word(s: &[u8]) -> CallWord {
     let star = laws::find(s, b'*');
-    if 1 < words::tail(s, star).len() {
+    if 1 < lines::tail(s, star).len() {
         return no_call();
     }
-    call_word(words::cut(s, star))
+    call_word(lines::cut(s, star))
 }
 
 fn no_header() -> HeaderWord {
@@ -139,7 +139,7 @@ fn path_word(from: Callsign, to: Callsign, s: &[u8]) -> HeaderWord {
     let mut i: usize = 0;
     while i < 8 {
         let comma = laws::find(t, b',');
-        let word = words::cut(t, comma);
+        let word = lines::cut(t, comma);
         let made = hop_word(word);
         if !made.good {
             return no_header();
@@ -154,25 +154,25 @@ fn path_word(from: Callsign, to: Callsign, s: &[u8]) -> HeaderWord {
         if comma == t.len() {
             return with_path(from, to, hops, i);
         }
-        t = words::tail(words::tail(t, comma), 1);
+        t = lines::tail(lines::tail(t, comma), 1);
     }
     no_header()
 }
 
 // `FROM TO HOPS`, and more behind it
 fn header_word(s: &[u8]) -> HeaderWord {
-    let made = call_word(words::first(s));
+    let made = call_word(lines::first(s));
     if !made.good {
         return no_header();
     }
     let from = made.call;
-    let s = words::rest(s);
-    let made = call_word(words::first(s));
+    let s = lines::rest(s);
+    let made = call_word(lines::first(s));
     if !made.good {
         return no_header();
     }
     let to = made.call;
-    path_word(from, to, words::first(words::rest(s)))
+    path_word(from, to, lines::first(lines::rest(s)))
 }
 
 // ---- the other parts
@@ -264,7 +264,7 @@ fn place_made(
 
 // A number below 256, or 256 for a word that is none.
 fn byte_word(s: &[u8]) -> u32 {
-    let read = words::read_count(s, 255);
+    let read = numbers::read_count(s, 255);
     let Count::Is(n) = read else {
         return 256;
     };
@@ -273,10 +273,10 @@ fn byte_word(s: &[u8]) -> u32 {
 
 // `BLANKS TABLE CODE`, behind the angles
 fn symbol_word(latitude: i32, longitude: i32, s: &[u8]) -> PlaceWord {
-    let blanks = byte_word(words::first(s));
-    let s = words::rest(s);
-    let table = byte_word(words::first(s));
-    let code = byte_word(words::first(words::rest(s)));
+    let blanks = byte_word(lines::first(s));
+    let s = lines::rest(s);
+    let table = byte_word(lines::first(s));
+    let code = byte_word(lines::first(lines::rest(s)));
     if 255 < blanks {
         return place_made(false, 0, 0, 0, 0, 0);
     }
@@ -298,16 +298,16 @@ fn symbol_word(latitude: i32, longitude: i32, s: &[u8]) -> PlaceWord {
 
 // `LAT LON BLANKS TABLE CODE`, and more behind it
 fn place_word(s: &[u8]) -> PlaceWord {
-    let read = words::read_number(words::first(s));
+    let read = numbers::read_number(lines::first(s));
     let Number::Is(latitude) = read else {
         return place_made(false, 0, 0, 0, 0, 0);
     };
-    let s = words::rest(s);
-    let read = words::read_number(words::first(s));
+    let s = lines::rest(s);
+    let read = numbers::read_number(lines::first(s));
     let Number::Is(longitude) = read else {
         return place_made(false, 0, 0, 0, 0, 0);
     };
-    symbol_word(latitude, longitude, words::rest(s))
+    symbol_word(latitude, longitude, lines::rest(s))
 }
 
 fn report_made(good: bool, message: Message, speed: u32, course: u32, current: bool) -> ReportWord {
@@ -324,16 +324,16 @@ fn report_made(good: bool, message: Message, speed: u32, course: u32, current: b
 
 // `MESSAGE SPEED COURSE`, at the end; only Mic-E must have a message.
 fn report_word(mic_e: bool, current: bool, s: &[u8]) -> ReportWord {
-    let read = message_word(words::first(s), mic_e);
+    let read = message_word(lines::first(s), mic_e);
     let MessageWord::Is(message) = read else {
         return report_made(false, Message::M0, 0, 0, false);
     };
-    let s = words::rest(s);
-    let read = words::read_count(words::first(s), 0xffff_ffff);
+    let s = lines::rest(s);
+    let read = numbers::read_count(lines::first(s), 0xffff_ffff);
     let Count::Is(speed) = read else {
         return report_made(false, Message::M0, 0, 0, false);
     };
-    let read = words::read_count(words::rest(s), 0xffff_ffff);
+    let read = numbers::read_count(lines::rest(s), 0xffff_ffff);
     let Count::Is(course) = read else {
         return report_made(false, Message::M0, 0, 0, false);
     };
@@ -391,12 +391,12 @@ fn parts_word(kind: Kind, mic_e: bool, flag: bool, s: &[u8]) -> RecordWord {
 
 // `KIND FLAG` and what follows
 fn record_word(s: &[u8]) -> RecordWord {
-    let word = words::first(s);
+    let word = lines::first(s);
     let read = kind_word(word);
     let KindWord::Is(kind) = read else {
         return no_record();
     };
-    let flag = request::either(words::first(words::rest(s)), b"0", b"1");
+    let flag = request::either(lines::first(lines::rest(s)), b"0", b"1");
     if 1 < flag {
         return no_record();
     }
@@ -416,9 +416,9 @@ fn write_into(
     frame: bool,
     buffer: &mut [u8],
     room: usize,
-) -> laws::Answer {
+) -> buffer::Answer {
     if buffer.len() < room {
-        return laws::refused(0);
+        return buffer::refused(0);
     }
     if frame {
         return packet::write_frame(r, comment, &mut buffer[..room]);
@@ -429,30 +429,30 @@ fn write_into(
 // `COMMENT` and what follows
 fn written(frame: bool, room: usize, s: &[u8], out: &mut [u8], at: usize) -> usize {
     let mut comment = [0u8; 2048];
-    let read = request::unhex(words::first(s), &mut comment);
+    let read = request::unhex(lines::first(s), &mut comment);
     let Bytes::Are(n) = read else {
         return at;
     };
-    let made = record_word(words::rest(s));
+    let made = record_word(lines::rest(s));
     if !made.good {
         return at;
     }
     let record = made.record;
     let mut buffer = [0xaau8; 600];
-    let w = write_into(record, words::cut(&comment, n), frame, &mut buffer, room);
-    put_answer(w, words::cut(&buffer, room), out, at)
+    let w = write_into(record, lines::cut(&comment, n), frame, &mut buffer, room);
+    put_answer(w, lines::cut(&buffer, room), out, at)
 }
 
 // `W WHERE ROOM COMMENT KIND FLAG FROM TO HOPS LAT LON BLANKS TABLE CODE MESSAGE SPEED COURSE`
 pub fn answer(s: &[u8], out: &mut [u8], at: usize) -> usize {
-    let form = request::either(words::first(s), b"text", b"frame");
+    let form = request::either(lines::first(s), b"text", b"frame");
     if 1 < form {
         return at;
     }
-    let s = words::rest(s);
-    let read = words::read_count(words::first(s), 600);
+    let s = lines::rest(s);
+    let read = numbers::read_count(lines::first(s), 600);
     let Count::Is(room) = read else {
         return at;
     };
-    written(form == 1, room as usize, words::rest(s), out, at)
+    written(form == 1, room as usize, lines::rest(s), out, at)
 }

@@ -4,6 +4,4 @@ pub mod Lists
 pub mod Places
 pub mod Each
 pub mod Every
-pub mod Wrote
-pub mod Answers
 pub mod Unique

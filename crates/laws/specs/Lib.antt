@@ -1,3 +1,2 @@
 pub mod Bytes
 pub mod Lists
-pub mod Wrote

@@ -1,54 +1,6 @@
-// What the other crates share: the answer of a writer or lister, the search for a byte, and the one
-// place where bytes go into a lent buffer. The definitions and laws beside it are what all proofs cite.
+// What the other crates share: the search for a byte. The definitions and laws beside it are what all proofs cite.
 ghost use mathlib.Core.Path.{_≡_};
-ghost use mathlib.Core.List.{_++_};
-ghost use Prim.Native.Nat.{_+_, _≤_};
-ghost use lib.ListN.{length};
-ghost use lib.Seq.{paste};
 ghost use Rattle.laws.specs.Lists.{indexOf};
-ghost use Rattle.laws.specs.Wrote.{refusedBy, noRoom, doneBy, ends, overBy, wrote};
-
-// What a writer or lister answers: the refusal's number or 0, what it reports (bytes written or fields
-// listed), and at 16 the bytes needed.
-#[repr(C)]
-pub struct Answer {
-    pub refusal: u8,
-    pub reported: usize,
-    pub needed: usize,
-}
-
-// The answer of a refusal: nothing reported, nothing needed.
-pub fn refused(n: u8) -> Answer
-    ensures { λ r. ⌜ r ≡ refusedBy n ⌝ }
-{
-    Answer {
-        refusal: n,
-        reported: 0,
-        needed: 0,
-    }
-}
-
-// The answer where the buffer is too short for n bytes.
-pub fn no_room(n: usize) -> Answer
-    ensures { λ r. ⌜ r ≡ noRoom n ⌝ }
-{
-    Answer {
-        refusal: 16,
-        reported: 0,
-        needed: n,
-    }
-}
-
-// The answer where all is done and n reported.
-pub fn done(n: usize) -> Answer
-    ensures { λ r. ⌜ r ≡ doneBy n ⌝ }
-{
-    Answer {
-        refusal: 0,
-        reported: n,
-        needed: 0,
-    }
-}
 
 // The place of the first b of t, or t's length.
 pub fn find(t: &[u8], b: u8) -> usize
@@ -62,49 +14,4 @@ pub fn find(t: &[u8], b: u8) -> usize
         i += 1;
     }
     i
-}
-
-// Copies all of s into out from the place `at` on.
-fn put(s: &[u8], out: &mut [u8], at: usize)
-    requires { ⌜ at + length (now s) ≤ length (now out) ⌝ }
-    ensures { λ _. ⌜ now (out .exit) ≡ paste (now (out .entry)) at (now (s .entry)) (length (now (s .entry))) ⌝ }
-{
-    let mut i: usize = 0;
-    while i < s.len() {
-        out[at + i] = s[i];
-        i += 1;
-    }
-}
-
-// Writes bytes to the front of out, or answers 16 and leaves it alone.
-pub fn write(bytes: &[u8], out: &mut [u8]) -> Answer
-    ensures { λ r. ⌜ ends r (now (out .exit)) ≡ wrote 0 (now (bytes .entry)) (now (out .entry)) ⌝ }
-{
-    let n = bytes.len();
-    if out.len() < n {
-        return no_room(n);
-    }
-    put(bytes, out, 0);
-    done(n)
-}
-
-// Writes head and then tail to the front of out, at most `limit` bytes: over it answers 1, without room 16,
-// and either leaves out alone.
-pub fn write_two(limit: usize, head: &[u8], tail: &[u8], out: &mut [u8]) -> Answer
-    ensures { λ r. ⌜ ends r (now (out .exit)) ≡ wrote (overBy limit (now (head .entry) ++ now (tail .entry))) (now (head .entry) ++ now (tail .entry)) (now (out .entry)) ⌝ }
-{
-    let n = head.len();
-    let m = tail.len();
-    if limit < n {
-        return refused(1);
-    }
-    if limit - n < m {
-        return refused(1);
-    }
-    if out.len() < n + m {
-        return no_room(n + m);
-    }
-    put(head, out, 0);
-    put(tail, out, n);
-    done(n + m)
 }

@@ -1,9 +1,9 @@
 // Prints document 01's table: standard input, at most 65,536 bytes, one row a line.
-use capture::Line;
+use lines::Line;
 
 // Writes the first `used` bytes of out.
 fn flush(out: &[u8], used: usize) {
-    io::write_all(1, words::cut(out, used));
+    io::write_all(1, lines::cut(out, used));
 }
 
 // Puts the row of a line behind the first `used` bytes of out; where it does not fit, those are written first. Answers
@@ -12,21 +12,21 @@ fn put_row(number: usize, line: &[u8], out: &mut [u8], used: usize) -> usize {
     if out.len() < used {
         return 0;
     }
-    let w = capture::write_row(number, line, &mut out[used..]);
+    let w = row::write_row(number, line, &mut out[used..]);
     if w.refusal == 0 {
         return used + w.reported;
     }
     flush(out, used);
-    capture::write_row(number, line, out).reported
+    row::write_row(number, line, out).reported
 }
 
 // Writes the heading and the rows of all lines.
 fn list(s: &[u8], out: &mut [u8]) {
-    let mut used = laws::write(&capture::HEADING, out).reported;
+    let mut used = buffer::write(&row::HEADING, out).reported;
     let mut from: usize = 0;
     let mut number: usize = 0;
     loop {
-        let line = capture::line_at(s, from);
+        let line = lines::line_at(s, from);
         let Line::At { start, end, next } = line else {
             break;
         };

@@ -5,7 +5,8 @@ use Prim.Native.Nat.{ℕ, zero, suc, _+_, _-_, _*_, _/_, _%_, _<_, _≤_}
 use native.Mathlib.Omega.{arith}
 use Rattle.laws.specs.Bytes.{digit0}
 use Rattle.lonlat.specs.Angle.{mostLatitude, mostLongitude, widthOf, cutTo}
-use Rattle.lonlat.specs.Digits.{lastAs, numberAfter, numberOf, degreesOf, minutesOf, hundredthsOf, valueOf, digitOf, digitsOf, placesOf}
+use Rattle.lonlat.specs.Digits.{lastAs, degreesOf, minutesOf, hundredthsOf, valueOf, placesOf}
+use Rattle.numbers.specs.Numbers.{numberAfter, numberOf, digitOf, digitsOf}
 
 -- one case for each number of blanks
 pub up-to-five : (P : ℕ → Type 0) → P 0 → P 1 → P 2 → P 3 → P 4 → P 5 → (n : ℕ) → n ≤ 5 → P n

@@ -15,7 +15,8 @@ use Rattle.laws.specs.Lists.{every}
 use Rattle.laws.proofs.Lists.{next}
 use Rattle.laws.proofs.Tests.{within-low, within-high}
 use Rattle.laws.proofs.Each.{every-first, every-rest, every-drop}
-use Rattle.lonlat.specs.Digits.{lastAs, numberAfter, numberOf, degreesOf, minutesOf, hundredthsOf, valueOf}
+use Rattle.lonlat.specs.Digits.{lastAs, degreesOf, minutesOf, hundredthsOf, valueOf}
+use Rattle.numbers.specs.Numbers.{numberAfter, numberOf}
 
 -- ---- the last n as b
 

@@ -14,7 +14,8 @@ use Rattle.laws.specs.Bytes.{space, digit0, point, capitalN, capitalS, capitalE
 use Rattle.laws.specs.Lists.{indexOf, every}
 use Rattle.laws.proofs.Places.{index-le}
 use Rattle.laws.proofs.Tests.{guard, passed}
-use Rattle.lonlat.specs.Angle.{mostLatitude, mostLongitude, signedOf}
+use Rattle.lonlat.specs.Angle.{mostLatitude, mostLongitude}
+use Rattle.numbers.specs.Sign.{signedOf}
 use Rattle.lonlat.specs.declared.Size.{Size}
 use Rattle.lonlat.specs.declared.Size.the-variants.{Hundredths, NoDigit}
 use Rattle.lonlat.specs.declared.AngleRead.{AngleRead}

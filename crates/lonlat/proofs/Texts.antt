@@ -16,7 +16,8 @@ use Rattle.laws.proofs.Lists.{elements-all}
 use Rattle.laws.proofs.Tests.{within-yes}
 use Rattle.laws.proofs.Each.{every-first, every-rest, every-append, every-snoc, every-take, every-replicate, every-at, every-weaker}
 use Rattle.lonlat.specs.Angle.{mostLatitude}
-use Rattle.lonlat.specs.Digits.{lastAs, angleIn, digitOf, digitsOf, placesOf, textOf}
+use Rattle.lonlat.specs.Digits.{lastAs, angleIn, placesOf, textOf}
+use Rattle.numbers.specs.Numbers.{digitOf, digitsOf}
 use Rattle.lonlat.specs.Latitude.{isBlank, isDigitOrBlank, blanksIn, restBlank, countedDigits, isNorthOrSouth, latitudeWith, latitudeIn, latitudePlaces, readLatitude, blankedPlaces, northOrSouth, latitudeText}
 use Rattle.lonlat.specs.Longitude.{longitudeIn, readLongitude, eastOrWest, longitudeText}
 use Rattle.lonlat.proofs.Cut.{up-to-five}

@@ -12,17 +12,19 @@ use lib.ListN.{length, getD}
 use Rattle.laws.specs.Bytes.{digit0, digit9, point, isDigit, within, capitalN, capitalS, capitalE, capitalW}
 use Rattle.laws.specs.Lists.{indexOf, every}
 use Rattle.laws.proofs.Tests.{and-first, and-second, picked, guard, passed}
-use Rattle.lonlat.specs.Angle.{mostLatitude, mostLongitude, widthOf, cutTo, cutAngle, signedOf, isMinus}
+use Rattle.lonlat.specs.Angle.{mostLatitude, mostLongitude, widthOf, cutTo, cutAngle}
+use Rattle.numbers.specs.Sign.{signedOf, isMinus}
 use Rattle.lonlat.specs.declared.AngleRead.{AngleRead}
 use Rattle.lonlat.specs.declared.AngleRead.the-variants.{Of, Bad}
 use Rattle.lonlat.specs.declared.Latitude.{Latitude}
 use Rattle.lonlat.specs.declared.Longitude.{Longitude}
 use Rattle.lonlat.specs.declared.LatitudeRead.the-variants as lat
 use Rattle.lonlat.specs.declared.LongitudeRead.the-variants as lon
-use Rattle.lonlat.specs.Digits.{lastAs, numberAfter, numberOf, degreesOf, minutesOf, hundredthsOf, valueOf, fits, angleIn, placesOf}
+use Rattle.lonlat.specs.Digits.{lastAs, degreesOf, minutesOf, hundredthsOf, valueOf, fits, angleIn, placesOf}
+use Rattle.numbers.specs.Numbers.{numberAfter, numberOf}
 use Rattle.lonlat.specs.Latitude.{blanksIn, restBlank, countedDigits, isNorthOrSouth, latitudeWith, latitudeIn, latitudePlaces, readLatitude, blankedPlaces, northOrSouth, latitudeText}
 use Rattle.lonlat.specs.Longitude.{isEastOrWest, longitudeWith, longitudeIn, longitudePlaces, readLongitude, eastOrWest, longitudeText}
-use Rattle.lonlat.proofs.Angle.{rejoined, size-signed}
+use Rattle.numbers.proofs.Sign.{rejoined, size-signed}
 use Rattle.lonlat.proofs.Texts.{every-last, places-are, six-places, seven-places, blanked-six, blanked-latitude, latitude-of-text, longitude-of-text}
 use Rattle.lonlat.proofs.Cut.{latitude-cut, longitude-cut}
 

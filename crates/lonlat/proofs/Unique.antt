@@ -5,14 +5,16 @@ use mathlib.Core.Bool.{Bool}
 use mathlib.Core.List.{List}
 use Prim.Native.Nat.{ℕ}
 use lib.IntN.{ℤ}
-use Rattle.laws.specs.declared.Answer.{Answer}
-use Rattle.laws.specs.Wrote.{ends, wrote}
-use Rattle.laws.proofs.Wrote.{one-value, one-end}
-use Rattle.lonlat.specs.declared.Sides.{Sides}
+use Rattle.buffer.specs.declared.Answer.{Answer}
+use Rattle.buffer.specs.Wrote.{ends, wrote}
+use Rattle.laws.proofs.Unique.{one-value}
+use Rattle.buffer.proofs.Wrote.{one-end}
+use Rattle.numbers.specs.declared.Sides.{Sides}
 use Rattle.lonlat.specs.declared.LongitudeMade.{LongitudeMade}
 use Rattle.lonlat.specs.declared.LatitudeRead.{LatitudeRead}
 use Rattle.lonlat.specs.declared.LongitudeRead.{LongitudeRead}
-use Rattle.lonlat.specs.Angle.{sidesOf, longitudeOf}
+use Rattle.numbers.specs.Sign.{sidesOf}
+use Rattle.lonlat.specs.Angle.{longitudeOf}
 use Rattle.lonlat.specs.Latitude.{readLatitude, latitudeText, latitudeRefusal}
 use Rattle.lonlat.specs.Longitude.{readLongitude, longitudeText, longitudeRefusal}
 

@@ -9,16 +9,18 @@ use borrow.Author.Tests.{lt-ltb, le-ltb}
 use lib.IntN.{ℤ, natAbs}
 use lib.ListN.{length, getD}
 use Rattle.laws.specs.Bytes.{space, point, capitalN, capitalS, capitalE, capitalW}
-use Rattle.laws.specs.Wrote.{ends, refusedBy, wrote}
-use Rattle.laws.specs.declared.Answer.{Answer}
+use Rattle.buffer.specs.Wrote.{ends, refusedBy, wrote}
+use Rattle.buffer.specs.declared.Answer.{Answer}
 use Rattle.laws.proofs.Lists.{elements-all}
-use Rattle.laws.proofs.Wrote.{refuses}
-use Rattle.lonlat.specs.declared.Sides.{Sides}
-use Rattle.lonlat.specs.Angle.{mostLatitude, mostLongitude, sidesOf}
-use Rattle.lonlat.specs.Digits.{lastAs, digitOf, digitsOf, placesOf, textOf}
+use Rattle.buffer.proofs.Wrote.{refuses}
+use Rattle.numbers.specs.declared.Sides.{Sides}
+use Rattle.lonlat.specs.Angle.{mostLatitude, mostLongitude}
+use Rattle.numbers.specs.Sign.{sidesOf}
+use Rattle.lonlat.specs.Digits.{lastAs, placesOf, textOf}
+use Rattle.numbers.specs.Numbers.{digitOf, digitsOf}
 use Rattle.lonlat.specs.Latitude.{northOrSouth, blankedPlaces, latitudeText, latitudeRefusal}
 use Rattle.lonlat.specs.Longitude.{eastOrWest, longitudeText, longitudeRefusal}
-use Rattle.lonlat.proofs.Angle.{parts-size, parts-minus}
+use Rattle.numbers.proofs.Sign.{parts-size, parts-minus}
 use Rattle.lonlat.proofs.Digits.{last-length}
 
 -- ---- texts

@@ -2,13 +2,11 @@
 -- plain 0." An angle's size is its distance from 0, and its side minus is south or west.
 -- Assumes nothing.
 use Prim.Native.Nat.{ℕ, _-_, _%_}
-use mathlib.Core.Bool.{Bool, cond, not}
+use mathlib.Core.Bool.{Bool, cond}
 use mathlib.Core.List.{[], _∷_}
 use lib.ListN.{getD}
 use lib.Dec.{ltb}
-use lib.IntN.{ℤ, pos, negℤ, natAbs}
-use lib.Signed.{nonNeg}
-use Rattle.lonlat.specs.declared.Sides.{Sides}
+use lib.IntN.{ℤ, natAbs}
 use Rattle.lonlat.specs.declared.LongitudeMade.{LongitudeMade}
 use Rattle.lonlat.specs.declared.LongitudeMade.the-variants.{Made, OutOfRange}
 
@@ -29,21 +27,9 @@ widthOf blanks = getD (1 ∷ 10 ∷ 100 ∷ 1000 ∷ 6000 ∷ []) blanks 60000
 unfoldable pub cutTo : ℕ → ℕ → ℕ
 cutTo blanks size = size - size % widthOf blanks
 
--- size hundredths north or east, or south or west where minus is said
-unfoldable pub signedOf : Bool → ℕ → ℤ
-signedOf minus size = cond minus (negℤ (pos size)) (pos size)
-
--- south or west; 0 is neither
-unfoldable pub isMinus : ℤ → Bool
-isMinus angle = not (nonNeg angle)
-
 -- an angle on its own side, its blanked digits taken as 0
 unfoldable pub cutAngle : ℕ → ℤ → ℤ
 cutAngle blanks angle = signedOf (isMinus angle) (cutTo blanks (natAbs angle))
-
--- an angle taken apart
-unfoldable pub sidesOf : ℤ → Sides
-sidesOf angle = record { minus = isMinus angle; size = natAbs angle }
 
 -- a longitude of that size, at most 180 degrees, east or west
 unfoldable pub longitudeOf : ℕ → Bool → LongitudeMade

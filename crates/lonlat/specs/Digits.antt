@@ -1,14 +1,14 @@
 -- The digit places of an angle's text (APRS 1.0.1, chapter 6): degrees, two places of minutes, a point, two places of
 -- hundredths, a letter. `dd` or `ddd` mm hh are its digit places, the point and the letter apart.
 -- Assumes nothing.
-use Prim.Native.Nat.{ℕ, zero, suc, _+_, _-_, _*_, _/_, _%_}
+use Prim.Native.Nat.{ℕ, _+_, _-_, _*_, _/_, _%_}
 use mathlib.Core.Bool.{Bool, cond, _&&_}
 use mathlib.Core.List.{List, [], _∷_, _++_}
 use lib.ListN.{length, take, drop, replicate}
 use lib.Dec.{leb}
-use Rattle.laws.specs.Bytes.{digit0, point, isDigit}
+use Rattle.laws.specs.Bytes.{point, isDigit}
 use Rattle.laws.specs.Lists.{every}
-use Rattle.lonlat.specs.Angle.{signedOf}
+use Rattle.numbers.specs.Sign.{signedOf}
 use Rattle.lonlat.specs.declared.AngleRead.{AngleRead}
 use Rattle.lonlat.specs.declared.AngleRead.the-variants.{Of, Bad}
 use Rattle.lonlat.specs.declared.Size.{Size}
@@ -19,15 +19,6 @@ unfoldable pub lastAs : ℕ → ℕ → List ℕ → List ℕ
 lastAs b n t = take (length t - n) t ++ replicate n b
 
 -- ---- read
-
--- the decimal number that digits go on to write behind the number v
-unfoldable pub numberAfter : ℕ → List ℕ → ℕ
-numberAfter v [] = v
-numberAfter v (b ∷ t) = numberAfter (10 * v + (b - digit0)) t
-
--- the decimal number that digits write
-unfoldable pub numberOf : List ℕ → ℕ
-numberOf t = numberAfter 0 t
 
 -- all but the last four places are degrees
 unfoldable pub degreesOf : List ℕ → ℕ
@@ -58,15 +49,6 @@ unfoldable pub angleIn : ℕ → Bool → List ℕ → AngleRead
 angleIn most minus t = cond (fits most t) (Of (signedOf minus (valueOf t))) Bad
 
 -- ---- written
-
--- the character of the last decimal digit of v
-unfoldable pub digitOf : ℕ → ℕ
-digitOf v = digit0 + v % 10
-
--- the last k decimal digits of v
-unfoldable pub digitsOf : ℕ → ℕ → List ℕ
-digitsOf zero v = []
-digitsOf (suc k) v = digitsOf k (v / 10) ++ digitOf v ∷ []
 
 -- the digit places of a size, k of them for the degrees
 unfoldable pub placesOf : ℕ → ℕ → List ℕ

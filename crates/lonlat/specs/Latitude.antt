@@ -9,7 +9,8 @@ use lib.Dec.{eqb, leb, ltb}
 use lib.IntN.{ℤ, natAbs}
 use Rattle.laws.specs.Bytes.{space, digit0, point, isDigit, capitalN, capitalS}
 use Rattle.laws.specs.Lists.{indexOf, every}
-use Rattle.lonlat.specs.Angle.{mostLatitude, isMinus}
+use Rattle.lonlat.specs.Angle.{mostLatitude}
+use Rattle.numbers.specs.Sign.{isMinus}
 use Rattle.lonlat.specs.Digits.{lastAs, angleIn, placesOf, textOf}
 use Rattle.lonlat.specs.declared.AngleRead.{AngleRead}
 use Rattle.lonlat.specs.declared.AngleRead.the-variants.{Of, Bad}

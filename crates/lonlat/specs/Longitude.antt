@@ -8,7 +8,8 @@ use lib.ListN.{length, getD}
 use lib.Dec.{eqb, ltb}
 use lib.IntN.{ℤ, natAbs}
 use Rattle.laws.specs.Bytes.{digit0, point, capitalE, capitalW}
-use Rattle.lonlat.specs.Angle.{mostLongitude, isMinus}
+use Rattle.lonlat.specs.Angle.{mostLongitude}
+use Rattle.numbers.specs.Sign.{isMinus}
 use Rattle.lonlat.specs.Digits.{lastAs, angleIn, placesOf, textOf}
 use Rattle.lonlat.specs.declared.AngleRead.{AngleRead}
 use Rattle.lonlat.specs.declared.AngleRead.the-variants.{Of, Bad}

@@ -5,9 +5,11 @@ ghost use lib.ListN.{length};
 ghost use mathlib.Core.Bool.{cond, _||_};
 ghost use lib.Dec.{eqb};
 ghost use Rattle.laws.specs.Lists.{every};
-ghost use Rattle.laws.specs.Wrote.{ends, wrote};
-ghost use Rattle.lonlat.specs.Angle.{mostLongitude, signedOf, sidesOf, longitudeOf};
-ghost use Rattle.lonlat.specs.Digits.{lastAs, sizeOf, angleIn, digitOf, placesOf, textOf};
+ghost use Rattle.buffer.specs.Wrote.{ends, wrote};
+ghost use Rattle.lonlat.specs.Angle.{mostLongitude, longitudeOf};
+ghost use Rattle.numbers.specs.Sign.{signedOf};
+ghost use Rattle.lonlat.specs.Digits.{lastAs, sizeOf, angleIn, placesOf, textOf};
+ghost use Rattle.numbers.specs.Numbers.{digitOf};
 ghost use Rattle.lonlat.specs.Latitude.{isBlank, keptOf, latitudeIn, readLatitude, blankedPlaces, latitudeText, latitudeRefusal};
 ghost use Rattle.lonlat.specs.Longitude.{longitudeIn, readLongitude, longitudeText, longitudeRefusal};
 
@@ -17,33 +19,10 @@ pub struct Latitude(pub i32);
 // A longitude: signed hundredths of a minute, east positive.
 pub struct Longitude(pub i32);
 
-// An angle taken apart: whether it lies south or west, and its size. 0 does not.
-pub struct Sides {
-    pub size: u32,
-    pub minus: bool,
-}
-
 // A longitude put together, or the refusal of one past 180 degrees.
 pub enum LongitudeMade {
     Made(Longitude),
     OutOfRange,
-}
-
-// The angle's side and size.
-pub fn parts(angle: i32) -> Sides
-    ensures { λ r. ⌜ r ≡ sidesOf angle ⌝ }
-{
-    if angle < 0 {
-        let turned = 0 - (angle as i64);
-        return Sides {
-            minus: true,
-            size: turned as u32,
-        };
-    }
-    Sides {
-        minus: false,
-        size: angle as u32,
-    }
 }
 
 // The angle of a side and a size.
@@ -281,19 +260,19 @@ fn latitude_text(size: u32, blanks: usize, letter: u8) -> [u8; 8]
 
 // Writes `ddmm.hh` and N or S, the last digits blank, as many as blanks says: eight bytes. An angle past 90 degrees or
 // more than five blanks are 15, a buffer without room 16.
-pub fn write_latitude(l: Latitude, blanks: u8, out: &mut [u8]) -> laws::Answer
+pub fn write_latitude(l: Latitude, blanks: u8, out: &mut [u8]) -> buffer::Answer
     ensures { λ r. ⌜ ends r (now (out .exit)) ≡ wrote (latitudeRefusal (l .0) blanks) (latitudeText (l .0) blanks) (now (out .entry)) ⌝ }
 {
-    let sides = parts(l.0);
+    let sides = numbers::parts(l.0);
     if 540000 < sides.size {
-        return laws::refused(15);
+        return buffer::refused(15);
     }
     if 5 < blanks {
-        return laws::refused(15);
+        return buffer::refused(15);
     }
     let letter = side_letter(sides.minus, b'N', b'S');
     let text = latitude_text(sides.size, blanks as usize, letter);
-    laws::write(&text, out)
+    buffer::write(&text, out)
 }
 
 // The letter of a side.
@@ -327,14 +306,14 @@ fn longitude_text(size: u32, letter: u8) -> [u8; 9]
 }
 
 // Writes `dddmm.hh` and E or W, in full: nine bytes. An angle past 180 degrees is 15, a buffer without room 16.
-pub fn write_longitude(l: Longitude, out: &mut [u8]) -> laws::Answer
+pub fn write_longitude(l: Longitude, out: &mut [u8]) -> buffer::Answer
     ensures { λ r. ⌜ ends r (now (out .exit)) ≡ wrote (longitudeRefusal (l .0)) (longitudeText (l .0)) (now (out .entry)) ⌝ }
 {
-    let sides = parts(l.0);
+    let sides = numbers::parts(l.0);
     if 1080000 < sides.size {
-        return laws::refused(15);
+        return buffer::refused(15);
     }
     let letter = side_letter(sides.minus, b'E', b'W');
     let text = longitude_text(sides.size, letter);
-    laws::write(&text, out)
+    buffer::write(&text, out)
 }

@@ -7,8 +7,9 @@ use Prim.Native.Nat.{ℕ}
 use lib.IntN.{pos, negsuc}
 use Rattle.laws.specs.Bytes.{capitalL, capitalS, capitalT, capitalU, within}
 use Rattle.laws.specs.Lists.{indexOf, every}
-use Rattle.lonlat.specs.Angle.{signedOf}
-use Rattle.lonlat.specs.Digits.{lastAs, numberAfter, numberOf, degreesOf, minutesOf, hundredthsOf, valueOf, fits, angleIn}
+use Rattle.numbers.specs.Sign.{signedOf}
+use Rattle.lonlat.specs.Digits.{lastAs, degreesOf, minutesOf, hundredthsOf, valueOf, fits, angleIn}
+use Rattle.numbers.specs.Numbers.{numberAfter, numberOf}
 use Rattle.lonlat.specs.Latitude.{blanksIn, restBlank, countedDigits, latitudeWith, latitudeIn, readLatitude}
 use Rattle.mic_e.specs.Turn.{lessIf}
 use Rattle.mic_e.specs.Motion.{knots, degrees, readMotion, tensOf, motionField}

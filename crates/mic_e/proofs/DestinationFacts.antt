@@ -10,7 +10,8 @@ use lib.IntN.{ℤ, natAbs}
 use lib.ListN.{length, getD}
 use Rattle.laws.specs.Bytes.{capitalN, capitalS}
 use Rattle.laws.proofs.Tests.{picked}
-use Rattle.lonlat.specs.Angle.{mostLatitude, widthOf, isMinus}
+use Rattle.lonlat.specs.Angle.{mostLatitude, widthOf}
+use Rattle.numbers.specs.Sign.{isMinus}
 use Rattle.lonlat.specs.Latitude.{isDigitOrBlank, latitudeIn, latitudePlaces, readLatitude, blankedPlaces, northOrSouth, latitudeText}
 use Rattle.lonlat.proofs.Texts.{latitude-of-eight, latitude-of-text, blanked-six, blanked-at, latitude-text-places, latitude-text-letter}
 use Rattle.lonlat.proofs.Theorems.{latitude-reads-back}

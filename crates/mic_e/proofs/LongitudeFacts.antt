@@ -9,7 +9,8 @@ use native.Mathlib.Omega.{arith}
 use lib.Dec.{ltb}
 use borrow.Author.Tests.{ltb-true, ltb-false, le-ltb}
 use Rattle.laws.proofs.Tests.{bool-cases, guard}
-use Rattle.lonlat.specs.Angle.{mostLongitude, signedOf}
+use Rattle.lonlat.specs.Angle.{mostLongitude}
+use Rattle.numbers.specs.Sign.{signedOf}
 use Rattle.lonlat.specs.declared.Longitude.{Longitude}
 use Rattle.mic_e.specs.Turn.{lessIf}
 use Rattle.mic_e.specs.Longitude.{offsetOf, wrapped, sizeOf, readLongitude, degreesByte, hundredFor, minutesByte, longitudeField}

@@ -11,13 +11,14 @@ use lib.IntN.{ℤ, natAbs}
 use lib.Dec.{eqb, ltb}
 use lib.ListN.{length, getD, drop}
 use Rattle.laws.proofs.Tests.{guard, passed}
-use Rattle.lonlat.specs.Angle.{mostLatitude, mostLongitude, widthOf, isMinus}
+use Rattle.lonlat.specs.Angle.{mostLatitude, mostLongitude, widthOf}
+use Rattle.numbers.specs.Sign.{isMinus}
 use Rattle.lonlat.specs.Latitude.{latitudeRefusal, readLatitude}
 use Rattle.lonlat.specs.declared.LatitudeRead.{LatitudeRead}
 use Rattle.lonlat.specs.declared.LatitudeRead.the-variants.{Read as Latitude-read, Refused as Latitude-refused}
 use Rattle.lonlat.specs.declared.Latitude.{Latitude}
 use Rattle.lonlat.specs.declared.Longitude.{Longitude}
-use Rattle.lonlat.proofs.Angle.{rejoined, size-signed}
+use Rattle.numbers.proofs.Sign.{rejoined, size-signed}
 use Rattle.lonlat.proofs.Theorems.{read-latitude-found}
 use Rattle.mic_e.specs.Motion.{mostSpeed, mostCourse, readMotion, motionField}
 use Rattle.mic_e.specs.Longitude.{readLongitude, longitudeOut, hundredOf, hundredFor, longitudeField}

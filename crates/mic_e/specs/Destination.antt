@@ -8,7 +8,7 @@ use lib.Dec.{eqb}
 use lib.IntN.{ℤ}
 use lib.ListN.{length, getD, replicate}
 use Rattle.laws.specs.Bytes.{point, capitalN, capitalS}
-use Rattle.lonlat.specs.Angle.{isMinus}
+use Rattle.numbers.specs.Sign.{isMinus}
 use Rattle.lonlat.specs.Latitude.{readLatitude, latitudeText, latitudeRefusal}
 use Rattle.lonlat.specs.declared.LatitudeRead.{LatitudeRead}
 use Rattle.lonlat.specs.declared.LatitudeRead.the-variants.{Read as Latitude-read, Refused as Latitude-refused}

@@ -5,7 +5,8 @@ use mathlib.Core.Bool.{Bool, true, false, cond}
 use Prim.Native.Nat.{ℕ, _+_, _-_, _*_, _/_, _%_}
 use lib.Dec.{leb, ltb}
 use lib.IntN.{ℤ, natAbs}
-use Rattle.lonlat.specs.Angle.{mostLongitude, signedOf}
+use Rattle.lonlat.specs.Angle.{mostLongitude}
+use Rattle.numbers.specs.Sign.{signedOf}
 use Rattle.mic_e.specs.Turn.{lessIf}
 use Rattle.mic_e.specs.declared.Field.{Field}
 use Rattle.mic_e.specs.declared.LongitudeField.{LongitudeField}

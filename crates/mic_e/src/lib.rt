@@ -6,9 +6,10 @@ ghost use Prim.Native.Nat.{_+_, _≤_, _<_};
 ghost use lib.IntN.{natAbs};
 ghost use lib.ListN.{length, getD};
 ghost use Rattle.laws.specs.Bytes.{capitalN, capitalS, within};
-ghost use Rattle.laws.specs.Wrote.{ends, wrote};
+ghost use Rattle.buffer.specs.Wrote.{ends, wrote};
 ghost use Rattle.lonlat.specs.Latitude.{readLatitude};
-ghost use Rattle.lonlat.specs.Angle.{mostLongitude, sidesOf};
+ghost use Rattle.lonlat.specs.Angle.{mostLongitude};
+ghost use Rattle.numbers.specs.Sign.{sidesOf};
 ghost use Rattle.mic_e.specs.Turn.{lessIf};
 ghost use Rattle.mic_e.specs.Motion.{mostSpeed, mostCourse, readMotion, tensOf, motionField};
 ghost use Rattle.mic_e.specs.Longitude.{offsetOf, wrapped, readLongitude, longitudeField, degreesByte, minutesByte, hundredFor};
@@ -20,7 +21,7 @@ use lonlat::Latitude;
 use lonlat::LatitudeRead;
 use lonlat::Longitude;
 use lonlat::LongitudeMade;
-use lonlat::Sides;
+use numbers::Sides;
 
 // A speed in knots, at most 799.
 pub struct Speed(pub u32);
@@ -595,7 +596,7 @@ fn sides_of(longitude: Longitude) -> Sides
     ensures { λ r. ⌜ r ≡ sidesOf (longitude .0) ⌝ }
 {
     let angle = longitude.0;
-    lonlat::parts(angle)
+    numbers::parts(angle)
 }
 
 // The destination of a latitude with its blanks, a message and a longitude, whose offset and side it carries; or 15.
@@ -700,12 +701,12 @@ fn information_bytes(i: Information) -> [u8; 8]
 }
 
 // Writes the eight bytes to the front of out, or answers 15 or 16 and leaves it alone.
-pub fn write_information(i: Information, out: &mut [u8]) -> laws::Answer
+pub fn write_information(i: Information, out: &mut [u8]) -> buffer::Answer
     ensures { λ r. ⌜ ends r (now (out .exit)) ≡ wrote (informationRefusal i) (informationBytes i) (now (out .entry)) ⌝ }
 {
     if is_out(i) {
-        return laws::refused(15);
+        return buffer::refused(15);
     }
     let bytes = information_bytes(i);
-    laws::write(&bytes, out)
+    buffer::write(&bytes, out)
 }

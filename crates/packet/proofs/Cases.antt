@@ -15,8 +15,9 @@ use Rattle.header.specs.Header.{pathOf, hopsOf, headerOf, headerAccepted, unles
 use Rattle.header.specs.Text.{onFirst, fields, firstOf, othersOf, isQ, hopOf, readHop, hopThen, textHops, anyHeard, carried, carriedBack}
 use Rattle.header.specs.Text.{withPath, readRoute, readBefore, readTextHeader, hopsText, routeText, headerText}
 use Rattle.header.proofs.Theorems.{P11-text, P11-hops}
-use Rattle.lonlat.specs.Angle.{signedOf, isMinus}
-use Rattle.lonlat.specs.Digits.{lastAs, numberAfter, numberOf, degreesOf, minutesOf, hundredthsOf, valueOf, sizeOf, fits, angleIn, digitOf, digitsOf, placesOf, textOf}
+use Rattle.numbers.specs.Sign.{signedOf, isMinus}
+use Rattle.lonlat.specs.Digits.{lastAs, degreesOf, minutesOf, hundredthsOf, valueOf, sizeOf, fits, angleIn, placesOf, textOf}
+use Rattle.numbers.specs.Numbers.{numberAfter, numberOf, digitOf, digitsOf}
 use Rattle.lonlat.specs.Latitude.{blanksIn, restBlank, countedDigits, latitudeWith, latitudeIn, readLatitude, northOrSouth, blankedPlaces, latitudeText}
 use Rattle.lonlat.specs.Longitude.{longitudeWith, longitudeIn, readLongitude, eastOrWest, longitudeText}
 use Rattle.position.specs.Position.{isNumeric, isUncompressed, withLongitude, withLatitude, readPosition, positionText}

@@ -6,10 +6,10 @@ use mathlib.Core.List.{List}
 use Prim.Native.Nat.{ℕ, _≤_}
 use native.Mathlib.Omega.{arith}
 use lib.ListN.{length, take, replicate}
-use Rattle.laws.specs.declared.Answer.{Answer}
-use Rattle.laws.specs.Wrote.{ends, refusedBy, overBy, wrote}
-use Rattle.laws.proofs.Wrote.{passed-on}
-use Rattle.laws.proofs.Answers.{refusal-is, front-is}
+use Rattle.buffer.specs.declared.Answer.{Answer}
+use Rattle.buffer.specs.Wrote.{ends, refusedBy, overBy, wrote}
+use Rattle.buffer.proofs.Wrote.{passed-on}
+use Rattle.buffer.proofs.Answers.{refusal-is, front-is}
 use Rattle.header.specs.declared.Header.{Header}
 use Rattle.header.specs.Text.{headerText}
 use Rattle.header.specs.Frame.{headerFrame, firstRefusal, addresses}

@@ -9,9 +9,9 @@ use mir.Val.{SFits, toZ, ofZ}
 use mir.Syntax.{w32}
 use borrow.Author.Tests.{eq-eqb, ne-eqb}
 use Rattle.laws.proofs.Picks.{and-failed, and-held, flag-set, flag-unset}
-use Rattle.lonlat.specs.declared.Sides.{Sides}
-use Rattle.lonlat.specs.Angle.{sidesOf}
-use Rattle.lonlat.proofs.Angle.{back, parts-size}
+use Rattle.numbers.specs.declared.Sides.{Sides}
+use Rattle.numbers.specs.Sign.{sidesOf}
+use Rattle.numbers.proofs.Sign.{back, parts-size}
 
 -- a number that a call gave
 module _ (n a : ℕ) (b : Bool) (e : n ≡ a) where

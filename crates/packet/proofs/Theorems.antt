@@ -6,7 +6,7 @@ use mathlib.Core.List.{List, _++_}
 use Prim.Native.Nat.{ℕ, zero, suc, _+_, _%_, _≤_}
 use lib.IntN.{natAbs}
 use lib.ListN.{length, drop}
-use Rattle.laws.specs.Wrote.{overBy}
+use Rattle.buffer.specs.Wrote.{overBy}
 use Rattle.lonlat.specs.Angle.{widthOf}
 use Rattle.header.specs.Text.{readTextHeader}
 use Rattle.header.specs.Frame.{readFrameHeader}

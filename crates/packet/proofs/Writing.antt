@@ -11,11 +11,11 @@ use borrow.Author.Tests.{le-ltb}
 use borrow.Rule.Slice.PartAt.{part-to-end}
 use lib.ListN.{length, take, drop, length-append, length-drop}
 use lib.Seq.{take-at, length-take-le}
-use Rattle.laws.specs.declared.Answer.{Answer}
+use Rattle.buffer.specs.declared.Answer.{Answer}
 use Rattle.laws.specs.Bytes.{bang, equals, backquote, apostrophe}
-use Rattle.laws.proofs.Wrote.{passed-on}
-use Rattle.laws.proofs.Answers.{bytes-are, reported-is, filled}
-use Rattle.laws.specs.Wrote.{Wrote, ends, refusedBy, doneBy, overBy, wroteAs, wrote}
+use Rattle.buffer.proofs.Wrote.{passed-on}
+use Rattle.buffer.proofs.Answers.{bytes-are, reported-is, filled}
+use Rattle.buffer.specs.Wrote.{Wrote, ends, refusedBy, doneBy, overBy, wroteAs, wrote}
 use Rattle.position.specs.declared.Place.{Place}
 use Rattle.position.specs.Position.{positionText, positionRefusal}
 use Rattle.mic_e.specs.Information.{informationBytes, informationRefusal}

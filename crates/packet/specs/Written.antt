@@ -5,7 +5,7 @@ use Prim.Native.Nat.{ℕ, zero, suc}
 use mathlib.Core.Bool.{Bool, cond}
 use mathlib.Core.List.{List, [], _∷_, _++_}
 use Rattle.laws.specs.Bytes.{bang, equals, backquote, apostrophe}
-use Rattle.laws.specs.Wrote.{Wrote, overBy, wrote}
+use Rattle.buffer.specs.Wrote.{Wrote, overBy, wrote}
 use Rattle.callsign.specs.declared.Callsign.{Callsign}
 use Rattle.callsign.specs.Text.{made}
 use Rattle.header.specs.declared.Header.{Header}

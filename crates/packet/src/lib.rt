@@ -11,7 +11,7 @@ ghost use Rattle.mic_e.specs.Information.{readInformation, informationRefusal};
 ghost use Rattle.header.specs.Text.{readTextHeader};
 ghost use Rattle.header.specs.Frame.{readFrameHeader};
 ghost use Rattle.header.specs.Range.{headerInRange};
-ghost use Rattle.laws.specs.Wrote.{ends, wrote};
+ghost use Rattle.buffer.specs.Wrote.{ends, wrote};
 ghost use Rattle.packet.specs.Record.{noReport, blankRecord, packetRefused, headerOf};
 ghost use Rattle.packet.specs.Range.{isNoPlace, isNoReport, isShort, motionInRange, unknownInRange, positionInRange, micEInRange, partsInRange, recordInRange};
 ghost use Rattle.packet.specs.Body.{openingOf, bodyRefused, positionBody, reportBody, micEBody, readBody};
@@ -371,12 +371,12 @@ fn is_no_place(p: Place) -> bool
     ensures { λ r. ⌜ r ≡ isNoPlace p ⌝ }
 {
     let latitude = p.latitude;
-    let north = lonlat::parts(latitude.0);
+    let north = numbers::parts(latitude.0);
     if north.size != 0 {
         return false;
     }
     let longitude = p.longitude;
-    let east = lonlat::parts(longitude.0);
+    let east = numbers::parts(longitude.0);
     if east.size != 0 {
         return false;
     }
@@ -412,7 +412,7 @@ fn is_short(p: Place) -> bool
     ensures { λ r. ⌜ r ≡ isShort p ⌝ }
 {
     let longitude = p.longitude;
-    let east = lonlat::parts(longitude.0);
+    let east = numbers::parts(longitude.0);
     east.size < 1080000
 }
 
@@ -577,19 +577,19 @@ fn write_body(
     messaging: bool,
     report: Report,
     out: &mut [u8],
-) -> laws::Answer
+) -> buffer::Answer
     requires { ⌜ bodyRefusal kind place report ≡ 0 ⌝ }
     ensures { λ a. ⌜ ends a (now (out .exit)) ≡ wrote 0 (bodyBytes kind place messaging report) (now (out .entry)) ⌝ }
 {
     match kind {
-        Kind::Unknown => laws::done(0),
+        Kind::Unknown => buffer::done(0),
         Kind::Position => {
             let bytes = position_bytes(place, messaging);
-            laws::write(&bytes, out)
+            buffer::write(&bytes, out)
         }
         Kind::MicE => {
             let bytes = mic_e_bytes(place, report);
-            laws::write(&bytes, out)
+            buffer::write(&bytes, out)
         }
     }
 }
@@ -597,22 +597,22 @@ fn write_body(
 // Behind a header that was written into head: the body; and then all of it and the comment into out.
 fn write_rest(
     r: Record,
-    h: laws::Answer,
+    h: buffer::Answer,
     head: &mut [u8],
     comment: &[u8],
     out: &mut [u8],
-) -> laws::Answer
+) -> buffer::Answer
     requires { ⌜ (bodyRefusal (r .kind) (r .place) (r .«mic_e») ≡ 0) × (h .reported ≤ 200) × (length (now head) ≡ 256) ⌝ }
     ensures { λ a. ⌜ ends a (now (out .exit)) ≡ wroteUnless (h .refusal) (bytesOf (take (h .reported) (now (head .entry))) r (now (comment .entry))) (now (out .entry)) ⌝ }
 {
     if h.refusal != 0 {
-        return laws::refused(h.refusal);
+        return buffer::refused(h.refusal);
     }
     let n = h.reported;
     let kind = r.kind;
     let b = write_body(kind, r.place, r.messaging, r.mic_e, &mut head[n..]);
     let m = n + b.reported;
-    laws::write_two(512, &head[..m], comment, out)
+    buffer::write_two(512, &head[..m], comment, out)
 }
 
 fn early_by_kind(r: Record) -> u8
@@ -645,12 +645,12 @@ fn early_refusal(r: Record) -> u8
 }
 
 // Writes a record and a comment as a line of text; refused with 15, 14, 1 or 16. The record's comment is ignored.
-pub fn write_text(r: Record, comment: &[u8], out: &mut [u8]) -> laws::Answer
+pub fn write_text(r: Record, comment: &[u8], out: &mut [u8]) -> buffer::Answer
     ensures { λ a. ⌜ ends a (now (out .exit)) ≡ wrote (textRefusal r (now (comment .entry))) (textBytes r (now (comment .entry))) (now (out .entry)) ⌝ }
 {
     let k = early_refusal(r);
     if k != 0 {
-        return laws::refused(k);
+        return buffer::refused(k);
     }
     let mut head = [0u8; 256];
     let h = header::write_text(written_header(r), &mut head);
@@ -658,12 +658,12 @@ pub fn write_text(r: Record, comment: &[u8], out: &mut [u8]) -> laws::Answer
 }
 
 // Writes a record and a comment as an AX.25 frame; refused with 15, 14, 13, 1 or 16. The record's comment is ignored.
-pub fn write_frame(r: Record, comment: &[u8], out: &mut [u8]) -> laws::Answer
+pub fn write_frame(r: Record, comment: &[u8], out: &mut [u8]) -> buffer::Answer
     ensures { λ a. ⌜ ends a (now (out .exit)) ≡ wrote (frameRefusal r (now (comment .entry))) (frameBytes r (now (comment .entry))) (now (out .entry)) ⌝ }
 {
     let k = early_refusal(r);
     if k != 0 {
-        return laws::refused(k);
+        return buffer::refused(k);
     }
     let mut head = [0u8; 256];
     let h = header::write_frame(written_header(r), &mut head);

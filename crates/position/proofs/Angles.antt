@@ -13,9 +13,10 @@ use lib.IntN.{ℤ, pos, negsuc, negℤ, natAbs, subℕ, _+ℤ_, _-ℤ_, _*ℤ_}
 use lib.Signed.{mag}
 use mir.Syntax.{w32}
 use mir.Val.{SFits, toZ, ofZ}
-use Rattle.lonlat.specs.Angle.{mostLongitude, sidesOf, widthOf}
-use Rattle.lonlat.specs.declared.Sides.{Sides}
-use Rattle.lonlat.proofs.Angle.{back, size-turned, parts-size, parts-minus}
+use Rattle.lonlat.specs.Angle.{mostLongitude, widthOf}
+use Rattle.numbers.specs.Sign.{sidesOf}
+use Rattle.numbers.specs.declared.Sides.{Sides}
+use Rattle.numbers.proofs.Sign.{back, size-turned, parts-size, parts-minus}
 use Rattle.position.specs.declared.Bounds.{Bounds}
 use Rattle.position.specs.Reach.{inReach}
 use Rattle.position.specs.Bounds.{whole, degreeWidth, degreesOf, centerOf, rangeOf, noBounds, boundsOf}

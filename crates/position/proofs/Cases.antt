@@ -3,7 +3,8 @@
 use mathlib.Core.Path.{_≡_, refl}
 use lib.IntN.{pos, negsuc}
 use lib.Ieee.{binary64, ofBits, ofInt, add, sub, div, neg}
-use Rattle.lonlat.specs.Angle.{mostLatitude, mostLongitude, isMinus, widthOf}
+use Rattle.lonlat.specs.Angle.{mostLatitude, mostLongitude, widthOf}
+use Rattle.numbers.specs.Sign.{isMinus}
 use Rattle.position.specs.Reach.{inReach}
 use Rattle.position.specs.Bounds.{fromDmh, degreesOf, centerOf, degreeWidth, rangeOf, noBounds, boundsOf}
 use Rattle.position.specs.Page.{noBox, boxOf}

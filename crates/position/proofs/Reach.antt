@@ -7,9 +7,10 @@ use borrow.Author.Tests.{le-leb, lt-leb, lt-ltb, le-ltb, leb-true, not-true, not
 use lib.Dec.{leb, ltb}
 use lib.IntN.{ℤ, natAbs}
 use Rattle.laws.proofs.Tests.{and-first, and-second}
-use Rattle.lonlat.specs.Angle.{mostLatitude, mostLongitude, sidesOf}
-use Rattle.lonlat.specs.declared.Sides.{Sides}
-use Rattle.lonlat.proofs.Angle.{parts-size}
+use Rattle.lonlat.specs.Angle.{mostLatitude, mostLongitude}
+use Rattle.numbers.specs.Sign.{sidesOf}
+use Rattle.numbers.specs.declared.Sides.{Sides}
+use Rattle.numbers.proofs.Sign.{parts-size}
 use Rattle.position.specs.declared.Place.{Place}
 use Rattle.position.specs.Reach.{inReach}
 use Rattle.position.specs.Position.{placeInRange, symbolsInRange}

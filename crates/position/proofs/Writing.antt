@@ -8,11 +8,11 @@ use native.Mathlib.Omega.{arith}
 use borrow.Author.Tests.{le-ltb, not-true, not-false}
 use lib.IntN.{ℤ, natAbs}
 use lib.ListN.{length, getD}
-use Rattle.laws.specs.Wrote.{ends, refusedBy, wrote}
-use Rattle.laws.specs.declared.Answer.{Answer}
+use Rattle.buffer.specs.Wrote.{ends, refusedBy, wrote}
+use Rattle.buffer.specs.declared.Answer.{Answer}
 use Rattle.laws.proofs.Lists.{elements, elements-all}
-use Rattle.laws.proofs.Wrote.{refuses}
-use Rattle.laws.proofs.Answers.{filled}
+use Rattle.buffer.proofs.Wrote.{refuses}
+use Rattle.buffer.proofs.Answers.{filled}
 use Rattle.lonlat.specs.Angle.{mostLatitude, mostLongitude}
 use Rattle.lonlat.specs.Latitude.{latitudeText, latitudeRefusal}
 use Rattle.lonlat.specs.Longitude.{longitudeText, longitudeRefusal}

@@ -8,7 +8,7 @@ use mathlib.Core.List.{[], _∷_}
 use lib.ListN.{getD}
 use lib.IntN.{ℤ, pos, natAbs}
 use lib.Ieee.{Float, binary64, add, sub, div, neg, ofInt}
-use Rattle.lonlat.specs.Angle.{isMinus}
+use Rattle.numbers.specs.Sign.{isMinus}
 use Rattle.position.specs.declared.Bounds.{Bounds}
 use Rattle.position.specs.declared.BoundsAnswer.{BoundsAnswer}
 use Rattle.position.specs.Reach.{inReach}

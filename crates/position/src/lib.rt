@@ -6,7 +6,7 @@ ghost use lib.IntN.{pos, natAbs};
 ghost use mathlib.Core.Bool.{true};
 ghost use lib.ListN.{length, take, drop};
 ghost use Rattle.laws.specs.Bytes.{isDigit};
-ghost use Rattle.laws.specs.Wrote.{ends, wrote};
+ghost use Rattle.buffer.specs.Wrote.{ends, wrote};
 ghost use Rattle.lonlat.specs.Angle.{mostLatitude, mostLongitude, widthOf};
 ghost use Rattle.lonlat.specs.Latitude.{latitudeText};
 ghost use Rattle.lonlat.specs.Longitude.{readLongitude, longitudeText};
@@ -147,7 +147,7 @@ pub fn read_position(s: &[u8]) -> PositionRead
 fn in_reach(most: u32, angle: i32, blanks: u8) -> bool
     ensures { λ r. ⌜ r ≡ inReach most (natAbs angle) blanks ⌝ }
 {
-    let sides = lonlat::parts(angle);
+    let sides = numbers::parts(angle);
     if most < sides.size {
         return false;
     }
@@ -229,17 +229,17 @@ fn position_bytes(p: Place) -> [u8; 19]
 }
 
 // Writes the 19 bytes before the comment. An angle, the blanks or a symbol byte out of range is 15, a buffer without room 16.
-pub fn write_position(p: Place, out: &mut [u8]) -> laws::Answer
+pub fn write_position(p: Place, out: &mut [u8]) -> buffer::Answer
     ensures { λ r. ⌜ ends r (now (out .exit)) ≡ wrote (positionRefusal p) (positionText p) (now (out .entry)) ⌝ }
 {
     if !in_range(p) {
-        return laws::refused(15);
+        return buffer::refused(15);
     }
     if !symbols_in_range(p) {
-        return laws::refused(15);
+        return buffer::refused(15);
     }
     let text = position_bytes(p);
-    laws::write(&text, out)
+    buffer::write(&text, out)
 }
 
 // The lower and upper bound of an angle, in degrees.
@@ -308,7 +308,7 @@ fn bounds_of(most: u32, angle: i32, blanks: u8) -> BoundsAnswer
             },
         };
     }
-    let sides = lonlat::parts(angle);
+    let sides = numbers::parts(angle);
     let center = degrees(sides.size);
     if sides.minus {
         let turned = range(-center, blanks);

@@ -1,5 +1,5 @@
 -- The parts of the record side by side. Assumes nothing.
-use Rattle.lonlat.proofs.Angle.{back}
+use Rattle.numbers.proofs.Sign.{back}
 use Rattle.boundary.proofs.Flattening.{flat-made}
 use borrow.Author.Needs.{needs}
 use Rattle.boundary.proofs.flattened.Statement.{statement}

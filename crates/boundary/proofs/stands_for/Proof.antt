@@ -1,5 +1,5 @@
 -- The record of the parts side by side. Assumes nothing.
-use Rattle.lonlat.proofs.Angle.{back}
+use Rattle.numbers.proofs.Sign.{back}
 use Rattle.boundary.proofs.Flattening.{stands-made}
 use borrow.Author.Needs.{needs}
 use Rattle.boundary.proofs.stands_for.Statement.{statement}

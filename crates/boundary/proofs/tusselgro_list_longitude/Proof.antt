@@ -5,8 +5,8 @@ use mathlib.Core.List.{List}
 use Prim.Native.Nat.{ℕ}
 use lib.IntN.{ℤ}
 use denote.Ref.{now}
-use Rattle.laws.specs.Wrote.{Wrote}
-use Rattle.lonlat.proofs.Angle.{back}
+use Rattle.buffer.specs.Wrote.{Wrote}
+use Rattle.numbers.proofs.Sign.{back}
 use Rattle.fields.specs.Lists.{listed, longitudeRefusal, longitudeFields}
 use borrow.Author.Needs.{needs}
 use Rattle.boundary.proofs.tusselgro_list_longitude.Statement.{statement}

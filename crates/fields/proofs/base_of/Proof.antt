@@ -4,7 +4,7 @@ use mathlib.Core.Bool.{Bool, false}
 use Prim.Native.Nat.{ℕ}
 use lib.IntN.{natAbs}
 use Rattle.lonlat.specs.declared.Longitude.{Longitude}
-use Rattle.lonlat.proofs.Angle.{back, parts-size}
+use Rattle.numbers.proofs.Sign.{back, parts-size}
 use Rattle.mic_e.specs.Longitude.{readLongitude}
 use Rattle.mic_e.specs.declared.LongitudeField.{LongitudeField}
 use Rattle.mic_e.specs.declared.LongitudeField.the-variants.{Read, Refused}

@@ -5,7 +5,7 @@ use native.Mathlib.Omega.{arith}
 use lib.ListN.{length, length-drop}
 use borrow.Rule.Slice.PartAt.{part-to-end}
 use denote.Ref.{now}
-use Rattle.words.proofs.Placed.{within-buffer}
+use Rattle.buffer.proofs.Filled.{within-buffer}
 use borrow.Author.Needs.{needs}
 use Rattle.listing.proofs.put_row.Statement.{statement}
 use Rattle.listing.proofs.put_row.Tie as tie

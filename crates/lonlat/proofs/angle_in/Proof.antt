@@ -1,6 +1,6 @@
 -- `angle_in`: the value of the digits against the limit, and then its side. Assumes nothing.
 use mathlib.Core.Path.{_∙_}
-use Rattle.lonlat.proofs.Angle.{back}
+use Rattle.numbers.proofs.Sign.{back}
 use Rattle.lonlat.proofs.Reading.{angle-none, angle-big, angle-of}
 use borrow.Author.Needs.{needs}
 use Rattle.lonlat.proofs.angle_in.Statement.{statement}

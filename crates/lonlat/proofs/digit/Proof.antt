@@ -1,5 +1,5 @@
 -- `digit`: the digit's character. Assumes nothing.
-use Rattle.lonlat.specs.Digits.{digitOf}
+use Rattle.numbers.specs.Numbers.{digitOf}
 use borrow.Author.Needs.{needs}
 use Rattle.lonlat.proofs.digit.Statement.{statement}
 use Rattle.lonlat.proofs.digit.Tie as tie

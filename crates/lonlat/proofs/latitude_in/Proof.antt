@@ -2,7 +2,7 @@
 use mathlib.Core.Path.{_≡_}
 use native.Mathlib.Omega.{arith}
 use lib.ListN.{length}
-use Rattle.lonlat.proofs.Angle.{back}
+use Rattle.numbers.proofs.Sign.{back}
 use Rattle.lonlat.proofs.Reading.{kept-within, latitude-letter, latitude-no-digit, latitude-bad, latitude-read}
 use borrow.Author.Needs.{needs}
 use Rattle.lonlat.proofs.latitude_in.Statement.{statement}

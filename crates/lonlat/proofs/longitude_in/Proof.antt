@@ -1,6 +1,6 @@
 -- `longitude_in`: the letter, and then the angle of the digits. Assumes nothing.
 use Rattle.lonlat.proofs.Reading.{longitude-letter, longitude-bad, longitude-read}
-use Rattle.lonlat.proofs.Angle.{back}
+use Rattle.numbers.proofs.Sign.{back}
 use borrow.Author.Needs.{needs}
 use Rattle.lonlat.proofs.longitude_in.Statement.{statement}
 use Rattle.lonlat.proofs.longitude_in.Tie as tie

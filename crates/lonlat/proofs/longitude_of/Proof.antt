@@ -2,7 +2,8 @@
 use mathlib.Core.Path.{sym, ap, _∙_}
 use lib.IntN.{ℤ}
 use Rattle.lonlat.specs.declared.LongitudeMade.the-variants.{Made}
-use Rattle.lonlat.proofs.Angle.{back, longitude-made, longitude-out}
+use Rattle.numbers.proofs.Sign.{back}
+use Rattle.lonlat.proofs.Angle.{longitude-made, longitude-out}
 use borrow.Author.Needs.{needs}
 use Rattle.lonlat.proofs.longitude_of.Statement.{statement}
 use Rattle.lonlat.proofs.longitude_of.Tie as tie

@@ -1,5 +1,5 @@
 -- `signed`: minus the size, or the size, each within an `i32`. Assumes nothing.
-use Rattle.lonlat.specs.Angle.{signedOf}
+use Rattle.numbers.specs.Sign.{signedOf}
 use Rattle.lonlat.proofs.Angle.{plain, minus-made, minus-back}
 use borrow.Author.Needs.{needs}
 use Rattle.lonlat.proofs.signed.Statement.{statement}

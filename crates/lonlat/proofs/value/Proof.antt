@@ -11,7 +11,8 @@ use Rattle.laws.specs.Lists.{every}
 use Rattle.laws.proofs.Tests.{within-yes}
 use Rattle.laws.proofs.Each.{every-more, every-not, every-end}
 use Rattle.lonlat.specs.declared.Size.the-variants.{Hundredths, NoDigit}
-use Rattle.lonlat.specs.Digits.{numberAfter, numberOf, sizeOf}
+use Rattle.numbers.specs.Numbers.{numberAfter, numberOf}
+use Rattle.lonlat.specs.Digits.{sizeOf}
 use Rattle.lonlat.proofs.Digits.{digit-below, digit-above, grows, seven, number-more, value-number}
 use Rattle.lonlat.proofs.value.Statement.{statement}
 use Rattle.lonlat.proofs.value.Tie as tie

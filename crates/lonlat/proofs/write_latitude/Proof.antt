@@ -1,5 +1,5 @@
 -- `write_latitude`: the angle and the blanks in range, and then the text. Assumes nothing.
-use Rattle.lonlat.proofs.Angle.{back}
+use Rattle.numbers.proofs.Sign.{back}
 use Rattle.lonlat.proofs.Writing.{latitude-far, latitude-many, latitude-wrote}
 use borrow.Author.Needs.{needs}
 use Rattle.lonlat.proofs.write_latitude.Statement.{statement}

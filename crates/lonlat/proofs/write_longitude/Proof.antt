@@ -1,5 +1,5 @@
 -- `write_longitude`: the angle in range, and then the text. Assumes nothing.
-use Rattle.lonlat.proofs.Angle.{back}
+use Rattle.numbers.proofs.Sign.{back}
 use Rattle.lonlat.proofs.Writing.{longitude-far, longitude-wrote}
 use borrow.Author.Needs.{needs}
 use Rattle.lonlat.proofs.write_longitude.Statement.{statement}

@@ -7,7 +7,8 @@ use native.Mathlib.Omega.{arith}
 use lib.Dec.{ltb}
 use borrow.Author.Tests.{le-ltb, lt-ltb}
 use Rattle.laws.proofs.Picks.{picks}
-use Rattle.lonlat.specs.Angle.{mostLongitude, signedOf, longitudeOf}
+use Rattle.lonlat.specs.Angle.{mostLongitude, longitudeOf}
+use Rattle.numbers.specs.Sign.{signedOf}
 use Rattle.lonlat.specs.declared.Longitude.{Longitude}
 use Rattle.lonlat.specs.declared.LongitudeMade.{LongitudeMade}
 use Rattle.lonlat.specs.declared.LongitudeMade.the-variants.{Made, OutOfRange}

@@ -1,7 +1,7 @@
 -- `sides_of` hands the angle to lonlat; a number of 32 bits comes back as it went. Assumes nothing.
 use mathlib.Core.Path.{ap, _∙_}
-use Rattle.lonlat.specs.Angle.{sidesOf}
-use Rattle.lonlat.proofs.Angle.{back}
+use Rattle.numbers.specs.Sign.{sidesOf}
+use Rattle.numbers.proofs.Sign.{back}
 use borrow.Author.Needs.{needs}
 use Rattle.mic_e.proofs.sides_of.Statement.{statement}
 use Rattle.mic_e.proofs.sides_of.Tie as tie

@@ -1,7 +1,7 @@
 -- `size_of` is the size of the two parts. Assumes nothing.
 use mathlib.Core.Path.{ap}
-use Rattle.lonlat.specs.Angle.{sidesOf}
-use Rattle.lonlat.specs.declared.Sides.{Sides}
+use Rattle.numbers.specs.Sign.{sidesOf}
+use Rattle.numbers.specs.declared.Sides.{Sides}
 use borrow.Author.Needs.{needs}
 use Rattle.mic_e.proofs.size_of.Statement.{statement}
 use Rattle.mic_e.proofs.size_of.Tie as tie

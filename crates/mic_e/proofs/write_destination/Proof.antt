@@ -8,17 +8,18 @@ use native.Mathlib.Omega.{arith}
 use lib.IntN.{ℤ, natAbs}
 use lib.ListN.{length, replicate}
 use borrow.Author.Tests.{le-leb, lt-leb, ne-eqb}
-use Rattle.laws.specs.Wrote.{ends, wrote}
-use Rattle.laws.specs.declared.Answer.{Answer}
-use Rattle.lonlat.specs.Angle.{mostLongitude, sidesOf}
+use Rattle.buffer.specs.Wrote.{ends, wrote}
+use Rattle.buffer.specs.declared.Answer.{Answer}
+use Rattle.lonlat.specs.Angle.{mostLongitude}
+use Rattle.numbers.specs.Sign.{sidesOf}
 use Rattle.lonlat.specs.Latitude.{latitudeText, latitudeRefusal}
-use Rattle.lonlat.specs.declared.Sides.{Sides}
+use Rattle.numbers.specs.declared.Sides.{Sides}
 use Rattle.mic_e.specs.Longitude.{longitudeOut, hundredFor, hundredOf}
 use Rattle.mic_e.specs.Message.{bitsOf}
 use Rattle.mic_e.specs.Destination.{charactersOf, destinationBytes, destinationRefusal, writeDestination}
 use Rattle.mic_e.specs.declared.Bits.{Bits}
 use Rattle.mic_e.specs.declared.Message.{Message}
-use Rattle.laws.proofs.Answers.{refusal-is, bytes-are}
+use Rattle.buffer.proofs.Answers.{refusal-is, bytes-are}
 use Rattle.lonlat.proofs.Texts.{latitude-text-length}
 use Rattle.mic_e.proofs.Range.{few-blanks}
 use borrow.Author.Needs.{needs}

@@ -4,9 +4,9 @@ use mathlib.Core.Bool.{Bool, true, false}
 use mathlib.Core.List.{List}
 use Prim.Native.Nat.{ℕ}
 use native.Mathlib.Omega.{arith}
-use Rattle.laws.specs.Wrote.{Wrote, ends, refusedBy, wrote}
-use Rattle.laws.specs.declared.Answer.{Answer}
-use Rattle.laws.proofs.Wrote.{refuses}
+use Rattle.buffer.specs.Wrote.{Wrote, ends, refusedBy, wrote}
+use Rattle.buffer.specs.declared.Answer.{Answer}
+use Rattle.buffer.proofs.Wrote.{refuses}
 use Rattle.mic_e.specs.Information.{informationOut, informationRefusal, informationBytes}
 use Rattle.mic_e.specs.declared.Information.{Information}
 use borrow.Author.Needs.{needs}

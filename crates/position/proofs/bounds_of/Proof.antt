@@ -1,5 +1,5 @@
 -- `bounds_of`: the angle in range, and then the range around it on its side. Assumes nothing.
-use Rattle.lonlat.proofs.Angle.{back}
+use Rattle.numbers.proofs.Sign.{back}
 use Rattle.position.proofs.Numerals.{nought}
 use Rattle.position.proofs.Angles.{no-bounds, bounds-minus, bounds-plus}
 use borrow.Author.Needs.{needs}

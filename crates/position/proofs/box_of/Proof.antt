@@ -3,7 +3,7 @@ use Prim.Native.Nat.{_≤_}
 use native.Mathlib.Omega.{arith}
 use lib.IntN.{natAbs}
 use Rattle.lonlat.specs.Angle.{mostLongitude}
-use Rattle.lonlat.proofs.Angle.{back}
+use Rattle.numbers.proofs.Sign.{back}
 use Rattle.position.proofs.Angles.{reach-most, no-box, box-made, twice-held, low-held, high-held, low-is, high-is}
 use borrow.Author.Needs.{needs}
 use Rattle.position.proofs.box_of.Statement.{statement}

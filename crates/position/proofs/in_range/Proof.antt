@@ -1,5 +1,5 @@
 -- `in_range`: the latitude, and then the longitude, with the blanks. Assumes nothing.
-use Rattle.lonlat.proofs.Angle.{back}
+use Rattle.numbers.proofs.Sign.{back}
 use Rattle.position.proofs.Reach.{place-far, place-near}
 use borrow.Author.Needs.{needs}
 use Rattle.position.proofs.in_range.Statement.{statement}

@@ -1,5 +1,5 @@
 -- `in_reach`: the size, and then the blanks. Assumes nothing.
-use Rattle.lonlat.proofs.Angle.{back}
+use Rattle.numbers.proofs.Sign.{back}
 use Rattle.position.proofs.Reach.{reach-far, reach-blanks}
 use borrow.Author.Needs.{needs}
 use Rattle.position.proofs.in_reach.Statement.{statement}

@@ -1,6 +1,6 @@
 -- `list_longitude`: the first bytes of a slice, as many as it has or fewer, are so many.
 -- Assumes nothing.
-use Rattle.words.proofs.Parts.{first-bytes}
+use Rattle.lines.proofs.Parts.{first-bytes}
 use borrow.Author.Needs.{needs}
 use Rattle.inspect.proofs.list.list_longitude.Statement.{statement}
 use Rattle.inspect.proofs.list.list_longitude.Tie as tie

@@ -1,6 +1,6 @@
 -- `list_motion`: the first bytes of a slice, as many as it has or fewer, are so many.
 -- Assumes nothing.
-use Rattle.words.proofs.Parts.{first-bytes}
+use Rattle.lines.proofs.Parts.{first-bytes}
 use borrow.Author.Needs.{needs}
 use Rattle.inspect.proofs.list.list_motion.Statement.{statement}
 use Rattle.inspect.proofs.list.list_motion.Tie as tie

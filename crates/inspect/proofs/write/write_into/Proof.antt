@@ -1,6 +1,6 @@
 -- `write_into`: the first bytes of a slice, as many as it has or fewer, are so many.
 -- Assumes nothing.
-use Rattle.words.proofs.Parts.{first-bytes}
+use Rattle.lines.proofs.Parts.{first-bytes}
 use borrow.Author.Needs.{needs}
 use Rattle.inspect.proofs.write.write_into.Statement.{statement}
 use Rattle.inspect.proofs.write.write_into.Tie as tie

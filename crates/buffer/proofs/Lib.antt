@@ -1,0 +1,4 @@
+pub mod Wrote
+pub mod Answers
+pub mod Filled
+pub mod Unique

@@ -1,0 +1,24 @@
+-- `put_byte`: a byte stored at its place, or no place.
+-- Assumes nothing.
+use Rattle.buffer.proofs.Filled.{byte-not, byte-stored}
+use borrow.Author.Needs.{needs}
+use Rattle.buffer.proofs.put_byte.Statement.{statement}
+use Rattle.buffer.proofs.put_byte.Tie as tie
+
+returns : tie.Need-returns
+returns c = search byte-not
+
+slice-write-out : tie.Need-slice-write-out
+slice-write-out c = search needs
+
+add-result : tie.Need-add-result
+add-result c = search needs
+
+same-length : tie.Need-same-length
+same-length c = search needs
+
+returns-2 : tie.Need-returns-2
+returns-2 c = search byte-stored
+
+pub put-byte-spec : {M : Type 1} → statement M
+put-byte-spec = tie.close (tie.spec returns slice-write-out add-result same-length returns-2)

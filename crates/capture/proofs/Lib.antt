@@ -1,8 +1,0 @@
-pub mod Lines
-pub mod Walk
-pub mod Rows
-pub mod Calls
-pub mod Hops
-pub mod Pieces
-pub mod Theorems
-pub mod Unique

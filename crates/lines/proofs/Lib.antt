@@ -1,0 +1,5 @@
+pub mod Parts
+pub mod Lines
+pub mod Walk
+pub mod Theorems
+pub mod Unique

@@ -1,0 +1,20 @@
+-- A number by its sign and its size, which is its distance from 0. Of an angle the sign is its side (document 01): "north and east
+-- positive", "Zero south or west is plain 0".
+-- Assumes nothing.
+use Prim.Native.Nat.{ℕ}
+use mathlib.Core.Bool.{Bool, cond, not}
+use lib.IntN.{ℤ, pos, negℤ, natAbs}
+use lib.Signed.{nonNeg}
+use Rattle.numbers.specs.declared.Sides.{Sides}
+
+-- the number of that size, below 0 where minus is said
+unfoldable pub signedOf : Bool → ℕ → ℤ
+signedOf minus size = cond minus (negℤ (pos size)) (pos size)
+
+-- below 0; 0 itself is not
+unfoldable pub isMinus : ℤ → Bool
+isMinus angle = not (nonNeg angle)
+
+-- a number taken apart
+unfoldable pub sidesOf : ℤ → Sides
+sidesOf angle = record { minus = isMinus angle; size = natAbs angle }

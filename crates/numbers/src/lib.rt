@@ -1,0 +1,221 @@
+// Numbers: taken apart by their sign, read from text and put into a buffer as text, in decimal and in hexadecimal.
+ghost use mathlib.Core.Path.{_≡_};
+ghost use mathlib.Core.Bool.{true, false};
+ghost use Prim.Native.Nat.{_<_, _≤_};
+ghost use lib.ListN.{length, drop};
+ghost use Rattle.laws.specs.Bytes.{isDigit};
+ghost use Rattle.laws.specs.Lists.{every};
+ghost use Rattle.buffer.specs.Filled.{filled, added};
+ghost use Rattle.numbers.specs.Sign.{signedOf, sidesOf};
+ghost use Rattle.numbers.specs.Numbers.{digits, decimal, countOf, readCount, onSide, readNumber, hexDigit, hexPair, hexValue};
+
+// ---- a sign
+
+// An angle taken apart: whether it lies south or west, and its size. 0 does not.
+pub struct Sides {
+    pub size: u32,
+    pub minus: bool,
+}
+
+// The angle's side and size.
+pub fn parts(angle: i32) -> Sides
+    ensures { λ r. ⌜ r ≡ sidesOf angle ⌝ }
+{
+    if angle < 0 {
+        let turned = 0 - (angle as i64);
+        return Sides {
+            minus: true,
+            size: turned as u32,
+        };
+    }
+    Sides {
+        minus: false,
+        size: angle as u32,
+    }
+}
+
+// ---- numbers read
+
+// A number read: how much it is, that it is more than may be, or that the text is none.
+pub enum Count {
+    Is(u32),
+    Over,
+    Bad,
+}
+
+// A signed number read, or that the text is none or more than an `i32` holds.
+pub enum Number {
+    Is(i32),
+    Bad,
+}
+
+// Whether s is digits alone.
+fn all_digits(s: &[u8]) -> bool
+    ensures { λ r. ⌜ r ≡ every isDigit (now (s .entry)) ⌝ }
+{
+    let mut i: usize = 0;
+    while i < s.len() {
+        if s[i] < b'0' {
+            return false;
+        }
+        if b'9' < s[i] {
+            return false;
+        }
+        i += 1;
+    }
+    true
+}
+
+// The number of digits, if it is at most `most`.
+fn value(s: &[u8], most: u32) -> Count
+    requires { ⌜ every isDigit (now s) ≡ true ⌝ }
+    ensures { λ r. ⌜ r ≡ countOf (now (s .entry)) most ⌝ }
+{
+    let mut v: u64 = 0;
+    let mut i: usize = 0;
+    while i < s.len() {
+        v = 10 * v + ((s[i] - b'0') as u64);
+        if (most as u64) < v {
+            return Count::Over;
+        }
+        i += 1;
+    }
+    Count::Is(v as u32)
+}
+
+// The number that digits alone, at least one, stand for.
+pub fn read_count(s: &[u8], most: u32) -> Count
+    ensures { λ r. ⌜ r ≡ readCount (now (s .entry)) most ⌝ }
+{
+    if s.len() == 0 {
+        return Count::Bad;
+    }
+    if all_digits(s) {
+        return value(s, most);
+    }
+    Count::Bad
+}
+
+// The number of that size below zero.
+fn below_zero(size: u32) -> i32
+    requires { ⌜ size ≤ 2147483648 ⌝ }
+    ensures { λ r. ⌜ r ≡ signedOf true size ⌝ }
+{
+    (0 - (size as i64)) as i32
+}
+
+// The number of digits that a dash stands before.
+fn read_minus(s: &[u8]) -> Number
+    ensures { λ r. ⌜ r ≡ onSide true (readCount (now (s .entry)) 2147483648) ⌝ }
+{
+    let read = read_count(s, 2147483648);
+    match read {
+        Count::Is(size) => Number::Is(below_zero(size)),
+        Count::Over => Number::Bad,
+        Count::Bad => Number::Bad,
+    }
+}
+
+// The number of digits alone.
+fn read_plus(s: &[u8]) -> Number
+    ensures { λ r. ⌜ r ≡ onSide false (readCount (now (s .entry)) 2147483647) ⌝ }
+{
+    let read = read_count(s, 2147483647);
+    match read {
+        Count::Is(size) => Number::Is(size as i32),
+        Count::Over => Number::Bad,
+        Count::Bad => Number::Bad,
+    }
+}
+
+// The number that digits stand for, with a dash before them or none.
+pub fn read_number(s: &[u8]) -> Number
+    ensures { λ r. ⌜ r ≡ readNumber (now (s .entry)) ⌝ }
+{
+    if s.len() == 0 {
+        return Number::Bad;
+    }
+    if s[0] == b'-' {
+        return read_minus(&s[1..]);
+    }
+    read_plus(s)
+}
+
+// What a hexadecimal digit stands for, a letter a small one; 16 for any other byte.
+pub fn hex_value(d: u8) -> u8
+    ensures { λ r. ⌜ r ≡ hexValue d ⌝ }
+{
+    if d < b'0' {
+        return 16;
+    }
+    if d <= b'9' {
+        return d - b'0';
+    }
+    if d < b'a' {
+        return 16;
+    }
+    if d <= b'f' {
+        return d - b'a' + 10;
+    }
+    16
+}
+
+// ---- numbers put into out at the place `at`; the place behind each is answered
+
+// Puts the digits of n to the end of text, and answers where they start.
+fn spell(n: u64, text: &mut [u8]) -> usize
+    requires { ⌜ length (now text) ≡ 20 ⌝ }
+    ensures { λ r. ⌜ (r < 20) × (drop r (now (text .exit)) ≡ digits n) ⌝ }
+{
+    let mut at: usize = 20;
+    let mut rest = n;
+    while 10 <= rest {
+        at -= 1;
+        text[at] = b'0' + (rest % 10) as u8;
+        rest /= 10;
+    }
+    at -= 1;
+    text[at] = b'0' + rest as u8;
+    at
+}
+
+// A number that has no sign, in decimal.
+pub fn put_count(n: usize, out: &mut [u8], at: usize) -> usize
+    ensures { λ r. ⌜ filled (now (out .exit)) r ≡ added (filled (now (out .entry)) at) (digits n) ⌝ }
+{
+    let mut text = [0u8; 20];
+    let from = spell(n as u64, &mut text);
+    buffer::put(&text[from..], out, at)
+}
+
+// A number that may have one.
+pub fn put_number(n: i32, out: &mut [u8], at: usize) -> usize
+    ensures { λ r. ⌜ filled (now (out .exit)) r ≡ added (filled (now (out .entry)) at) (decimal n) ⌝ }
+{
+    let sides = parts(n);
+    let mut text = [0u8; 20];
+    let from = spell(sides.size as u64, &mut text);
+    if sides.minus {
+        text[from - 1] = b'-';
+        return buffer::put(&text[from - 1..], out, at);
+    }
+    buffer::put(&text[from..], out, at)
+}
+
+// The last hexadecimal digit of n.
+fn hex_digit(n: u8) -> u8
+    ensures { λ r. ⌜ r ≡ hexDigit n ⌝ }
+{
+    let d = n % 16;
+    if d < 10 {
+        return b'0' + d;
+    }
+    b'a' + d - 10
+}
+
+// A byte in two hexadecimal digits.
+pub fn put_hex(b: u8, out: &mut [u8], at: usize) -> usize
+    ensures { λ r. ⌜ filled (now (out .exit)) r ≡ added (filled (now (out .entry)) at) (hexPair b) ⌝ }
+{
+    buffer::put(&[hex_digit(b / 16), hex_digit(b)], out, at)
+}

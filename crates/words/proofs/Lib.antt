@@ -1,8 +1,0 @@
-pub mod Parts
-pub mod Placed
-pub mod Digits
-pub mod Numbers
-pub mod Counts
-pub mod Hex
-pub mod Theorems
-pub mod Unique
