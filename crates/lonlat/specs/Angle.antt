@@ -7,6 +7,7 @@ use mathlib.Core.List.{[], _∷_}
 use lib.ListN.{getD}
 use lib.Dec.{ltb}
 use lib.IntN.{ℤ, natAbs}
+use Rattle.numbers.specs.Sign.{signedOf, isMinus}
 use Rattle.lonlat.specs.declared.LongitudeMade.{LongitudeMade}
 use Rattle.lonlat.specs.declared.LongitudeMade.the-variants.{Made, OutOfRange}
 

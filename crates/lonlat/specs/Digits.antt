@@ -9,6 +9,7 @@ use lib.Dec.{leb}
 use Rattle.laws.specs.Bytes.{point, isDigit}
 use Rattle.laws.specs.Lists.{every}
 use Rattle.numbers.specs.Sign.{signedOf}
+use Rattle.numbers.specs.Numbers.{numberOf, digitsOf}
 use Rattle.lonlat.specs.declared.AngleRead.{AngleRead}
 use Rattle.lonlat.specs.declared.AngleRead.the-variants.{Of, Bad}
 use Rattle.lonlat.specs.declared.Size.{Size}
