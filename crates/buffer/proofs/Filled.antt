@@ -14,10 +14,11 @@ use lib.ListN.{length, getD, set, take, drop, take-append-drop, length-append, l
 use lib.Seq.{length-take-le, set-split, drop-drop, take-at, drop-append-add, getD-append-add, getD-drop}
 use borrow.Rule.Slice.PartAt.{part-to-end}
 use borrow.Rule.Slice.PartMut.{putMid}
+use Rattle.laws.specs.Lists.{together}
 use Rattle.laws.proofs.Lists.{copy-more}
 use Rattle.buffer.specs.declared.Answer.{Answer}
 use Rattle.buffer.specs.Wrote.{Wrote, ends, noRoom, doneBy, wroteAs, wrote}
-use Rattle.buffer.specs.Filled.{Filled, filled, frontOf, added, shifted}
+use Rattle.buffer.specs.Filled.{Filled, filled, frontOf, added, addedAll, shifted}
 
 -- ---- a piece that fits, and one that does not
 
@@ -109,6 +110,43 @@ then-added f g h l m room e k = k ∙ ap (λ (x : Filled). added x m) e ∙ adde
 -- the same piece by another name
 pub same-piece : (f g : Filled) (piece other : List ℕ) → piece ≡ other → g ≡ added f piece → g ≡ added f other
 same-piece f g piece other e p = p ∙ ap (λ (l : List ℕ). added f l) e
+
+-- ---- many pieces
+
+-- those behind those
+pub all-append : (f : Filled) (ps qs : List (List ℕ)) → addedAll (addedAll f ps) qs ≡ addedAll f (ps ++ qs)
+unfolding addedAll
+all-append f [] qs = refl
+all-append f (p ∷ ps) qs = all-append (added f p) ps qs
+
+-- two pieces that were put one behind the other
+pub two-added : (f g h : Filled) (p q : List ℕ) → g ≡ added f p → h ≡ added g q → h ≡ addedAll f (p ∷ q ∷ [])
+unfolding addedAll
+two-added f g h p q e k = k ∙ ap (λ (x : Filled). added x q) e
+
+-- pieces that were put behind pieces
+pub all-then : (f g h : Filled) (ps qs rs : List (List ℕ)) → ps ++ qs ≡ rs → g ≡ addedAll f ps → h ≡ addedAll g qs → h ≡ addedAll f rs
+all-then f g h ps qs rs s e k = k ∙ ap (λ (x : Filled). addedAll x qs) e ∙ all-append f ps qs ∙ ap (λ (x : List (List ℕ)). addedAll f x) s
+
+pub all-length : (f : Filled) (ps : List (List ℕ)) → length (addedAll f ps .bytes) ≡ length (f .bytes)
+unfolding addedAll
+all-length f [] = refl
+all-length f (p ∷ ps) = all-length (added f p) ps ∙ added-length f p
+
+-- where there is room for all of them they are one piece
+pub all-fits : (f : Filled) (ps : List (List ℕ)) → f .len + length (together ps) ≤ length (f .bytes) → addedAll f ps ≡ added f (together ps)
+unfolding addedAll together
+all-fits f [] h = added-none f (omega arith)
+all-fits f (p ∷ ps) h =
+    let l = length-append p (together ps) in
+    let room : f .len + length p + length (together ps) ≤ length (f .bytes) = omega arith in
+    let n = added-len f p (omega arith) in
+    let m = added-length f p in
+    all-fits (added f p) ps (omega arith) ∙ added-added f p (together ps) room
+
+-- the bytes in use of a buffer that was filled with them from its start
+pub all-front : (v : List ℕ) (ps : List (List ℕ)) → length (together ps) ≤ length v → frontOf (addedAll (filled v 0) ps) ≡ together ps
+all-front v ps h = ap frontOf (all-fits (filled v 0) ps (omega arith)) ∙ first-front v (together ps) h
 
 -- ---- a writer lent what stands from the place on
 

@@ -2,7 +2,7 @@
 -- Assumes nothing.
 use Prim.Native.Nat.{ℕ, _+_, _-_}
 use mathlib.Core.Bool.{cond, _&&_}
-use mathlib.Core.List.{List, _++_}
+use mathlib.Core.List.{List, [], _∷_, _++_}
 use lib.ListN.{length, take, drop}
 use lib.Dec.{leb}
 
@@ -24,6 +24,11 @@ added f piece =
     cond (leb (f .len + length piece) (length (f .bytes)))
     (filled (take (f .len) (f .bytes) ++ (piece ++ drop (f .len + length piece) (f .bytes))) (f .len + length piece))
     f
+
+-- pieces one behind the other, each as it fits
+unfoldable pub addedAll : Filled → List (List ℕ) → Filled
+addedAll f [] = f
+addedAll f (piece ∷ pieces) = addedAll (added f piece) pieces
 
 -- the bytes from a place up to another at the front, and how many they are; where there are none such, nothing is in use
 unfoldable pub shifted : List ℕ → ℕ → ℕ → Filled

@@ -24,3 +24,8 @@ padTo n z l = l ++ replicate (n - length l) z
 unfoldable pub zeros : List ℕ → Bool
 zeros [] = true
 zeros (x ∷ l) = eqb x 0 && zeros l
+
+-- lists one behind the other
+unfoldable pub together : {A : Type 0} → List (List A) → List A
+together [] = []
+together (l ∷ ls) = l ++ together ls
