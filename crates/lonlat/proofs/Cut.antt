@@ -1,11 +1,14 @@
--- The digits of a size, the last of them taken as 0, say the size cut to the width that is left.
+-- The digits of a size, the last of them taken as 0, say the size cut to the width that is left, and minutes below 60.
 -- Assumes nothing.
 use mathlib.Core.Path.{_≡_, _∙_}
+use mathlib.Core.Bool.{false}
+use mathlib.Core.List.{List}
 use Prim.Native.Nat.{ℕ, zero, suc, _+_, _-_, _*_, _/_, _%_, _<_, _≤_}
 use native.Mathlib.Omega.{arith}
+use borrow.Author.Tests.{lt-leb}
 use Rattle.laws.specs.Bytes.{digit0}
 use Rattle.lonlat.specs.Angle.{mostLatitude, mostLongitude, widthOf, cutTo}
-use Rattle.lonlat.specs.Digits.{lastAs, degreesOf, minutesOf, hundredthsOf, valueOf, placesOf}
+use Rattle.lonlat.specs.Digits.{lastAs, degreesOf, minutesOf, hundredthsOf, valueOf, isSixty, placesOf}
 use Rattle.numbers.specs.Numbers.{numberAfter, numberOf, digitOf, digitsOf}
 
 -- one case for each number of blanks
@@ -93,3 +96,41 @@ longitude-cut size h =
     (simp shown (seven _ _ _ _ 0 0 0 ∙ rw x (cut₃ r)))
     (simp shown (seven _ _ _ 0 0 0 0 ∙ rw x (cut₄ r)))
     (simp shown (seven _ _ 0 0 0 0 0 ∙ rw x (cut₅ r)))
+
+-- ---- the minutes that are left are below 60
+
+below-sixty : (t : List ℕ) → minutesOf t < 60 → isSixty t ≡ false
+unfolding isSixty
+below-sixty t h = lt-leb 60 (minutesOf t) h
+
+tens-first : (size : ℕ) → 10 * (10 * 0 + size / 100 % 60 / 10 % 10) + 0 < 60
+tens-first size = omega arith
+
+both-digits : (size : ℕ) → 10 * (10 * 0 + size / 100 % 60 / 10 % 10) + size / 100 % 60 % 10 < 60
+both-digits size = omega arith
+
+pub latitude-minutes : (size n : ℕ) → n ≤ 5 → isSixty (lastAs digit0 n (placesOf 2 size)) ≡ false
+unfolding lastAs placesOf digitsOf minutesOf numberOf numberAfter
+latitude-minutes size n few =
+    below-sixty (lastAs digit0 n (placesOf 2 size))
+    (up-to-five (λ n. minutesOf (lastAs digit0 n (placesOf 2 size)) < 60)
+    (simp shown (both-digits size))
+    (simp shown (both-digits size))
+    (simp shown (both-digits size))
+    (simp shown (tens-first size))
+    (omega arith)
+    (omega arith)
+    n few)
+
+pub longitude-minutes : (size n : ℕ) → n ≤ 5 → isSixty (lastAs digit0 n (placesOf 3 size)) ≡ false
+unfolding lastAs placesOf digitsOf minutesOf numberOf numberAfter
+longitude-minutes size n few =
+    below-sixty (lastAs digit0 n (placesOf 3 size))
+    (up-to-five (λ n. minutesOf (lastAs digit0 n (placesOf 3 size)) < 60)
+    (simp shown (both-digits size))
+    (simp shown (both-digits size))
+    (simp shown (both-digits size))
+    (simp shown (tens-first size))
+    (omega arith)
+    (omega arith)
+    n few)

@@ -1,13 +1,14 @@
 -- Laws of digit places: the last places as one byte, and the value that digits write.
 -- Assumes nothing.
 use mathlib.Core.Path.{_≡_, refl, sym, ap, _∙_}
-use mathlib.Core.Bool.{true, false}
+use mathlib.Core.Bool.{Bool, true, false}
 use mathlib.Core.List.{List, [], _∷_, _++_}
 use Prim.Native.Nat.{ℕ, _+_, _-_, _*_, _/_, _%_, _^_, _<_, _≤_}
 use native.Mathlib.Nat.{pow-succ', pow-le-pow-right}
 use native.Mathlib.Numerals.{add-one}
 use native.Mathlib.Omega.{arith}
-use borrow.Author.Tests.{le-leb, lt-leb}
+use borrow.Author.Tests.{le-leb, lt-leb, leb-true, leb-false}
+use lib.Dec.{leb}
 use lib.ListN.{length, take, drop, getD, replicate, length-append, length-replicate, getD-replicate, take-append-drop, length-drop}
 use lib.Seq.{length-take-le, take-at, getD-append-add}
 use Rattle.laws.specs.Bytes.{within, isDigit, digit0, digit9}
@@ -15,7 +16,7 @@ use Rattle.laws.specs.Lists.{every}
 use Rattle.laws.proofs.Lists.{next}
 use Rattle.laws.proofs.Tests.{within-low, within-high}
 use Rattle.laws.proofs.Each.{every-first, every-rest, every-drop}
-use Rattle.lonlat.specs.Digits.{lastAs, degreesOf, minutesOf, hundredthsOf, valueOf}
+use Rattle.lonlat.specs.Digits.{lastAs, degreesOf, minutesOf, hundredthsOf, valueOf, isSixty}
 use Rattle.numbers.specs.Numbers.{numberAfter, numberOf}
 
 -- ---- the last n as b
@@ -73,9 +74,12 @@ unfolding numberAfter
 number-append v [] t = refl
 number-append v (b ∷ s) t = number-append (10 * v + (b - digit0)) s t
 
--- degrees d, and four digits behind them
-four : (d : ℕ) (t : List ℕ) → length t ≡ 4 → every isDigit t ≡ true
-    → 6000 * d + 100 * numberOf (take 2 t) + numberOf (drop 2 t) ≡ 6000 * (numberAfter d t / 10000) + numberAfter d t % 10000
+-- degrees d, and four digits behind them: what the one number of them all says
+record Four (d : ℕ) (t : List ℕ) : Type 0 where
+  value : 6000 * d + 100 * numberOf (take 2 t) + numberOf (drop 2 t) ≡ 6000 * (numberAfter d t / 10000) + numberAfter d t % 10000
+  minutes : numberOf (take 2 t) ≡ numberAfter d t % 10000 / 100
+
+four : (d : ℕ) (t : List ℕ) → length t ≡ 4 → every isDigit t ≡ true → Four d t
 unfolding numberOf numberAfter
 four d [] h e = absurd (omega arith)
 four d (w ∷ []) h e = absurd (omega arith)
@@ -89,15 +93,29 @@ four d (w ∷ x ∷ y ∷ z ∷ []) h e =
     let dx = a-digit x (every-first isDigit x (y ∷ z ∷ []) e₁) in
     let dy = a-digit y (every-first isDigit y (z ∷ []) e₂) in
     let dz = a-digit z (every-first isDigit z [] e₃) in
-    omega arith
+    record { value = omega arith; minutes = omega arith }
 four d (w ∷ x ∷ y ∷ z ∷ q ∷ t) h e = absurd (omega arith)
 
--- the value by way of the one number that all digits write
-pub value-number : (t : List ℕ) → 4 ≤ length t → every isDigit t ≡ true → valueOf t ≡ 6000 * (numberOf t / 10000) + numberOf t % 10000
-unfolding valueOf degreesOf minutesOf hundredthsOf numberOf
-value-number t h e =
-    let k = length t - 4 in
-    let l : length (drop k t) ≡ 4 = rw (length-drop k t) (omega arith) in
-    let n : numberAfter (numberAfter 0 (take k t)) (drop k t) ≡ numberAfter 0 t = sym (number-append 0 (take k t) (drop k t)) ∙ ap (numberAfter 0) (take-append-drop k t) in
-    four (numberOf (take k t)) (drop k t) l (every-drop isDigit k t e)
-    ∙ ap (λ (v : ℕ). 6000 * (v / 10000) + v % 10000) n
+hundreds : (r : ℕ) → leb 6000 r ≡ leb 60 (r / 100)
+hundreds r = go (leb 6000 r) refl
+  where
+    go : (b : Bool) → leb 6000 r ≡ b → b ≡ leb 60 (r / 100)
+    go true e = let h = leb-true 6000 r e in sym (le-leb 60 (r / 100) (omega arith))
+    go false e = let h = leb-false 6000 r e in sym (lt-leb 60 (r / 100) (omega arith))
+
+-- value and minutes by way of the one number that all digits write
+module _ (t : List ℕ) (four-up : 4 ≤ length t) (digits : every isDigit t ≡ true) where
+  behind : Four (degreesOf t) (drop (length t - 4) t)
+  behind = four (degreesOf t) (drop (length t - 4) t) (rw (length-drop (length t - 4) t) (omega arith)) (every-drop isDigit (length t - 4) t digits)
+
+  one : numberAfter (degreesOf t) (drop (length t - 4) t) ≡ numberOf t
+  unfolding degreesOf numberOf
+  one = sym (number-append 0 (take (length t - 4) t) (drop (length t - 4) t)) ∙ ap (numberAfter 0) (take-append-drop (length t - 4) t)
+
+  pub value-number : valueOf t ≡ 6000 * (numberOf t / 10000) + numberOf t % 10000
+  unfolding valueOf minutesOf hundredthsOf
+  value-number = behind .value ∙ ap (λ (v : ℕ). 6000 * (v / 10000) + v % 10000) one
+
+  pub sixty-number : isSixty t ≡ leb 6000 (numberOf t % 10000)
+  unfolding isSixty minutesOf
+  sixty-number = ap (leb 60) (behind .minutes ∙ ap (λ (v : ℕ). v % 10000 / 100) one) ∙ sym (hundreds (numberOf t % 10000))

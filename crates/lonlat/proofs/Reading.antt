@@ -24,7 +24,7 @@ use Rattle.lonlat.specs.declared.LatitudeRead.{LatitudeRead}
 use Rattle.lonlat.specs.declared.LatitudeRead.the-variants as lat
 use Rattle.lonlat.specs.declared.LongitudeRead.{LongitudeRead}
 use Rattle.lonlat.specs.declared.LongitudeRead.the-variants as lon
-use Rattle.lonlat.specs.Digits.{lastAs, valueOf, sizeOf, fits, angleIn}
+use Rattle.lonlat.specs.Digits.{lastAs, valueOf, isSixty, sizeOf, fits, angleIn}
 use Rattle.lonlat.specs.Latitude.{isBlank, blanksIn, restBlank, keptOf, countedDigits, latitudeWith, latitudeIn, latitudePlaces, readLatitude}
 use Rattle.lonlat.specs.Longitude.{longitudeWith, longitudeIn, longitudePlaces, readLongitude}
 
@@ -64,27 +64,31 @@ kept-some t k e h = go (restBlank t) refl e
 
 -- ---- the angle of digits
 
-pub record Valued (t : List ℕ) (v : ℕ) : Type 0 where
+pub record Valued (t : List ℕ) (v : ℕ) (sixty : Bool) : Type 0 where
   pub digits : every isDigit t ≡ true
   pub value : valueOf t ≡ v
+  pub sixties : isSixty t ≡ sixty
 
-valued : (t : List ℕ) (v : ℕ) → sizeOf t ≡ Hundredths v → Valued t v
+valued : (t : List ℕ) (v : ℕ) (sixty : Bool) → sizeOf t ≡ Hundredths v sixty → Valued t v sixty
 unfolding sizeOf
-valued t v e =
-    let g = passed (every isDigit t) (Hundredths (valueOf t)) NoDigit (Hundredths v) none e in
-    record { digits = g .0; value = same (g .1) }
+valued t v sixty e =
+    let g = passed (every isDigit t) (Hundredths (valueOf t) (isSixty t)) NoDigit (Hundredths v sixty) none e in
+    record { digits = g .0; value = same (g .1); sixties = same-sixty (g .1) }
   where
-    none : NoDigit ≡ Hundredths v → ⊥
+    none : NoDigit ≡ Hundredths v sixty → ⊥
     none q = let z : _≡_ {A = ℕ} 0 1 = cc in omega arith
 
-    same : Hundredths (valueOf t) ≡ Hundredths v → valueOf t ≡ v
+    same : Hundredths (valueOf t) (isSixty t) ≡ Hundredths v sixty → valueOf t ≡ v
     same q = cc
+
+    same-sixty : Hundredths (valueOf t) (isSixty t) ≡ Hundredths v sixty → isSixty t ≡ sixty
+    same-sixty q = cc
 
 not-digits : (t : List ℕ) → sizeOf t ≡ NoDigit → every isDigit t ≡ false
 unfolding sizeOf
-not-digits t e = guard (every isDigit t) (Hundredths (valueOf t)) NoDigit NoDigit some e .0
+not-digits t e = guard (every isDigit t) (Hundredths (valueOf t) (isSixty t)) NoDigit NoDigit some e .0
   where
-    some : Hundredths (valueOf t) ≡ NoDigit → ⊥
+    some : Hundredths (valueOf t) (isSixty t) ≡ NoDigit → ⊥
     some q = let z : _≡_ {A = ℕ} 0 1 = cc in omega arith
 
 module _ (most : ℕ) (minus : Bool) (t : List ℕ) (q : Size) (e : q ≡ sizeOf t) where
@@ -92,17 +96,17 @@ module _ (most : ℕ) (minus : Bool) (t : List ℕ) (q : Size) (e : q ≡ sizeOf
   unfolding angleIn fits
   angle-none f = rw (not-digits t (sym e ∙ f))
 
-  module _ (v : ℕ) (f : q ≡ Hundredths v) where
-    known : Valued t v
-    known = valued t v (sym e ∙ f)
+  module _ (v : ℕ) (sixty : Bool) (f : q ≡ Hundredths v sixty) where
+    known : Valued t v sixty
+    known = valued t v sixty (sym e ∙ f)
 
     pub angle-big : most < v → Bad ≡ angleIn most minus t
     unfolding angleIn fits
     angle-big h = rw (known .digits, known .value, lt-leb v most h)
 
-    pub angle-of : v ≤ most → (z : ℤ) → z ≡ signedOf minus v → Of z ≡ angleIn most minus t
+    pub angle-of : v ≤ most → (z : ℤ) → z ≡ signedOf minus v → Of z sixty ≡ angleIn most minus t
     unfolding angleIn fits
-    angle-of h z g = rw (known .digits, known .value, le-leb v most h, g)
+    angle-of h z g = rw (known .digits, known .value, known .sixties, le-leb v most h, g)
 
 -- ---- with a letter: u is the test of the letter, a the angle
 
@@ -116,9 +120,9 @@ module _ (t : List ℕ) (letter : ℕ) (u : Bool) where
     unfolding longitudeIn longitudeWith
     longitude-bad g = rw (← e, not-false u p, ← f, g)
 
-    pub longitude-read : (z z′ : ℤ) → a ≡ Of z → z′ ≡ z → lon.Read (record { 0 = z′ }) letter ≡ longitudeIn t letter
+    pub longitude-read : (z z′ : ℤ) (sixty : Bool) → a ≡ Of z sixty → z′ ≡ z → lon.Read (record { 0 = z′ }) (eqb letter capitalW) sixty ≡ longitudeIn t letter
     unfolding longitudeIn longitudeWith
-    longitude-read z z′ g q = rw (← e, not-false u p, ← f, g, q)
+    longitude-read z z′ sixty g q = rw (← e, not-false u p, ← f, g, q)
 
   pub latitude-letter : u ≡ (eqb letter capitalN || eqb letter capitalS) → not u ≡ true → lat.Refused ≡ latitudeIn t letter
   unfolding latitudeIn
@@ -145,17 +149,19 @@ module _ (t : List ℕ) (letter : ℕ) (u : Bool) where
       few : leb (blanksIn t) 5 ≡ true
       few = rw blanks (le-leb (6 - k) 5 (omega arith))
 
-      said : latitudeWith (6 - k) letter a ≡ latitudeIn t letter
+      said : latitudeWith (6 - k) (eqb letter capitalS) a ≡ latitudeIn t letter
       unfolding latitudeIn countedDigits
       said = rw (← e, not-false u p, found .rest, few, blanks, f, last)
 
       pub latitude-bad : a ≡ Bad → lat.Refused ≡ latitudeIn t letter
       unfolding latitudeWith
-      latitude-bad g = sym (ap (latitudeWith (6 - k) letter) g) ∙ said
+      latitude-bad g = sym (ap (latitudeWith (6 - k) (eqb letter capitalS)) g) ∙ said
 
-      pub latitude-read : (z z′ : ℤ) → a ≡ Of z → z′ ≡ z → lat.Read (record { 0 = z′ }) (6 - k) letter ≡ latitudeIn t letter
+      pub latitude-read : (z z′ : ℤ) (sixty : Bool) → a ≡ Of z sixty → z′ ≡ z → lat.Read (record { 0 = z′ }) (6 - k) (eqb letter capitalS) sixty ≡ latitudeIn t letter
       unfolding latitudeWith
-      latitude-read z z′ g q = ap (λ (y : ℤ). lat.Read (record { 0 = y }) (6 - k) letter) q ∙ sym (ap (latitudeWith (6 - k) letter) g) ∙ said
+      latitude-read z z′ sixty g q =
+          ap (λ (y : ℤ). lat.Read (record { 0 = y }) (6 - k) (eqb letter capitalS) sixty) q
+          ∙ sym (ap (latitudeWith (6 - k) (eqb letter capitalS)) g) ∙ said
 
 -- ---- the text: its length, its point, and then its places
 

@@ -91,7 +91,7 @@ module _ (t : List ℕ) (digits : every isDigit t ≡ true) (n : ℕ) (some : n 
 
   -- what six such places and a letter say
   pub blanked-latitude : n ≤ 5 → (letter : ℕ) → isNorthOrSouth letter ≡ true
-      → latitudeIn (lastAs space n t) letter ≡ latitudeWith n letter (angleIn mostLatitude (eqb letter capitalS) (lastAs digit0 n t))
+      → latitudeIn (lastAs space n t) letter ≡ latitudeWith n (eqb letter capitalS) (angleIn mostLatitude (eqb letter capitalS) (lastAs digit0 n t))
   unfolding latitudeIn
   blanked-latitude few letter e = rw (e, blanked-rest, blanked-count, le-leb n 5 few, blanked-counted)
 

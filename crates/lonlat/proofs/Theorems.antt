@@ -1,6 +1,6 @@
--- What is read is in range, what is written reads back, and document 01's P12.
+-- What is read is in range and on the side that was read, what is written reads back, and document 01's P12.
 -- Assumes nothing.
-use mathlib.Core.Path.{_≡_, refl, ap, _∙_}
+use mathlib.Core.Path.{_≡_, refl, sym, ap, _∙_}
 use mathlib.Core.Bool.{Bool, true, false, cond, _&&_}
 use mathlib.Core.List.{List, [], _∷_}
 use Prim.Native.Nat.{ℕ, _-_, _%_, _≤_}
@@ -11,7 +11,7 @@ use lib.IntN.{ℤ, pos, natAbs}
 use lib.ListN.{length, getD}
 use Rattle.laws.specs.Bytes.{digit0, digit9, point, isDigit, within, capitalN, capitalS, capitalE, capitalW}
 use Rattle.laws.specs.Lists.{indexOf, every}
-use Rattle.laws.proofs.Tests.{and-first, and-second, picked, guard, passed}
+use Rattle.laws.proofs.Tests.{and-second, picked, guard, passed}
 use Rattle.lonlat.specs.Angle.{mostLatitude, mostLongitude, widthOf, cutTo, cutAngle}
 use Rattle.numbers.specs.Sign.{signedOf, isMinus}
 use Rattle.lonlat.specs.declared.AngleRead.{AngleRead}
@@ -20,22 +20,22 @@ use Rattle.lonlat.specs.declared.Latitude.{Latitude}
 use Rattle.lonlat.specs.declared.Longitude.{Longitude}
 use Rattle.lonlat.specs.declared.LatitudeRead.the-variants as lat
 use Rattle.lonlat.specs.declared.LongitudeRead.the-variants as lon
-use Rattle.lonlat.specs.Digits.{lastAs, degreesOf, minutesOf, hundredthsOf, valueOf, fits, angleIn, placesOf}
+use Rattle.lonlat.specs.Digits.{lastAs, degreesOf, minutesOf, hundredthsOf, valueOf, isSixty, fits, angleIn, placesOf}
 use Rattle.numbers.specs.Numbers.{numberAfter, numberOf}
 use Rattle.lonlat.specs.Latitude.{blanksIn, restBlank, countedDigits, isNorthOrSouth, latitudeWith, latitudeIn, latitudePlaces, readLatitude, blankedPlaces, northOrSouth, latitudeText}
 use Rattle.lonlat.specs.Longitude.{isEastOrWest, longitudeWith, longitudeIn, longitudePlaces, readLongitude, eastOrWest, longitudeText}
-use Rattle.numbers.proofs.Sign.{rejoined, size-signed}
+use Rattle.numbers.proofs.Sign.{rejoined, size-signed, side-signed}
 use Rattle.lonlat.proofs.Texts.{every-last, places-are, six-places, seven-places, blanked-six, blanked-latitude, latitude-of-text, longitude-of-text}
-use Rattle.lonlat.proofs.Cut.{latitude-cut, longitude-cut}
+use Rattle.lonlat.proofs.Cut.{latitude-cut, longitude-cut, latitude-minutes, longitude-minutes}
 
 -- ---- P12
 
-pub ninety-degrees : readLatitude (digit9 ∷ digit0 ∷ digit0 ∷ digit0 ∷ point ∷ digit0 ∷ digit0 ∷ capitalN ∷ []) ≡ lat.Read (record { 0 = pos 540000 }) 0 capitalN
-unfolding readLatitude latitudeIn restBlank blanksIn countedDigits indexOf every lastAs latitudeWith angleIn fits within valueOf degreesOf minutesOf hundredthsOf numberOf numberAfter signedOf
+pub ninety-degrees : readLatitude (digit9 ∷ digit0 ∷ digit0 ∷ digit0 ∷ point ∷ digit0 ∷ digit0 ∷ capitalN ∷ []) ≡ lat.Read (record { 0 = pos 540000 }) 0 false false
+unfolding readLatitude latitudeIn restBlank blanksIn countedDigits indexOf every lastAs latitudeWith angleIn fits within valueOf isSixty degreesOf minutesOf hundredthsOf numberOf numberAfter signedOf
 ninety-degrees = refl
 
-pub sixty-minutes : readLatitude (0x38 ∷ digit9 ∷ 0x36 ∷ digit0 ∷ point ∷ digit0 ∷ digit0 ∷ capitalN ∷ []) ≡ lat.Read (record { 0 = pos 540000 }) 0 capitalN
-unfolding readLatitude latitudeIn restBlank blanksIn countedDigits indexOf every lastAs latitudeWith angleIn fits within valueOf degreesOf minutesOf hundredthsOf numberOf numberAfter signedOf
+pub sixty-minutes : readLatitude (0x38 ∷ digit9 ∷ 0x36 ∷ digit0 ∷ point ∷ digit0 ∷ digit0 ∷ capitalN ∷ []) ≡ lat.Read (record { 0 = pos 540000 }) 0 false true
+unfolding readLatitude latitudeIn restBlank blanksIn countedDigits indexOf every lastAs latitudeWith angleIn fits within valueOf isSixty degreesOf minutesOf hundredthsOf numberOf numberAfter signedOf
 sixty-minutes = refl
 
 pub past-ninety : readLatitude (digit9 ∷ digit0 ∷ digit0 ∷ digit0 ∷ point ∷ digit0 ∷ 0x31 ∷ capitalN ∷ []) ≡ lat.Refused
@@ -54,107 +54,114 @@ fits-most : (most : ℕ) (t : List ℕ) → fits most t ≡ true → valueOf t �
 unfolding fits
 fits-most most t p = leb-true (valueOf t) most (and-second (every isDigit t) (leb (valueOf t) most) p)
 
-angle-most : (most : ℕ) (minus : Bool) (t : List ℕ) (z : ℤ) → angleIn most minus t ≡ Of z → natAbs z ≤ most
+-- an angle that was read with a side: near enough, and the side is its own where it is not 0
+pub record AngleFound (most : ℕ) (minus : Bool) (angle : ℤ) : Type 0 where
+  pub near : natAbs angle ≤ most
+  pub side : (angle ≡ pos 0 → ⊥) → minus ≡ isMinus angle
+
+angle-found : (most : ℕ) (minus : Bool) (t : List ℕ) (z : ℤ) (sixty : Bool) → angleIn most minus t ≡ Of z sixty → AngleFound most minus z
 unfolding angleIn
-angle-most most minus t z e =
-    let g = passed (fits most t) (Of (signedOf minus (valueOf t))) Bad (Of z) bad e in
-    rw (← same (g .1), size-signed minus (valueOf t)) (fits-most most t (g .0))
+angle-found most minus t z sixty e =
+    let g = passed (fits most t) (Of (signedOf minus (valueOf t)) (isSixty t)) Bad (Of z sixty) bad e in
+    rw (← same (g .1))
+    (record { near = rw (size-signed minus (valueOf t)) (fits-most most t (g .0)); side = λ n. sym (side-signed minus (valueOf t) n) })
   where
-    bad : Bad ≡ Of z → ⊥
+    bad : Bad ≡ Of z sixty → ⊥
     bad q = let n : _≡_ {A = ℕ} 0 1 = cc in omega arith
 
-    same : Of (signedOf minus (valueOf t)) ≡ Of z → signedOf minus (valueOf t) ≡ z
+    same : Of (signedOf minus (valueOf t)) (isSixty t) ≡ Of z sixty → signedOf minus (valueOf t) ≡ z
     same q = cc
 
-pub record LatitudeFound (latitude : Latitude) (blanks letter : ℕ) : Type 0 where
-  pub near : natAbs (latitude .0) ≤ mostLatitude
+pub record LatitudeFound (latitude : Latitude) (blanks : ℕ) (south : Bool) : Type 0 where
+  pub angle : AngleFound mostLatitude south (latitude .0)
   pub few : blanks ≤ 5
-  pub side : isNorthOrSouth letter ≡ true
 
-module _ (latitude : Latitude) (blanks letter : ℕ) where
-  no-latitude : lat.Refused ≡ lat.Read latitude blanks letter → ⊥
+module _ (latitude : Latitude) (blanks : ℕ) (south sixty : Bool) where
+  no-latitude : lat.Refused ≡ lat.Read latitude blanks south sixty → ⊥
   no-latitude q = let k : _≡_ {A = ℕ} 0 1 = cc in omega arith
 
-  latitude-with : (n x : ℕ) (a : AngleRead) → ((z : ℤ) → a ≡ Of z → natAbs z ≤ mostLatitude) → n ≤ 5 → isNorthOrSouth x ≡ true
-      → latitudeWith n x a ≡ lat.Read latitude blanks letter → LatitudeFound latitude blanks letter
+  latitude-with : (n : ℕ) (x : Bool) (a : AngleRead) → ((z : ℤ) (y : Bool) → a ≡ Of z y → AngleFound mostLatitude x z) → n ≤ 5
+      → latitudeWith n x a ≡ lat.Read latitude blanks south sixty → LatitudeFound latitude blanks south
   unfolding latitudeWith
-  latitude-with n x (Of z) m h e q =
+  latitude-with n x (Of z y) m h q =
       let l : record { 0 = z } ≡ latitude = cc in
       let b : n ≡ blanks = cc in
-      let y : x ≡ letter = cc in
-      record { near = rw (← l) (m z refl); few = rw (← b) h; side = rw (← y) e }
-  latitude-with n x Bad m h e q = absurd (no-latitude q)
+      let w : x ≡ south = cc in
+      record { angle = rw (← l, ← w) (m z y refl); few = rw (← b) h }
+  latitude-with n x Bad m h q = absurd (no-latitude q)
 
-  pub latitude-found : (t : List ℕ) (x : ℕ) → latitudeIn t x ≡ lat.Read latitude blanks letter → LatitudeFound latitude blanks letter
+  pub latitude-found : (t : List ℕ) (x : ℕ) → latitudeIn t x ≡ lat.Read latitude blanks south sixty → LatitudeFound latitude blanks south
   unfolding latitudeIn
   latitude-found t x e =
       let g = passed (isNorthOrSouth x && restBlank t && leb (blanksIn t) 5) _ lat.Refused _ no-latitude e in
-      latitude-with (blanksIn t) x _ (λ z. angle-most mostLatitude (eqb x capitalS) (countedDigits t) z)
+      latitude-with (blanksIn t) (eqb x capitalS) _ (λ z. angle-found mostLatitude (eqb x capitalS) (countedDigits t) z)
       (leb-true (blanksIn t) 5 (and-second (isNorthOrSouth x && restBlank t) (leb (blanksIn t) 5) (g .0)))
-      (and-first (isNorthOrSouth x) (restBlank t) (and-first (isNorthOrSouth x && restBlank t) (leb (blanksIn t) 5) (g .0)))
       (g .1)
 
-  pub read-latitude-found : (s : List ℕ) → readLatitude s ≡ lat.Read latitude blanks letter → LatitudeFound latitude blanks letter
+  pub read-latitude-found : (s : List ℕ) → readLatitude s ≡ lat.Read latitude blanks south sixty → LatitudeFound latitude blanks south
   unfolding readLatitude
   read-latitude-found s e = latitude-found (latitudePlaces s) (getD s 7 0) (passed (eqb (length s) 8 && eqb (getD s 4 0) point) _ lat.Refused _ no-latitude e .1)
 
-pub record LongitudeFound (longitude : Longitude) (letter : ℕ) : Type 0 where
-  pub near : natAbs (longitude .0) ≤ mostLongitude
-  pub side : isEastOrWest letter ≡ true
+  -- the side that was read is the latitude's own, where it is not 0
+  pub latitude-side-is-the-angle's : (s : List ℕ) → readLatitude s ≡ lat.Read latitude blanks south sixty → (latitude .0 ≡ pos 0 → ⊥) → south ≡ isMinus (latitude .0)
+  latitude-side-is-the-angle's s e = read-latitude-found s e .angle .side
 
-module _ (longitude : Longitude) (letter : ℕ) where
-  no-longitude : lon.Refused ≡ lon.Read longitude letter → ⊥
+module _ (longitude : Longitude) (west sixty : Bool) where
+  no-longitude : lon.Refused ≡ lon.Read longitude west sixty → ⊥
   no-longitude q = let k : _≡_ {A = ℕ} 0 1 = cc in omega arith
 
-  longitude-with : (x : ℕ) (a : AngleRead) → ((z : ℤ) → a ≡ Of z → natAbs z ≤ mostLongitude) → isEastOrWest x ≡ true
-      → longitudeWith x a ≡ lon.Read longitude letter → LongitudeFound longitude letter
+  longitude-with : (x : Bool) (a : AngleRead) → ((z : ℤ) (y : Bool) → a ≡ Of z y → AngleFound mostLongitude x z)
+      → longitudeWith x a ≡ lon.Read longitude west sixty → AngleFound mostLongitude west (longitude .0)
   unfolding longitudeWith
-  longitude-with x (Of z) m e q =
+  longitude-with x (Of z y) m q =
       let l : record { 0 = z } ≡ longitude = cc in
-      let y : x ≡ letter = cc in
-      record { near = rw (← l) (m z refl); side = rw (← y) e }
-  longitude-with x Bad m e q = absurd (no-longitude q)
+      let w : x ≡ west = cc in
+      rw (← l, ← w) (m z y refl)
+  longitude-with x Bad m q = absurd (no-longitude q)
 
-  pub longitude-found : (t : List ℕ) (x : ℕ) → longitudeIn t x ≡ lon.Read longitude letter → LongitudeFound longitude letter
+  pub longitude-found : (t : List ℕ) (x : ℕ) → longitudeIn t x ≡ lon.Read longitude west sixty → AngleFound mostLongitude west (longitude .0)
   unfolding longitudeIn
   longitude-found t x e =
-      let g = passed (isEastOrWest x) _ lon.Refused _ no-longitude e in
-      longitude-with x _ (λ z. angle-most mostLongitude (eqb x capitalW) t z) (g .0) (g .1)
+      longitude-with (eqb x capitalW) _ (λ z. angle-found mostLongitude (eqb x capitalW) t z) (passed (isEastOrWest x) _ lon.Refused _ no-longitude e .1)
 
-  pub read-longitude-found : (s : List ℕ) (blanks : ℕ) → readLongitude s blanks ≡ lon.Read longitude letter → LongitudeFound longitude letter
+  pub read-longitude-found : (s : List ℕ) (blanks : ℕ) → readLongitude s blanks ≡ lon.Read longitude west sixty → AngleFound mostLongitude west (longitude .0)
   unfolding readLongitude
   read-longitude-found s blanks e =
       let g = guard (ltb 5 blanks) lon.OutOfRange _ _ out e in
       longitude-found (lastAs digit0 blanks (longitudePlaces s)) (getD s 8 0) (passed (eqb (length s) 9 && eqb (getD s 5 0) point) _ lon.Refused _ no-longitude (g .1) .1)
     where
-      out : lon.OutOfRange ≡ lon.Read longitude letter → ⊥
+      out : lon.OutOfRange ≡ lon.Read longitude west sixty → ⊥
       out q = let k : _≡_ {A = ℕ} 0 1 = cc in omega arith
+
+  pub longitude-side-is-the-angle's : (s : List ℕ) (blanks : ℕ) → readLongitude s blanks ≡ lon.Read longitude west sixty → (longitude .0 ≡ pos 0 → ⊥) → west ≡ isMinus (longitude .0)
+  longitude-side-is-the-angle's s blanks e = read-longitude-found s blanks e .side
 
 -- up to five blanks are never out of range
 pub longitude-few : (s : List ℕ) (blanks : ℕ) → blanks ≤ 5 → readLongitude s blanks ≡ lon.OutOfRange → ⊥
 unfolding readLongitude longitudeIn longitudeWith
 longitude-few s blanks few e = with-digits (eqb (length s) 9 && eqb (getD s 5 0) point) (rw (le-ltb 5 blanks few) at e)
   where
-    told : (x : ℕ) (a : AngleRead) → longitudeWith x a ≡ lon.OutOfRange → ⊥
-    told x (Of z) e = let k : _≡_ {A = ℕ} 0 1 = cc in omega arith
+    told : (x : Bool) (a : AngleRead) → longitudeWith x a ≡ lon.OutOfRange → ⊥
+    told x (Of z y) e = let k : _≡_ {A = ℕ} 0 1 = cc in omega arith
     told x Bad e = let k : _≡_ {A = ℕ} 0 1 = cc in omega arith
 
-    lettered : (b : Bool) (x : ℕ) (a : AngleRead) → cond b (longitudeWith x a) lon.Refused ≡ lon.OutOfRange → ⊥
+    lettered : (b x : Bool) (a : AngleRead) → cond b (longitudeWith x a) lon.Refused ≡ lon.OutOfRange → ⊥
     lettered true x a e = told x a e
     lettered false x a e = let k : _≡_ {A = ℕ} 0 1 = cc in omega arith
 
     with-digits : (b : Bool) → cond b (longitudeIn (lastAs digit0 blanks (longitudePlaces s)) (getD s 8 0)) lon.Refused ≡ lon.OutOfRange → ⊥
-    with-digits true e = lettered (isEastOrWest (getD s 8 0)) (getD s 8 0) (angleIn mostLongitude (eqb (getD s 8 0) capitalW) (lastAs digit0 blanks (longitudePlaces s))) e
+    with-digits true e = lettered (isEastOrWest (getD s 8 0)) (eqb (getD s 8 0) capitalW) (angleIn mostLongitude (eqb (getD s 8 0) capitalW) (lastAs digit0 blanks (longitudePlaces s))) e
     with-digits false e = let k : _≡_ {A = ℕ} 0 1 = cc in omega arith
 
--- ---- what is written reads back: cut to the width that the blanks leave
+-- ---- what is written reads back: cut to the width that the blanks leave, and with minutes below 60
 
 places-angle : (most k n size : ℕ) (minus : Bool) → size ≤ most → valueOf (lastAs digit0 n (placesOf k size)) ≡ cutTo n size
-    → angleIn most minus (lastAs digit0 n (placesOf k size)) ≡ Of (signedOf minus (cutTo n size))
+    → isSixty (lastAs digit0 n (placesOf k size)) ≡ false
+    → angleIn most minus (lastAs digit0 n (placesOf k size)) ≡ Of (signedOf minus (cutTo n size)) false
 unfolding angleIn fits cutTo within
-places-angle most k n size minus h e =
+places-angle most k n size minus h e m =
     let l : size - size % widthOf n ≤ most = omega arith in
-    rw (every-last isDigit digit0 n (placesOf k size) refl (places-are k size), e, le-leb (size - size % widthOf n) most l)
+    rw (every-last isDigit digit0 n (placesOf k size) refl (places-are k size), e, m, le-leb (size - size % widthOf n) most l)
 
 cut-multiple : (n size : ℕ) → size % widthOf n ≡ 0 → cutTo n size ≡ size
 unfolding cutTo
@@ -162,18 +169,18 @@ cut-multiple n size h = omega arith
 
 -- the six places of a size and a letter: what Mic-E writes and reads
 latitude-back : (size blanks letter : ℕ) → size ≤ mostLatitude → blanks ≤ 5 → isNorthOrSouth letter ≡ true
-    → latitudeIn (blankedPlaces blanks size) letter ≡ lat.Read (record { 0 = signedOf (eqb letter capitalS) (cutTo blanks size) }) blanks letter
+    → latitudeIn (blankedPlaces blanks size) letter ≡ lat.Read (record { 0 = signedOf (eqb letter capitalS) (cutTo blanks size) }) blanks (eqb letter capitalS) false
 unfolding blankedPlaces latitudeWith
 latitude-back size blanks letter h few e =
     blanked-latitude (placesOf 2 size) (places-are 2 size) blanks (rw (six-places size) (omega arith)) few letter e
-    ∙ ap (latitudeWith blanks letter) (places-angle mostLatitude 2 blanks size (eqb letter capitalS) h (latitude-cut size h blanks few))
+    ∙ ap (latitudeWith blanks (eqb letter capitalS)) (places-angle mostLatitude 2 blanks size (eqb letter capitalS) h (latitude-cut size h blanks few) (latitude-minutes size blanks few))
 
 module _ (angle : ℤ) where
   north-or-south : isNorthOrSouth (northOrSouth angle) ≡ true
   unfolding northOrSouth
   north-or-south = picked (λ letter b. isNorthOrSouth letter ≡ true) capitalS capitalN refl refl (isMinus angle)
 
-  south-minus : eqb (northOrSouth angle) capitalS ≡ isMinus angle
+  pub south-minus : eqb (northOrSouth angle) capitalS ≡ isMinus angle
   unfolding northOrSouth
   south-minus = picked (λ letter b. eqb letter capitalS ≡ b) capitalS capitalN refl refl (isMinus angle)
 
@@ -190,22 +197,22 @@ module _ (angle : ℤ) where
   cut-whole blanks h = ap (signedOf (isMinus angle)) (cut-multiple blanks (natAbs angle) h) ∙ rejoined angle
 
   module _ (blanks : ℕ) (few : blanks ≤ 5) where
-    pub latitude-reads-cut : natAbs angle ≤ mostLatitude → readLatitude (latitudeText angle blanks) ≡ lat.Read (record { 0 = cutAngle blanks angle }) blanks (northOrSouth angle)
+    pub latitude-reads-cut : natAbs angle ≤ mostLatitude → readLatitude (latitudeText angle blanks) ≡ lat.Read (record { 0 = cutAngle blanks angle }) blanks (isMinus angle) false
     unfolding latitudeText cutAngle
     latitude-reads-cut h =
         latitude-of-text (blankedPlaces blanks (natAbs angle)) (northOrSouth angle) (blanked-six blanks (natAbs angle) (omega arith))
         ∙ latitude-back (natAbs angle) blanks (northOrSouth angle) h few north-or-south
         ∙ rw south-minus
 
-    pub latitude-reads-back : natAbs angle ≤ mostLatitude → natAbs angle % widthOf blanks ≡ 0 → readLatitude (latitudeText angle blanks) ≡ lat.Read (record { 0 = angle }) blanks (northOrSouth angle)
-    latitude-reads-back h w = latitude-reads-cut h ∙ ap (λ (z : ℤ). lat.Read (record { 0 = z }) blanks (northOrSouth angle)) (cut-whole blanks w)
+    pub latitude-reads-back : natAbs angle ≤ mostLatitude → natAbs angle % widthOf blanks ≡ 0 → readLatitude (latitudeText angle blanks) ≡ lat.Read (record { 0 = angle }) blanks (isMinus angle) false
+    latitude-reads-back h w = latitude-reads-cut h ∙ ap (λ (z : ℤ). lat.Read (record { 0 = z }) blanks (isMinus angle) false) (cut-whole blanks w)
 
-    pub longitude-reads-cut : natAbs angle ≤ mostLongitude → readLongitude (longitudeText angle) blanks ≡ lon.Read (record { 0 = cutAngle blanks angle }) (eastOrWest angle)
+    pub longitude-reads-cut : natAbs angle ≤ mostLongitude → readLongitude (longitudeText angle) blanks ≡ lon.Read (record { 0 = cutAngle blanks angle }) (isMinus angle) false
     unfolding longitudeText cutAngle longitudeIn longitudeWith
     longitude-reads-cut h =
         longitude-of-text (placesOf 3 (natAbs angle)) (eastOrWest angle) (seven-places (natAbs angle)) blanks few
-        ∙ rw (east-or-west, places-angle mostLongitude 3 blanks (natAbs angle) (eqb (eastOrWest angle) capitalW) h (longitude-cut (natAbs angle) h blanks few), west-minus)
+        ∙ rw (east-or-west, west-minus, places-angle mostLongitude 3 blanks (natAbs angle) (isMinus angle) h (longitude-cut (natAbs angle) h blanks few) (longitude-minutes (natAbs angle) blanks few))
 
-  pub longitude-reads-back : natAbs angle ≤ mostLongitude → readLongitude (longitudeText angle) 0 ≡ lon.Read (record { 0 = angle }) (eastOrWest angle)
+  pub longitude-reads-back : natAbs angle ≤ mostLongitude → readLongitude (longitudeText angle) 0 ≡ lon.Read (record { 0 = angle }) (isMinus angle) false
   unfolding widthOf
-  longitude-reads-back h = longitude-reads-cut 0 (omega arith) h ∙ ap (λ (z : ℤ). lon.Read (record { 0 = z }) (eastOrWest angle)) (cut-whole 0 (omega arith))
+  longitude-reads-back h = longitude-reads-cut 0 (omega arith) h ∙ ap (λ (z : ℤ). lon.Read (record { 0 = z }) (isMinus angle) false) (cut-whole 0 (omega arith))

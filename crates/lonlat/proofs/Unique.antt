@@ -9,17 +9,12 @@ use Rattle.buffer.specs.declared.Answer.{Answer}
 use Rattle.buffer.specs.Wrote.{ends, wrote}
 use Rattle.laws.proofs.Unique.{one-value}
 use Rattle.buffer.proofs.Wrote.{one-end}
-use Rattle.numbers.specs.declared.Sides.{Sides}
 use Rattle.lonlat.specs.declared.LongitudeMade.{LongitudeMade}
 use Rattle.lonlat.specs.declared.LatitudeRead.{LatitudeRead}
 use Rattle.lonlat.specs.declared.LongitudeRead.{LongitudeRead}
-use Rattle.numbers.specs.Sign.{sidesOf}
 use Rattle.lonlat.specs.Angle.{longitudeOf}
 use Rattle.lonlat.specs.Latitude.{readLatitude, latitudeText, latitudeRefusal}
 use Rattle.lonlat.specs.Longitude.{readLongitude, longitudeText, longitudeRefusal}
-
-pub unique-parts : (angle : ℤ) (r r′ : Sides) → r ≡ sidesOf angle → r′ ≡ sidesOf angle → r ≡ r′
-unique-parts angle r r′ = one-value r r′ (sidesOf angle)
 
 pub unique-longitude-of : (size : ℕ) (west : Bool) (r r′ : LongitudeMade) → r ≡ longitudeOf size west → r′ ≡ longitudeOf size west → r ≡ r′
 unique-longitude-of size west r r′ = one-value r r′ (longitudeOf size west)

@@ -37,9 +37,13 @@ hundredthsOf t = numberOf (drop 2 (drop (length t - 4) t))
 unfoldable pub valueOf : List ℕ → ℕ
 valueOf t = 6000 * degreesOf t + 100 * minutesOf t + hundredthsOf t
 
--- the value of digits, if digits they are
+-- whether they are such minutes; a reader tells of them
+unfoldable pub isSixty : List ℕ → Bool
+isSixty t = leb 60 (minutesOf t)
+
+-- the value of digits, if digits they are, and whether their minutes are 60 or more
 unfoldable pub sizeOf : List ℕ → Size
-sizeOf t = cond (every isDigit t) (Hundredths (valueOf t)) NoDigit
+sizeOf t = cond (every isDigit t) (Hundredths (valueOf t) (isSixty t)) NoDigit
 
 -- digits, of a value at most `most`
 unfoldable pub fits : ℕ → List ℕ → Bool
@@ -47,7 +51,7 @@ fits most t = every isDigit t && leb (valueOf t) most
 
 -- the angle on a side that digits say
 unfoldable pub angleIn : ℕ → Bool → List ℕ → AngleRead
-angleIn most minus t = cond (fits most t) (Of (signedOf minus (valueOf t))) Bad
+angleIn most minus t = cond (fits most t) (Of (signedOf minus (valueOf t)) (isSixty t)) Bad
 
 -- ---- written
 

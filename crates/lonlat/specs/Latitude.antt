@@ -47,16 +47,16 @@ keptOf t = cond (restBlank t) (indexOf space t) 0
 abbrev pub isNorthOrSouth : ℕ → Bool
 isNorthOrSouth letter = eqb letter capitalN || eqb letter capitalS
 
--- the angle with its blanks and letter
-unfoldable pub latitudeWith : ℕ → ℕ → AngleRead → LatitudeRead
-latitudeWith blanks letter (Of angle) = Read (record { 0 = angle }) blanks letter
-latitudeWith blanks letter Bad = Refused
+-- the angle with its blanks, and its side as the letter says it
+unfoldable pub latitudeWith : ℕ → Bool → AngleRead → LatitudeRead
+latitudeWith blanks south (Of angle sixty) = Read (record { 0 = angle }) blanks south sixty
+latitudeWith blanks south Bad = Refused
 
 -- what six places and a letter say, which Mic-E asks too: digits, then 0 to 5 blanks, and at most 90 degrees
 unfoldable pub latitudeIn : List ℕ → ℕ → LatitudeRead
 latitudeIn t letter =
     cond (isNorthOrSouth letter && restBlank t && leb (blanksIn t) 5)
-    (latitudeWith (blanksIn t) letter (angleIn mostLatitude (eqb letter capitalS) (countedDigits t)))
+    (latitudeWith (blanksIn t) (eqb letter capitalS) (angleIn mostLatitude (eqb letter capitalS) (countedDigits t)))
     Refused
 
 -- the digit places of `ddmm.hhN`
@@ -69,7 +69,7 @@ readLatitude s = cond (eqb (length s) 8 && eqb (getD s 4 0) point) (latitudeIn (
 
 -- document 01's number
 unfoldable pub latitudeNumber : LatitudeRead → ℕ
-latitudeNumber (Read latitude blanks letter) = 0
+latitudeNumber (Read latitude blanks south sixty) = 0
 latitudeNumber Refused = 8
 
 -- ---- written

@@ -22,14 +22,17 @@ use Rattle.lonlat.specs.declared.LongitudeRead.the-variants.{Read, Refus
 abbrev pub isEastOrWest : ℕ → Bool
 isEastOrWest letter = eqb letter capitalE || eqb letter capitalW
 
--- the angle with its letter
-unfoldable pub longitudeWith : ℕ → AngleRead → LongitudeRead
-longitudeWith letter (Of angle) = Read (record { 0 = angle }) letter
-longitudeWith letter Bad = Refused
+-- the angle, and its side as the letter says it
+unfoldable pub longitudeWith : Bool → AngleRead → LongitudeRead
+longitudeWith west (Of angle sixty) = Read (record { 0 = angle }) west sixty
+longitudeWith west Bad = Refused
 
 -- what seven digits and a letter say: at most 180 degrees
 unfoldable pub longitudeIn : List ℕ → ℕ → LongitudeRead
-longitudeIn t letter = cond (isEastOrWest letter) (longitudeWith letter (angleIn mostLongitude (eqb letter capitalW) t)) Refused
+longitudeIn t letter =
+    cond (isEastOrWest letter)
+    (longitudeWith (eqb letter capitalW) (angleIn mostLongitude (eqb letter capitalW) t))
+    Refused
 
 -- the digit places of `dddmm.hhE`
 abbrev pub longitudePlaces : List ℕ → List ℕ
@@ -45,7 +48,7 @@ readLongitude s blanks =
 
 -- document 01's number
 unfoldable pub longitudeNumber : LongitudeRead → ℕ
-longitudeNumber (Read longitude letter) = 0
+longitudeNumber (Read longitude west sixty) = 0
 longitudeNumber Refused = 9
 longitudeNumber OutOfRange = 15
 

@@ -47,9 +47,9 @@ pub fn longitude_of(size: u32, west: bool) -> LongitudeMade
     LongitudeMade::Made(Longitude(signed(size, west)))
 }
 
-// What digit places say together: hundredths of a minute.
+// What digit places say together: hundredths of a minute, and whether the minutes are 60 or more.
 enum Size {
-    Hundredths(u32),
+    Hundredths { size: u32, sixty: bool },
     NoDigit,
 }
 
@@ -71,7 +71,10 @@ fn value(t: &[u8]) -> Size
         v = 10 * v + ((b - b'0') as u32);
         i += 1;
     }
-    Size::Hundredths(6000 * (v / 10000) + v % 10000)
+    Size::Hundredths {
+        size: 6000 * (v / 10000) + v % 10000,
+        sixty: 6000 <= v % 10000,
+    }
 }
 
 // The last n bytes of t become b.
@@ -111,9 +114,9 @@ fn kept_of(t: &[u8]) -> usize
     0
 }
 
-// What digits say together with a side: the angle.
+// What digits say together with a side: the angle, and whether its minutes are 60 or more.
 enum AngleRead {
-    Of(i32),
+    Of { angle: i32, sixty: bool },
     Bad,
 }
 
@@ -123,11 +126,14 @@ fn angle_in(most: u32, minus: bool, t: &[u8]) -> AngleRead
     ensures { λ r. ⌜ r ≡ angleIn most minus (now (t .entry)) ⌝ }
 {
     match value(t) {
-        Size::Hundredths(v) => {
-            if most < v {
+        Size::Hundredths { size, sixty } => {
+            if most < size {
                 return AngleRead::Bad;
             }
-            AngleRead::Of(signed(v, minus))
+            AngleRead::Of {
+                angle: signed(size, minus),
+                sixty,
+            }
         }
         Size::NoDigit => AngleRead::Bad,
     }
@@ -143,12 +149,14 @@ fn either(letter: u8, a: u8, b: u8) -> bool
     letter == b
 }
 
-// What eight bytes of latitude read as: the angle, its blanks, and the letter as it stands.
+// What eight bytes of latitude read as: the angle, its blanks, whether the letter is S, also at 0, and whether the minutes,
+// blanks as 0, are 60 or more.
 pub enum LatitudeRead {
     Read {
         latitude: Latitude,
         blanks: u8,
-        letter: u8,
+        south: bool,
+        sixty: bool,
     },
     Refused,
 }
@@ -167,11 +175,13 @@ fn latitude_in(places: [u8; 6], letter: u8) -> LatitudeRead
     let blanks = 6 - kept;
     let mut t = places;
     last_as(b'0', blanks, &mut t);
-    match angle_in(540000, letter == b'S', &t) {
-        AngleRead::Of(angle) => LatitudeRead::Read {
+    let south = letter == b'S';
+    match angle_in(540000, south, &t) {
+        AngleRead::Of { angle, sixty } => LatitudeRead::Read {
             latitude: Latitude(angle),
             blanks: blanks as u8,
-            letter,
+            south,
+            sixty,
         },
         AngleRead::Bad => LatitudeRead::Refused,
     }
@@ -190,9 +200,14 @@ pub fn read_latitude(s: &[u8]) -> LatitudeRead
     latitude_in([s[0], s[1], s[2], s[3], s[5], s[6]], s[7])
 }
 
-// What nine bytes of longitude read as: the angle, and the letter as it stands. OutOfRange is for blanks past five.
+// What nine bytes of longitude read as: the angle, whether the letter is W, also at 0, and whether the minutes, discarded
+// digits as 0, are 60 or more. OutOfRange is for blanks past five.
 pub enum LongitudeRead {
-    Read { longitude: Longitude, letter: u8 },
+    Read {
+        longitude: Longitude,
+        west: bool,
+        sixty: bool,
+    },
     Refused,
     OutOfRange,
 }
@@ -204,10 +219,12 @@ fn longitude_in(t: &[u8; 7], letter: u8) -> LongitudeRead
     if !either(letter, b'E', b'W') {
         return LongitudeRead::Refused;
     }
-    match angle_in(1080000, letter == b'W', t) {
-        AngleRead::Of(angle) => LongitudeRead::Read {
+    let west = letter == b'W';
+    match angle_in(1080000, west, t) {
+        AngleRead::Of { angle, sixty } => LongitudeRead::Read {
             longitude: Longitude(angle),
-            letter,
+            west,
+            sixty,
         },
         AngleRead::Bad => LongitudeRead::Refused,
     }

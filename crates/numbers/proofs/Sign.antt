@@ -29,6 +29,13 @@ size-signed false size = refl
 size-signed true zero = refl
 size-signed true (suc n) = refl
 
+-- and the side too, but for 0, which is on neither
+pub side-signed : (minus : Bool) (size : ℕ) → (signedOf minus size ≡ pos 0 → ⊥) → isMinus (signedOf minus size) ≡ minus
+unfolding signedOf isMinus
+side-signed false size n = refl
+side-signed true zero n = absurd (n refl)
+side-signed true (suc m) n = refl
+
 -- what the code has once it has taken an angle apart: z is the angle as it has it
 module _ (angle z : ℤ) (back : z ≡ angle) (p : Sides) (e : p ≡ sidesOf z) where
   pub parts-size : p .size ≡ natAbs angle

@@ -9,8 +9,8 @@ use Rattle.lonlat.proofs.angle_in.Tie as tie
 value-requires : tie.Need-value-requires
 value-requires c κs = search needs
 
-enum-known-v : tie.Need-enum-known-v
-enum-known-v c = search needs
+enum-known-size : tie.Need-enum-known-size
+enum-known-size c = search needs
 
 returns : tie.Need-returns
 returns c = search angle-big
@@ -30,4 +30,4 @@ returns-3 c = search angle-none
 pub angle-in-spec : {M : Type 1} → statement M
 angle-in-spec =
     tie.close
-    (tie.spec value-requires enum-known-v returns signed-requires enum-told returns-2 returns-3)
+    (tie.spec value-requires enum-known-size returns signed-requires enum-told returns-2 returns-3)

@@ -41,8 +41,8 @@ angle-in-requires c κs = search needs
 enum-known-angle : tie.Need-enum-known-angle
 enum-known-angle c = search needs
 
-cast-t21 : tie.Need-cast-t21
-cast-t21 c = search needs
+cast-t23 : tie.Need-cast-t23
+cast-t23 c = search needs
 
 enum-told : tie.Need-enum-told
 enum-told c = search needs
@@ -73,7 +73,7 @@ latitude-in-spec =
     slice-aggregate-angle-in
     angle-in-requires
     enum-known-angle
-    cast-t21
+    cast-t23
     enum-told
     returns-3
     returns-4)

@@ -1,9 +1,10 @@
 -- `value`: so far every byte was a digit, v is the number they write, and v has at most i digits. Assumes nothing.
-use mathlib.Core.Path.{_≡_, refl, sym, ap, _∙_}
+use mathlib.Core.Path.{_≡_, refl, _∙_}
 use mathlib.Core.Bool.{true}
 use mathlib.Core.List.{List}
 use Prim.Native.Nat.{ℕ, _+_, _-_, _*_, _/_, _%_, _^_, _<_, _≤_}
 use native.Mathlib.Omega.{arith}
+use lib.Dec.{leb}
 use lib.ListN.{length, drop, getD, drop-of-length-le}
 use denote.Ref.{now}
 use Rattle.laws.specs.Bytes.{digit0, digit9, isDigit}
@@ -13,7 +14,7 @@ use Rattle.laws.proofs.Each.{every-more, every-not, every-end}
 use Rattle.lonlat.specs.declared.Size.the-variants.{Hundredths, NoDigit}
 use Rattle.numbers.specs.Numbers.{numberAfter, numberOf}
 use Rattle.lonlat.specs.Digits.{sizeOf}
-use Rattle.lonlat.proofs.Digits.{digit-below, digit-above, grows, seven, number-more, value-number}
+use Rattle.lonlat.proofs.Digits.{digit-below, digit-above, grows, seven, number-more, value-number, sixty-number}
 use Rattle.lonlat.proofs.value.Statement.{statement}
 use Rattle.lonlat.proofs.value.Tie as tie
 
@@ -36,12 +37,12 @@ module _ (t : List ℕ) (i : ℕ) (h : i < length t) (e : every isDigit t ≡ ev
   goes-on k l = every-more isDigit 0 t i h (within-yes digit0 digit9 (getD t i 0) k l) e
 
 ended : (t : List ℕ) (i v : ℕ) → 4 ≤ length t → length t ≤ i → every isDigit t ≡ every isDigit (drop i t) → numberOf t ≡ numberAfter v (drop i t)
-    → Hundredths (6000 * (v / 10000) + v % 10000) ≡ sizeOf t
+    → Hundredths (6000 * (v / 10000) + v % 10000) (leb 6000 (v % 10000)) ≡ sizeOf t
 unfolding sizeOf numberAfter
 ended t i v l h e n =
     let d : every isDigit t ≡ true = every-end isDigit t i h e in
     let m : numberOf t ≡ v = n ∙ rw (drop-of-length-le t h) in
-    rw d (ap Hundredths (sym (value-number t l d ∙ rw m)))
+    rw (d, value-number t l d, sixty-number t l d, m)
 
 small : (l : tie.At-loop Inv-loop μ-loop) → l .loop .v < 10000000
 small l = seven (l .loop .v) (l .loop .i) (l .loop .inv .1) (omega arith)
