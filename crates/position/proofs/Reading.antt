@@ -18,7 +18,7 @@ use Rattle.lonlat.specs.declared.LatitudeRead.the-variants as lat
 use Rattle.lonlat.specs.declared.LongitudeRead.{LongitudeRead}
 use Rattle.lonlat.specs.declared.LongitudeRead.the-variants as lon
 use Rattle.position.specs.declared.PositionRead.{PositionRead}
-use Rattle.position.specs.Position.{fixedBytes, isNumeric, isUncompressed, refusedPosition, withLongitude, withLatitude, readPosition}
+use Rattle.position.specs.Position.{fixedBytes, isNumeric, isUncompressed, refusedPosition, acceptedPosition, withLongitude, withLatitude, readPosition}
 
 pub digit-high : (b : ℕ) → digit0 ≤ b → leb b digit9 ≡ isDigit b
 unfolding within
@@ -35,20 +35,20 @@ first-some s r e = e
 
 -- ---- the longitude: q is what was read
 
-module _ (s : List ℕ) (latitude : Latitude) (blanks north : ℕ) (q a : LongitudeRead) (e : q ≡ a) where
-  pub longitude-refused : q ≡ lon.Refused → (r : PositionRead) → r ≡ refusedPosition 9 → r ≡ withLongitude s latitude blanks north a
+module _ (s : List ℕ) (latitude : Latitude) (blanks : ℕ) (south sixty : Bool) (q a : LongitudeRead) (e : q ≡ a) where
+  pub longitude-refused : q ≡ lon.Refused → (r : PositionRead) → r ≡ refusedPosition 9 → r ≡ withLongitude s latitude blanks south sixty a
   unfolding withLongitude longitudeNumber
   longitude-refused f r g = rw (← e, f) g
 
-  pub longitude-out : q ≡ lon.OutOfRange → (r : PositionRead) → r ≡ refusedPosition 15 → r ≡ withLongitude s latitude blanks north a
+  pub longitude-out : q ≡ lon.OutOfRange → (r : PositionRead) → r ≡ refusedPosition 15 → r ≡ withLongitude s latitude blanks south sixty a
   unfolding withLongitude longitudeNumber
   longitude-out f r g = rw (← e, f) g
 
-  pub longitude-read : (longitude : Longitude) (east : ℕ) → q ≡ lon.Read longitude east
-      → record { refusal = 0; place = record { latitude = latitude; longitude = longitude; blanks = blanks; table = getD s 8 0; code = getD s 18 0 }; north = north; east = east }
-      ≡ withLongitude s latitude blanks north a
+  pub longitude-read : (longitude : Longitude) (west minutes : Bool) → q ≡ lon.Read longitude west minutes
+      → acceptedPosition (record { latitude = latitude; longitude = longitude; blanks = blanks; table = getD s 8 0; code = getD s 18 0 }) south west sixty minutes
+      ≡ withLongitude s latitude blanks south sixty a
   unfolding withLongitude
-  longitude-read longitude east f = rw (← e, f)
+  longitude-read longitude west minutes f = rw (← e, f)
 
 -- ---- the latitude: u is the test of the first byte
 
@@ -67,7 +67,7 @@ module _ (s : List ℕ) (u : Bool) (e : u ≡ isUncompressed s) where
       unfolding readPosition withLatitude latitudeNumber
       latitude-refused g r i = rw (← e, not-false u h, le-ltb (length s) fixedBytes k, ← f, g) i
 
-      pub latitude-read : (latitude : Latitude) (blanks north : ℕ) → q ≡ lat.Read latitude blanks north
-          → (r : PositionRead) → r ≡ withLongitude s latitude blanks north (readLongitude (take 9 (drop 9 s)) blanks) → r ≡ readPosition s
+      pub latitude-read : (latitude : Latitude) (blanks : ℕ) (south sixty : Bool) → q ≡ lat.Read latitude blanks south sixty
+          → (r : PositionRead) → r ≡ withLongitude s latitude blanks south sixty (readLongitude (take 9 (drop 9 s)) blanks) → r ≡ readPosition s
       unfolding readPosition withLatitude
-      latitude-read latitude blanks north g r i = rw (← e, not-false u h, le-ltb (length s) fixedBytes k, ← f, g) i
+      latitude-read latitude blanks south sixty g r i = rw (← e, not-false u h, le-ltb (length s) fixedBytes k, ← f, g) i

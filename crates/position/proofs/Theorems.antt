@@ -1,4 +1,4 @@
--- What a position reads as is blank or in range, and what is written reads back.
+-- What a position reads as is blank, or in range and on the sides that were read; and what is written reads back.
 -- Assumes nothing.
 use mathlib.Core.Path.{_≡_, refl, sym, ap, _∙_}
 use mathlib.Core.Bool.{Bool, true, false, false≢true, cond, _||_}
@@ -7,13 +7,14 @@ use Prim.Native.Nat.{ℕ, _%_, _≤_}
 use native.Mathlib.Omega.{arith}
 use borrow.Author.Tests.{le-leb, le-ltb}
 use lib.Dec.{eqb, ltb}
-use lib.IntN.{natAbs}
+use lib.IntN.{pos, natAbs}
 use lib.ListN.{length, take, drop, getD, length-append, List·getD-append}
 use lib.Seq.{take-at, drop-at, getD-at, getD-drop, getD-append-add}
 use Rattle.laws.specs.Bytes.{isDigit}
+use Rattle.numbers.specs.Sign.{isMinus}
 use Rattle.lonlat.specs.Angle.{mostLatitude, mostLongitude, widthOf, cutAngle}
-use Rattle.lonlat.specs.Latitude.{readLatitude, latitudeNumber, northOrSouth, latitudeText}
-use Rattle.lonlat.specs.Longitude.{readLongitude, longitudeNumber, eastOrWest, longitudeText}
+use Rattle.lonlat.specs.Latitude.{readLatitude, latitudeNumber, latitudeText}
+use Rattle.lonlat.specs.Longitude.{readLongitude, longitudeNumber, longitudeText}
 use Rattle.lonlat.specs.declared.Latitude.{Latitude}
 use Rattle.lonlat.specs.declared.Longitude.{Longitude}
 use Rattle.lonlat.specs.declared.LatitudeRead.{LatitudeRead}
@@ -21,14 +22,14 @@ use Rattle.lonlat.specs.declared.LatitudeRead.the-variants as lat
 use Rattle.lonlat.specs.declared.LongitudeRead.{LongitudeRead}
 use Rattle.lonlat.specs.declared.LongitudeRead.the-variants as lon
 use Rattle.lonlat.proofs.Texts.{latitude-text-length, latitude-text-first, longitude-text-length}
-use Rattle.lonlat.proofs.Theorems.{LatitudeFound, read-latitude-found, LongitudeFound, read-longitude-found, longitude-few, cut-whole, latitude-reads-cut, longitude-reads-cut}
+use Rattle.lonlat.proofs.Theorems.{AngleFound, LatitudeFound, read-latitude-found, read-longitude-found, longitude-few, cut-whole, latitude-reads-cut, longitude-reads-cut}
 use Rattle.position.specs.declared.Place.{Place}
 use Rattle.position.specs.declared.PositionRead.{PositionRead}
 use Rattle.position.specs.Reach.{inReach}
-use Rattle.position.specs.Position.{fixedBytes, isNumeric, isUncompressed, refusedPosition, withLongitude, withLatitude, readPosition, placeInRange, positionText}
+use Rattle.position.specs.Position.{fixedBytes, isNumeric, isUncompressed, refusedPosition, acceptedPosition, withLongitude, withLatitude, readPosition, placeInRange, positionText}
 use Rattle.position.proofs.Reach.{latitude-near, longitude-near, reach-near, reach-few}
 
--- ---- every answer, by cases: a refusal, or a place with its letters
+-- ---- every answer, by cases: a refusal, or a place with its sides
 
 abbrev pub isPositionRefusal : ℕ → Bool
 isPositionRefusal n = eqb n 7 || (eqb n 8 || (eqb n 9 || eqb n 10))
@@ -38,19 +39,19 @@ placeOf s latitude longitude blanks = record { latitude = latitude; longitude = 
 
 module _ (P : PositionRead → Type 0) (s : List ℕ)
     (blank : (n : ℕ) → isPositionRefusal n ≡ true → P (refusedPosition n))
-    (found : (latitude : Latitude) (longitude : Longitude) (blanks north east : ℕ) → LatitudeFound latitude blanks north → LongitudeFound longitude east
-    → P (record { refusal = 0; place = placeOf s latitude longitude blanks; north = north; east = east })) where
-  longitude-cases : (latitude : Latitude) (blanks north : ℕ) → LatitudeFound latitude blanks north
-      → (q : LongitudeRead) → readLongitude (take 9 (drop 9 s)) blanks ≡ q → P (withLongitude s latitude blanks north q)
+    (found : (latitude : Latitude) (longitude : Longitude) (blanks : ℕ) (south west x y : Bool) → LatitudeFound latitude blanks south → AngleFound mostLongitude west (longitude .0)
+    → P (acceptedPosition (placeOf s latitude longitude blanks) south west x y)) where
+  longitude-cases : (latitude : Latitude) (blanks : ℕ) (south x : Bool) → LatitudeFound latitude blanks south
+      → (q : LongitudeRead) → readLongitude (take 9 (drop 9 s)) blanks ≡ q → P (withLongitude s latitude blanks south x q)
   unfolding withLongitude longitudeNumber
-  longitude-cases latitude blanks north l (lon.Read longitude east) e = found latitude longitude blanks north east l (read-longitude-found longitude east (take 9 (drop 9 s)) blanks e)
-  longitude-cases latitude blanks north l lon.Refused e = blank 9 refl
-  longitude-cases latitude blanks north l lon.OutOfRange e = absurd (longitude-few (take 9 (drop 9 s)) blanks (l .few) e)
+  longitude-cases latitude blanks south x l (lon.Read longitude west y) e = found latitude longitude blanks south west x y l (read-longitude-found longitude west y (take 9 (drop 9 s)) blanks e)
+  longitude-cases latitude blanks south x l lon.Refused e = blank 9 refl
+  longitude-cases latitude blanks south x l lon.OutOfRange e = absurd (longitude-few (take 9 (drop 9 s)) blanks (l .few) e)
 
   latitude-cases : (q : LatitudeRead) → readLatitude (take 8 s) ≡ q → P (withLatitude s q)
   unfolding withLatitude latitudeNumber
-  latitude-cases (lat.Read latitude blanks north) e =
-      longitude-cases latitude blanks north (read-latitude-found latitude blanks north (take 8 s) e) (readLongitude (take 9 (drop 9 s)) blanks) refl
+  latitude-cases (lat.Read latitude blanks south x) e =
+      longitude-cases latitude blanks south x (read-latitude-found latitude blanks south x (take 8 s) e) (readLongitude (take 9 (drop 9 s)) blanks) refl
   latitude-cases lat.Refused e = blank 8 refl
 
   position-cases : P (readPosition s)
@@ -62,26 +63,40 @@ module _ (P : PositionRead → Type 0) (s : List ℕ)
       go true false = latitude-cases (readLatitude (take 8 s)) refl
       go false v = blank 7 refl
 
--- a refusal is one of 7, 8, 9, 10, and leaves nothing
+-- a refusal is one of 7, 8, 9, 10, and leaves nothing; a place is in range, and each side its angle's own where that is not 0
 pub record Answered (r : PositionRead) : Type 0 where
   pub number : (r .refusal ≡ 0 → ⊥) → isPositionRefusal (r .refusal) ≡ true
   pub nothing : (r .refusal ≡ 0 → ⊥) → r ≡ refusedPosition (r .refusal)
   pub near : r .refusal ≡ 0 → placeInRange (r .place) ≡ true
+  pub south-is : (r .place .latitude .0 ≡ pos 0 → ⊥) → r .south ≡ isMinus (r .place .latitude .0)
+  pub west-is : (r .place .longitude .0 ≡ pos 0 → ⊥) → r .west ≡ isMinus (r .place .longitude .0)
 
 refusal-not-zero : (n : ℕ) → isPositionRefusal n ≡ true → n ≡ 0 → ⊥
 refusal-not-zero n e z = let k : isPositionRefusal 0 ≡ true = rw z at e in let f : false ≡ true = k in false≢true f
 
-found-near : (s : List ℕ) (latitude : Latitude) (longitude : Longitude) (blanks north east : ℕ) → LatitudeFound latitude blanks north → LongitudeFound longitude east
+found-near : (s : List ℕ) (latitude : Latitude) (longitude : Longitude) (blanks : ℕ) (south west : Bool) → LatitudeFound latitude blanks south → AngleFound mostLongitude west (longitude .0)
     → placeInRange (placeOf s latitude longitude blanks) ≡ true
 unfolding placeInRange inReach
-found-near s latitude longitude blanks north east l m =
-    rw (le-leb (natAbs (latitude .0)) mostLatitude (l .near), le-leb blanks 5 (l .few), le-leb (natAbs (longitude .0)) mostLongitude (m .near))
+found-near s latitude longitude blanks south west l m =
+    rw (le-leb (natAbs (latitude .0)) mostLatitude (l .angle .near), le-leb blanks 5 (l .few), le-leb (natAbs (longitude .0)) mostLongitude (m .near))
 
 pub read-position-answered : (s : List ℕ) → Answered (readPosition s)
 read-position-answered s =
     position-cases Answered s
-    (λ n e. record { number = λ h. e; nothing = λ h. refl; near = λ z. absurd (refusal-not-zero n e z) })
-    (λ latitude longitude blanks north east l m. record { number = λ h. absurd (h refl); nothing = λ h. absurd (h refl); near = λ z. found-near s latitude longitude blanks north east l m })
+    (λ n e. record {
+      number = λ h. e;
+      nothing = λ h. refl;
+      near = λ z. absurd (refusal-not-zero n e z);
+      south-is = λ h. absurd (h refl);
+      west-is = λ h. absurd (h refl);
+    })
+    (λ latitude longitude blanks south west x y l m. record {
+      number = λ h. absurd (h refl);
+      nothing = λ h. absurd (h refl);
+      near = λ z. found-near s latitude longitude blanks south west l m;
+      south-is = l .angle .side;
+      west-is = m .side;
+    })
 
 -- ---- what is written reads back
 
@@ -129,11 +144,11 @@ module _ (n : List ℕ) (t : ℕ) (e : List ℕ) (c : ℕ) (rest : List ℕ) (ei
   whole-code = sym (getD-drop 9 whole 9 0) ∙ ap (λ (l : List ℕ). getD l 9 0) past-table ∙ getD-at e c rest 0 9 nine
 
 -- a place read from text whose parts are known
-parts-read : (s : List ℕ) (latitude : Latitude) (longitude : Longitude) (blanks north east : ℕ) → isUncompressed s ≡ true → fixedBytes ≤ length s
-    → readLatitude (take 8 s) ≡ lat.Read latitude blanks north → readLongitude (take 9 (drop 9 s)) blanks ≡ lon.Read longitude east
-    → readPosition s ≡ record { refusal = 0; place = placeOf s latitude longitude blanks; north = north; east = east }
+parts-read : (s : List ℕ) (latitude : Latitude) (longitude : Longitude) (blanks : ℕ) (south west x y : Bool) → isUncompressed s ≡ true → fixedBytes ≤ length s
+    → readLatitude (take 8 s) ≡ lat.Read latitude blanks south x → readLongitude (take 9 (drop 9 s)) blanks ≡ lon.Read longitude west y
+    → readPosition s ≡ acceptedPosition (placeOf s latitude longitude blanks) south west x y
 unfolding readPosition withLatitude withLongitude
-parts-read s latitude longitude blanks north east u l e f = rw (u, le-ltb (length s) fixedBytes l, e, f)
+parts-read s latitude longitude blanks south west x y u l e f = rw (u, le-ltb (length s) fixedBytes l, e, f)
 
 numeric-digit : (s : List ℕ) (b : ℕ) → getD s 0 0 ≡ b → isDigit b ≡ true → isUncompressed s ≡ true
 unfolding isUncompressed isNumeric
@@ -164,13 +179,13 @@ module _ (p : Place) (near : placeInRange p ≡ true) (comment : List ℕ) where
   unfolding positionText whole s n e
   text-whole = append-assoc n (p .table ∷ e ++ (p .code ∷ [])) comment ∙ ap {B = List ℕ} (λ l. n ++ (p .table ∷ l)) (append-assoc e (p .code ∷ []) comment)
 
-  north-read : readLatitude (take 8 s) ≡ lat.Read (record { 0 = cutAngle (p .blanks) (p .latitude .0) }) (p .blanks) (northOrSouth (p .latitude .0))
+  north-read : readLatitude (take 8 s) ≡ lat.Read (record { 0 = cutAngle (p .blanks) (p .latitude .0) }) (p .blanks) (isMinus (p .latitude .0)) false
   unfolding s n
   north-read =
       ap readLatitude (whole-north n (p .table) e (p .code) comment eight nine)
       ∙ latitude-reads-cut (p .latitude .0) (p .blanks) few (reach-near mostLatitude (natAbs (p .latitude .0)) (p .blanks) (latitude-near p near))
 
-  east-read : readLongitude (take 9 (drop 9 s)) (p .blanks) ≡ lon.Read (record { 0 = cutAngle (p .blanks) (p .longitude .0) }) (eastOrWest (p .longitude .0))
+  east-read : readLongitude (take 9 (drop 9 s)) (p .blanks) ≡ lon.Read (record { 0 = cutAngle (p .blanks) (p .longitude .0) }) (isMinus (p .longitude .0)) false
   unfolding s e
   east-read =
       ap (λ (l : List ℕ). readLongitude l (p .blanks)) (whole-east n (p .table) e (p .code) comment eight nine)
@@ -180,16 +195,17 @@ module _ (p : Place) (near : placeInRange p ≡ true) (comment : List ℕ) where
   unfolding s n
   starts = numeric-digit s (getD n 0 0) (whole-first n (p .table) e (p .code) comment eight nine) (latitude-text-first (p .latitude .0) (p .blanks) few)
 
-  -- what is written, and a comment behind it, reads as the place cut to the width that its blanks leave
+  -- what is written, and a comment behind it, reads as the place cut to the width that its blanks leave, on its own sides and with
+  -- no minutes of 60 or more
   pub position-reads-cut : readPosition (positionText p ++ comment)
-      ≡ record { refusal = 0; place = cutPlace p; north = northOrSouth (p .latitude .0); east = eastOrWest (p .longitude .0) }
+      ≡ acceptedPosition (cutPlace p) (isMinus (p .latitude .0)) (isMinus (p .longitude .0)) false false
   unfolding s
   position-reads-cut =
       rw text-whole
-      (parts-read s _ _ (p .blanks) (northOrSouth (p .latitude .0)) (eastOrWest (p .longitude .0)) starts (whole-long n (p .table) e (p .code) comment eight nine) north-read east-read
+      (parts-read s _ _ (p .blanks) (isMinus (p .latitude .0)) (isMinus (p .longitude .0)) false false starts (whole-long n (p .table) e (p .code) comment eight nine) north-read east-read
       ∙ rw (whole-table n (p .table) e (p .code) comment eight nine, whole-code n (p .table) e (p .code) comment eight nine))
 
   -- as the place itself, where both angles are multiples of that width
   pub position-reads-back : natAbs (p .latitude .0) % widthOf (p .blanks) ≡ 0 → natAbs (p .longitude .0) % widthOf (p .blanks) ≡ 0
-      → readPosition (positionText p ++ comment) ≡ record { refusal = 0; place = p; north = northOrSouth (p .latitude .0); east = eastOrWest (p .longitude .0) }
+      → readPosition (positionText p ++ comment) ≡ acceptedPosition p (isMinus (p .latitude .0)) (isMinus (p .longitude .0)) false false
   position-reads-back h k = position-reads-cut ∙ rw (cut-whole (p .latitude .0) (p .blanks) h, cut-whole (p .longitude .0) (p .blanks) k)

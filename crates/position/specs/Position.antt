@@ -2,7 +2,7 @@
 -- longitude, code byte, comment." The comment is what follows those 19 bytes. Order of refusals: "Position: 7, 10, 8, 9."
 -- Assumes nothing.
 use Prim.Native.Nat.{ℕ}
-use mathlib.Core.Bool.{Bool, cond, _&&_, _||_}
+use mathlib.Core.Bool.{Bool, false, cond, _&&_, _||_}
 use mathlib.Core.List.{List, [], _∷_, _++_}
 use lib.Dec.{eqb, ltb}
 use lib.IntN.{pos, natAbs}
@@ -40,22 +40,33 @@ noPlace = record { latitude = record { 0 = pos 0 }; longitude = record { 0 = pos
 
 -- a refusal by its number, and nothing else
 abbrev pub refusedPosition : ℕ → PositionRead
-refusedPosition n = record { refusal = n; place = noPlace; north = 0; east = 0 }
+refusedPosition n = record { refusal = n; place = noPlace; south = false; west = false; «latitude_sixty» = false; «longitude_sixty» = false }
 
--- the place, with the letters of its angles as they stood
-unfoldable pub withLongitude : List ℕ → Latitude → ℕ → ℕ → LongitudeRead → PositionRead
-withLongitude s latitude blanks north (lon.Read longitude east) = record {
+-- a place, with the sides of its angles as their letters stood, and which of them has minutes of 60 or more
+abbrev pub acceptedPosition : Place → Bool → Bool → Bool → Bool → PositionRead
+acceptedPosition place south west latitudeSixty longitudeSixty = record {
   refusal = 0;
-  place = record { latitude = latitude; longitude = longitude; blanks = blanks; table = getD s 8 0; code = getD s 18 0 };
-  north = north;
-  east = east;
+  place = place;
+  south = south;
+  west = west;
+  «latitude_sixty» = latitudeSixty;
+  «longitude_sixty» = longitudeSixty;
 }
-withLongitude s latitude blanks north lon.Refused = refusedPosition (longitudeNumber lon.Refused)
-withLongitude s latitude blanks north lon.OutOfRange = refusedPosition (longitudeNumber lon.OutOfRange)
+
+-- the place, with the symbol's bytes at their places
+unfoldable pub withLongitude : List ℕ → Latitude → ℕ → Bool → Bool → LongitudeRead → PositionRead
+withLongitude s latitude blanks south latitudeSixty (lon.Read longitude west longitudeSixty) =
+    acceptedPosition (record { latitude = latitude; longitude = longitude; blanks = blanks; table = getD s 8 0; code = getD s 18 0 })
+    south
+    west
+    latitudeSixty
+    longitudeSixty
+withLongitude s latitude blanks south latitudeSixty lon.Refused = refusedPosition (longitudeNumber lon.Refused)
+withLongitude s latitude blanks south latitudeSixty lon.OutOfRange = refusedPosition (longitudeNumber lon.OutOfRange)
 
 -- the latitude's blanks rule the longitude too
 unfoldable pub withLatitude : List ℕ → LatitudeRead → PositionRead
-withLatitude s (lat.Read latitude blanks north) = withLongitude s latitude blanks north (readLongitude (take 9 (drop 9 s)) blanks)
+withLatitude s (lat.Read latitude blanks south sixty) = withLongitude s latitude blanks south sixty (readLongitude (take 9 (drop 9 s)) blanks)
 withLatitude s lat.Refused = refusedPosition (latitudeNumber lat.Refused)
 
 -- 7, 10, 8, 9

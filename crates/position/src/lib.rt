@@ -28,15 +28,18 @@ pub struct Place {
     pub code: u8,
 }
 
-// What a position reads as: the refusal's number or 0, the place, and the letters of its angles as they stood.
+// What a position reads as: the refusal's number or 0, the place, whether its letters are S and W, also at 0, and which of its
+// angles has minutes of 60 or more.
 pub struct PositionRead {
     pub place: Place,
-    pub north: u8,
-    pub east: u8,
+    pub south: bool,
+    pub west: bool,
+    pub latitude_sixty: bool,
+    pub longitude_sixty: bool,
     pub refusal: u8,
 }
 
-// A refusal: no place and no letters.
+// A refusal, and nothing else.
 fn refused_position(n: u8) -> PositionRead
     ensures { λ r. ⌜ r ≡ refusedPosition n ⌝ }
 {
@@ -49,8 +52,10 @@ fn refused_position(n: u8) -> PositionRead
             table: 0,
             code: 0,
         },
-        north: 0,
-        east: 0,
+        south: false,
+        west: false,
+        latitude_sixty: false,
+        longitude_sixty: false,
     }
 }
 
@@ -99,13 +104,23 @@ fn uncompressed(s: &[u8]) -> bool
     numeric(s[0])
 }
 
-// Goes on with the longitude.
-fn with_longitude(s: &[u8], latitude: Latitude, blanks: u8, north: u8) -> PositionRead
+// Goes on with the longitude, behind a latitude with its blanks, its side, and whether its minutes are 60 or more.
+fn with_longitude(
+    s: &[u8],
+    latitude: Latitude,
+    blanks: u8,
+    south: bool,
+    sixty: bool,
+) -> PositionRead
     requires { ⌜ fixedBytes ≤ length (now s) ⌝ }
-    ensures { λ r. ⌜ r ≡ withLongitude (now (s .entry)) latitude blanks north (readLongitude (take 9 (drop 9 (now (s .entry)))) blanks) ⌝ }
+    ensures { λ r. ⌜ r ≡ withLongitude (now (s .entry)) latitude blanks south sixty (readLongitude (take 9 (drop 9 (now (s .entry)))) blanks) ⌝ }
 {
     match lonlat::read_longitude(&s[9..18], blanks) {
-        LongitudeRead::Read { longitude, letter } => PositionRead {
+        LongitudeRead::Read {
+            longitude,
+            west,
+            sixty: longitude_sixty,
+        } => PositionRead {
             refusal: 0,
             place: Place {
                 latitude,
@@ -114,8 +129,10 @@ fn with_longitude(s: &[u8], latitude: Latitude, blanks: u8, north: u8) -> Positi
                 table: s[8],
                 code: s[18],
             },
-            north,
-            east: letter,
+            south,
+            west,
+            latitude_sixty: sixty,
+            longitude_sixty,
         },
         LongitudeRead::Refused => refused_position(9),
         LongitudeRead::OutOfRange => refused_position(15),
@@ -137,8 +154,9 @@ pub fn read_position(s: &[u8]) -> PositionRead
         LatitudeRead::Read {
             latitude,
             blanks,
-            letter,
-        } => with_longitude(s, latitude, blanks, letter),
+            south,
+            sixty,
+        } => with_longitude(s, latitude, blanks, south, sixty),
         LatitudeRead::Refused => refused_position(8),
     }
 }

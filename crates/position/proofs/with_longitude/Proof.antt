@@ -19,11 +19,11 @@ read-longitude-requires c κs = search needs
 enum-known-longitude : tie.Need-enum-known-longitude
 enum-known-longitude c = search needs
 
-shared-slice-read-t14 : tie.Need-shared-slice-read-t14
-shared-slice-read-t14 c = search needs
-
 shared-slice-read-t16 : tie.Need-shared-slice-read-t16
 shared-slice-read-t16 c = search needs
+
+shared-slice-read-t18 : tie.Need-shared-slice-read-t18
+shared-slice-read-t18 c = search needs
 
 enum-told : tie.Need-enum-told
 enum-told c = search needs
@@ -55,8 +55,8 @@ with-longitude-spec =
     part-read-longitude-end
     read-longitude-requires
     enum-known-longitude
-    shared-slice-read-t14
     shared-slice-read-t16
+    shared-slice-read-t18
     enum-told
     refused-position-requires
     enum-told-2
