@@ -102,13 +102,29 @@ module _ (latitude : Latitude) (blanks : ℕ) (south sixty : Bool) where
   unfolding readLatitude
   read-latitude-found s e = latitude-found (latitudePlaces s) (getD s 7 0) (passed (eqb (length s) 8 && eqb (getD s 4 0) point) _ lat.Refused _ no-latitude e .1)
 
-  -- the side that was read is the latitude's own, where it is not 0
+  latitude-side : (n : ℕ) (x : Bool) (a : AngleRead) → latitudeWith n x a ≡ lat.Read latitude blanks south sixty → south ≡ x
+  unfolding latitudeWith
+  latitude-side n x (Of z y) q = cc
+  latitude-side n x Bad q = absurd (no-latitude q)
+
+  -- the side that was read is the letter's
+  pub latitude-side-is-the-letter's : (s : List ℕ) → readLatitude s ≡ lat.Read latitude blanks south sixty → south ≡ eqb (getD s 7 0) capitalS
+  unfolding readLatitude latitudeIn
+  latitude-side-is-the-letter's s e =
+      let g = passed (eqb (length s) 8 && eqb (getD s 4 0) point) _ lat.Refused _ no-latitude e in
+      let k = passed (isNorthOrSouth (getD s 7 0) && restBlank (latitudePlaces s) && leb (blanksIn (latitudePlaces s)) 5) _ lat.Refused _ no-latitude (g .1) in
+      latitude-side (blanksIn (latitudePlaces s)) (eqb (getD s 7 0) capitalS) _ (k .1)
+
+  -- and it is the latitude's own, where that is not 0
   pub latitude-side-is-the-angle's : (s : List ℕ) → readLatitude s ≡ lat.Read latitude blanks south sixty → (latitude .0 ≡ pos 0 → ⊥) → south ≡ isMinus (latitude .0)
   latitude-side-is-the-angle's s e = read-latitude-found s e .angle .side
 
 module _ (longitude : Longitude) (west sixty : Bool) where
   no-longitude : lon.Refused ≡ lon.Read longitude west sixty → ⊥
   no-longitude q = let k : _≡_ {A = ℕ} 0 1 = cc in omega arith
+
+  past-five : lon.OutOfRange ≡ lon.Read longitude west sixty → ⊥
+  past-five q = let k : _≡_ {A = ℕ} 0 1 = cc in omega arith
 
   longitude-with : (x : Bool) (a : AngleRead) → ((z : ℤ) (y : Bool) → a ≡ Of z y → AngleFound mostLongitude x z)
       → longitudeWith x a ≡ lon.Read longitude west sixty → AngleFound mostLongitude west (longitude .0)
@@ -127,11 +143,20 @@ module _ (longitude : Longitude) (west sixty : Bool) where
   pub read-longitude-found : (s : List ℕ) (blanks : ℕ) → readLongitude s blanks ≡ lon.Read longitude west sixty → AngleFound mostLongitude west (longitude .0)
   unfolding readLongitude
   read-longitude-found s blanks e =
-      let g = guard (ltb 5 blanks) lon.OutOfRange _ _ out e in
+      let g = guard (ltb 5 blanks) lon.OutOfRange _ _ past-five e in
       longitude-found (lastAs digit0 blanks (longitudePlaces s)) (getD s 8 0) (passed (eqb (length s) 9 && eqb (getD s 5 0) point) _ lon.Refused _ no-longitude (g .1) .1)
-    where
-      out : lon.OutOfRange ≡ lon.Read longitude west sixty → ⊥
-      out q = let k : _≡_ {A = ℕ} 0 1 = cc in omega arith
+
+  longitude-side : (x : Bool) (a : AngleRead) → longitudeWith x a ≡ lon.Read longitude west sixty → west ≡ x
+  unfolding longitudeWith
+  longitude-side x (Of z y) q = cc
+  longitude-side x Bad q = absurd (no-longitude q)
+
+  pub longitude-side-is-the-letter's : (s : List ℕ) (blanks : ℕ) → readLongitude s blanks ≡ lon.Read longitude west sixty → west ≡ eqb (getD s 8 0) capitalW
+  unfolding readLongitude longitudeIn
+  longitude-side-is-the-letter's s blanks e =
+      let g = guard (ltb 5 blanks) lon.OutOfRange _ _ past-five e in
+      let k = passed (eqb (length s) 9 && eqb (getD s 5 0) point) _ lon.Refused _ no-longitude (g .1) in
+      longitude-side (eqb (getD s 8 0) capitalW) _ (passed (isEastOrWest (getD s 8 0)) _ lon.Refused _ no-longitude (k .1) .1)
 
   pub longitude-side-is-the-angle's : (s : List ℕ) (blanks : ℕ) → readLongitude s blanks ≡ lon.Read longitude west sixty → (longitude .0 ≡ pos 0 → ⊥) → west ≡ isMinus (longitude .0)
   longitude-side-is-the-angle's s blanks e = read-longitude-found s blanks e .side
@@ -180,7 +205,7 @@ module _ (angle : ℤ) where
   unfolding northOrSouth
   north-or-south = picked (λ letter b. isNorthOrSouth letter ≡ true) capitalS capitalN refl refl (isMinus angle)
 
-  pub south-minus : eqb (northOrSouth angle) capitalS ≡ isMinus angle
+  south-minus : eqb (northOrSouth angle) capitalS ≡ isMinus angle
   unfolding northOrSouth
   south-minus = picked (λ letter b. eqb letter capitalS ≡ b) capitalS capitalN refl refl (isMinus angle)
 

@@ -8,7 +8,7 @@ use lib.IntN.{pos, negsuc}
 use Rattle.laws.specs.Bytes.{capitalL, capitalS, capitalT, capitalU, within}
 use Rattle.laws.specs.Lists.{indexOf, every}
 use Rattle.numbers.specs.Sign.{signedOf}
-use Rattle.lonlat.specs.Digits.{lastAs, degreesOf, minutesOf, hundredthsOf, valueOf, fits, angleIn}
+use Rattle.lonlat.specs.Digits.{lastAs, degreesOf, minutesOf, hundredthsOf, valueOf, isSixty, fits, angleIn}
 use Rattle.numbers.specs.Numbers.{numberAfter, numberOf}
 use Rattle.lonlat.specs.Latitude.{blanksIn, restBlank, countedDigits, latitudeWith, latitudeIn, readLatitude}
 use Rattle.mic_e.specs.Turn.{lessIf}
@@ -43,13 +43,13 @@ pub record Cases : Type 0 where
   pub p7-field : longitudeField 630000 ≡ field 113 88 28
   pub p7-offset : hundredOf (pos 630000) ≡ true
   pub p8 : readDestination S32U6T
-      ≡ Read (record { latitude = record { 0 = pos 200564 }; blanks = 0; north = true; message = M3; hundred = false; west = true })
+      ≡ Read (record { latitude = record { 0 = pos 200564 }; message = M3; blanks = 0; south = false; hundred = false; west = true; sixty = false })
   pub p9-all-blank : readDestination (capitalL ∷ LLLLL) ≡ Refused
   pub p9-five-blank : readDestination (0x34 ∷ LLLLL)
-      ≡ Read (record { latitude = record { 0 = negsuc 239999 }; blanks = 5; north = false; message = Emergency; hundred = false; west = false })
+      ≡ Read (record { latitude = record { 0 = negsuc 239999 }; message = Emergency; blanks = 5; south = true; hundred = false; west = false; sixty = false })
 
 pub cases : Cases
-unfolding lessIf readMotion knots degrees motionField tensOf readLongitude sizeOf wrapped offsetOf longitudeField degreesByte minutesByte hundredFor hundredOf signedOf readDestination areCharacters isCharacter isLast within textIn digitOf bitOf destinationWith messageOf messageBy isOne isCustom isStandard readLatitude latitudeIn latitudeWith countedDigits restBlank blanksIn angleIn fits valueOf degreesOf minutesOf hundredthsOf numberOf numberAfter lastAs every indexOf
+unfolding lessIf readMotion knots degrees motionField tensOf readLongitude sizeOf wrapped offsetOf longitudeField degreesByte minutesByte hundredFor hundredOf signedOf readDestination areCharacters isCharacter isLast within textIn digitOf bitOf destinationWith messageOf messageBy isOne isCustom isStandard readLatitude latitudeIn latitudeWith countedDigits restBlank blanksIn angleIn fits valueOf isSixty degreesOf minutesOf hundredthsOf numberOf numberAfter lastAs every indexOf
 cases =
     record {
       p1 = refl;

@@ -1,7 +1,7 @@
 -- The destination as written reads as what it was written for.
 -- Assumes nothing.
 use mathlib.Core.Path.{_≡_, refl, ap, _∙_}
-use mathlib.Core.Bool.{Bool, true, not, cond}
+use mathlib.Core.Bool.{Bool, true, false, cond}
 use mathlib.Core.List.{List}
 use Prim.Native.Nat.{ℕ, _%_, _<_, _≤_}
 use native.Mathlib.Omega.{arith}
@@ -45,11 +45,7 @@ message-reads-back C6 = refl
 message-reads-back Emergency = refl
 message-reads-back Unknown = refl
 
--- the letter's flag
-is-north : (angle : ℤ) → eqb (northOrSouth angle) capitalN ≡ not (isMinus angle)
-unfolding northOrSouth
-is-north angle = picked (λ letter b. eqb letter capitalN ≡ not b) capitalS capitalN refl refl (isMinus angle)
-
+-- the letter again, of its flag
 letter-back : (angle : ℤ) → cond (eqb (northOrSouth angle) capitalN) capitalN capitalS ≡ northOrSouth angle
 unfolding northOrSouth
 letter-back angle = picked (λ letter b. cond (eqb letter capitalN) capitalN capitalS ≡ letter) capitalS capitalN refl refl (isMinus angle)
@@ -103,17 +99,17 @@ module _ (angle : ℤ) (blanks : ℕ) (few : blanks ≤ 5) (bits : Bits) (hundre
 
   reads : natAbs angle ≤ mostLatitude → natAbs angle % widthOf blanks ≡ 0
       → readDestination call
-      ≡ Read (record { latitude = record { 0 = angle }; blanks = blanks; north = not (isMinus angle); message = messageOf (bits .first) (bits .second) (bits .third); hundred = hundred; west = west })
+      ≡ Read (record { latitude = record { 0 = angle }; message = messageOf (bits .first) (bits .second) (bits .third); blanks = blanks; south = isMinus angle; hundred = hundred; west = west; sixty = false })
   unfolding readDestination destinationWith call charactersOf latitudeText
   reads near width =
       let e = latitude-of-text (blankedPlaces blanks (natAbs angle)) (northOrSouth angle) (blanked-six blanks (natAbs angle) (omega arith)) in
-      rw (all-stand, text-back, ← e, latitude-reads-back angle blanks few near width, bit-back _ _ c0, bit-back _ _ c1, bit-back _ _ c2, flag-back _ _ c3, flag-back _ _ c4, flag-back _ _ c5, letter, is-north angle)
+      rw (all-stand, text-back, ← e, latitude-reads-back angle blanks few near width, bit-back _ _ c0, bit-back _ _ c1, bit-back _ _ c2, flag-back _ _ c4, flag-back _ _ c5)
 
 -- the destination as written, of a latitude that is a multiple of the width that its blanks leave, reads as the same
 pub destination-reads-back : (latitude : ℤ) (blanks : ℕ) (m : Message) (longitude : ℤ)
     → natAbs latitude ≤ mostLatitude → blanks ≤ 5 → natAbs latitude % widthOf blanks ≡ 0
     → readDestination (destinationBytes latitude blanks m longitude)
-    ≡ Read (record { latitude = record { 0 = latitude }; blanks = blanks; north = not (isMinus latitude); message = m; hundred = hundredOf longitude; west = isMinus longitude })
+    ≡ Read (record { latitude = record { 0 = latitude }; message = m; blanks = blanks; south = isMinus latitude; hundred = hundredOf longitude; west = isMinus longitude; sixty = false })
 unfolding destinationBytes call t
 destination-reads-back latitude blanks m longitude near few width =
     reads latitude blanks few (bitsOf m) (hundredOf longitude) (isMinus longitude) near width

@@ -1,16 +1,17 @@
 -- What is written reads back: speed and course, longitude under the writer's offset and side, the information, and the
--- whole Mic-E part of a record. And what is read is in range.
+-- whole Mic-E part of a record. And what is read is in range, and on the side that was read.
 -- Assumes nothing.
-use mathlib.Core.Path.{_≡_, refl, ap, _∙_}
+use mathlib.Core.Path.{_≡_, refl, sym, ap, _∙_}
 use mathlib.Core.Bool.{Bool, false, not}
 use mathlib.Core.List.{List, _++_}
 use Prim.Native.Nat.{ℕ, _/_, _%_, _≤_, _<_}
 use native.Mathlib.Omega.{arith}
 use borrow.Author.Tests.{le-ltb, lt-leb}
-use lib.IntN.{ℤ, natAbs}
+use lib.IntN.{ℤ, pos, natAbs}
 use lib.Dec.{eqb, ltb}
 use lib.ListN.{length, getD, drop}
-use Rattle.laws.proofs.Tests.{guard, passed}
+use Rattle.laws.specs.Bytes.{capitalN, capitalS}
+use Rattle.laws.proofs.Tests.{guard, passed, picked}
 use Rattle.lonlat.specs.Angle.{mostLatitude, mostLongitude, widthOf}
 use Rattle.numbers.specs.Sign.{isMinus}
 use Rattle.lonlat.specs.Latitude.{latitudeRefusal, readLatitude}
@@ -18,8 +19,9 @@ use Rattle.lonlat.specs.declared.LatitudeRead.{LatitudeRead}
 use Rattle.lonlat.specs.declared.LatitudeRead.the-variants.{Read as Latitude-read, Refused as Latitude-refused}
 use Rattle.lonlat.specs.declared.Latitude.{Latitude}
 use Rattle.lonlat.specs.declared.Longitude.{Longitude}
-use Rattle.numbers.proofs.Sign.{rejoined, size-signed}
-use Rattle.lonlat.proofs.Theorems.{read-latitude-found}
+use Rattle.numbers.proofs.Sign.{rejoined, size-signed, side-signed}
+use Rattle.lonlat.proofs.Theorems.{AngleFound, LatitudeFound, read-latitude-found, latitude-side-is-the-letter's}
+use Rattle.mic_e.specs.Character.{isFlagged}
 use Rattle.mic_e.specs.Motion.{mostSpeed, mostCourse, readMotion, motionField}
 use Rattle.mic_e.specs.Longitude.{readLongitude, longitudeOut, hundredOf, hundredFor, longitudeField}
 use Rattle.mic_e.specs.Destination.{readDestination, areCharacters, textIn, destinationWith, destinationBytes, destinationRefusal, writeDestination}
@@ -76,17 +78,18 @@ unfoldable pub destinationFor : ℤ → ℕ → Message → ℤ → Destination
 destinationFor latitude blanks message longitude =
     record {
       latitude = record { 0 = latitude };
-      blanks = blanks;
-      north = not (isMinus latitude);
       message = message;
+      blanks = blanks;
+      south = isMinus latitude;
       hundred = hundredOf longitude;
       west = isMinus longitude;
+      sixty = false;
     }
 
 -- what is in range is written
 pub destination-written : (latitude : ℤ) (blanks : ℕ) (message : Message) (longitude : ℤ)
     → natAbs latitude ≤ mostLatitude → blanks ≤ 5 → natAbs longitude < mostLongitude
-    → writeDestination latitude blanks message longitude ≡ record { refusal = 0; bytes = destinationBytes latitude blanks message longitude }
+    → writeDestination latitude blanks message longitude ≡ record { bytes = destinationBytes latitude blanks message longitude; refusal = 0 }
 unfolding writeDestination destinationRefusal longitudeOut latitudeRefusal
 destination-written latitude blanks message longitude near few short =
     rw (lt-leb mostLongitude (natAbs longitude) short, le-ltb mostLatitude (natAbs latitude) near, le-ltb 5 blanks few)
@@ -116,7 +119,7 @@ module _ (latitude : ℤ) (blanks : ℕ) (message : Message) (i : Information) (
         rest = comment-comes-back i comment;
       }
 
--- ---- what is read is in range
+-- ---- what is read is in range, and on the side that was read
 
 pub record InformationFound (i : Information) : Type 0 where
   pub near : natAbs (i .longitude .0) ≤ mostLongitude
@@ -126,43 +129,50 @@ pub record InformationFound (i : Information) : Type 0 where
 no-information : (i : Information) → Information-refused ≡ Information-read i → ⊥
 no-information i e = let z : _≡_ {A = ℕ} 0 1 = cc in omega arith
 
-informed : (i : Information) (code table : ℕ) (l : LongitudeField) (m : Motion)
-    → ((x : Longitude) → l ≡ Longitude-read x → natAbs (x .0) ≤ mostLongitude)
+informed : (west : Bool) (i : Information) (code table : ℕ) (l : LongitudeField) (m : Motion)
+    → ((x : Longitude) → l ≡ Longitude-read x → AngleFound mostLongitude west (x .0))
     → ((v : Speed) (d : Course) → m ≡ Motion-read v d → (v .0 ≤ mostSpeed) × (d .0 ≤ mostCourse))
-    → informationOf code table l m ≡ Information-read i → InformationFound i
+    → informationOf code table l m ≡ Information-read i → InformationFound i × ((i .longitude .0 ≡ pos 0 → ⊥) → west ≡ isMinus (i .longitude .0))
 unfolding informationOf
-informed i code table (Longitude-read x) (Motion-read v d) near range e =
+informed west i code table (Longitude-read x) (Motion-read v d) found range e =
     let r : record { longitude = x; speed = v; course = d; code = code; table = table } ≡ i = cc in
-    rw (← r) (record { near = near x refl; slow = range v d refl .0; turned = range v d refl .1 })
-informed i code table (Longitude-read x) Motion-refused near range e = absurd (no-information i e)
-informed i code table Longitude-refused m near range e = absurd (no-information i e)
+    rw (← r) (record { near = found x refl .near; slow = range v d refl .0; turned = range v d refl .1 }, found x refl .side)
+informed west i code table (Longitude-read x) Motion-refused found range e = absurd (no-information i e)
+informed west i code table Longitude-refused m found range e = absurd (no-information i e)
 
 module _ (s : List ℕ) (hundred west : Bool) (i : Information) where
-  near-read : (x : Longitude) → readLongitude hundred west (getD s 0 0) (getD s 1 0) (getD s 2 0) ≡ Longitude-read x → natAbs (x .0) ≤ mostLongitude
-  near-read x e =
+  longitude-read : (x : Longitude) → readLongitude hundred west (getD s 0 0) (getD s 1 0) (getD s 2 0) ≡ Longitude-read x → AngleFound mostLongitude west (x .0)
+  longitude-read x e =
       let h = reads-lies hundred west _ _ _ x e in
-      rw (h .1, size-signed) (h .0 .size-to)
+      rw (h .1) (record { near = rw size-signed (h .0 .size-to); side = λ n. sym (side-signed west _ n) })
 
   range-read : (v : Speed) (d : Course) → readMotion (getD s 3 0) (getD s 4 0) (getD s 5 0) ≡ Motion-read v d → (v .0 ≤ mostSpeed) × (d .0 ≤ mostCourse)
   range-read v d e = let h = reads-moves _ _ _ v d e in (h .speed-to, h .course-to)
 
-  pub read-information-found : readInformation s hundred west ≡ Information-read i → InformationFound i
+  told : readInformation s hundred west ≡ Information-read i → InformationFound i × ((i .longitude .0 ≡ pos 0 → ⊥) → west ≡ isMinus (i .longitude .0))
   unfolding readInformation
-  read-information-found e =
-      informed i (getD s 6 0) (getD s 7 0) _ _ near-read range-read (guard (ltb (length s) 8) Information-refused _ _ (no-information i) e .1)
+  told e = informed west i (getD s 6 0) (getD s 7 0) _ _ longitude-read range-read (guard (ltb (length s) 8) Information-refused _ _ (no-information i) e .1)
+
+  pub read-information-found : readInformation s hundred west ≡ Information-read i → InformationFound i
+  read-information-found e = told e .0
+
+  -- the side that the destination gave is the longitude's own, where it is not 0
+  pub information-side-is-the-angle's : readInformation s hundred west ≡ Information-read i → (i .longitude .0 ≡ pos 0 → ⊥) → west ≡ isMinus (i .longitude .0)
+  information-side-is-the-angle's e = told e .1
 
 no-destination : (d : Destination) → Destination-refused ≡ Destination-read d → ⊥
 no-destination d e = let z : _≡_ {A = ℕ} 0 1 = cc in omega arith
 
--- the latitude and blanks of a destination that was read, as lonlat has them
-sited : (call : List ℕ) (d : Destination) (r : LatitudeRead)
-    → ((l : Latitude) (b k : ℕ) → r ≡ Latitude-read l b k → (natAbs (l .0) ≤ mostLatitude) × (b ≤ 5))
-    → destinationWith call r ≡ Destination-read d → (natAbs (d .latitude .0) ≤ mostLatitude) × (d .blanks ≤ 5)
+-- what holds of whatever lonlat read in the text holds of the destination's own
+sited : (P : Latitude → ℕ → Bool → Type 0) (call : List ℕ) (d : Destination) (r : LatitudeRead)
+    → ((l : Latitude) (b : ℕ) (south sixty : Bool) → r ≡ Latitude-read l b south sixty → P l b south)
+    → destinationWith call r ≡ Destination-read d → P (d .latitude) (d .blanks) (d .south)
 unfolding destinationWith
-sited call d (Latitude-read l b k) h e =
+sited P call d (Latitude-read l b south sixty) h e =
     let p : l ≡ d .latitude = ap latitude-in e in
     let q : b ≡ d .blanks = ap blanks-in e in
-    rw (← p, ← q) (h l b k refl)
+    let s : south ≡ d .south = ap south-in e in
+    rw (← p, ← q, ← s) (h l b south sixty refl)
   where
     latitude-in : DestinationRead → Latitude
     latitude-in (Destination-read x) = x .latitude
@@ -171,11 +181,35 @@ sited call d (Latitude-read l b k) h e =
     blanks-in : DestinationRead → ℕ
     blanks-in (Destination-read x) = x .blanks
     blanks-in Destination-refused = b
-sited call d Latitude-refused h e = absurd (no-destination d e)
 
-pub read-destination-found : (call : List ℕ) (d : Destination) → readDestination call ≡ Destination-read d → (natAbs (d .latitude .0) ≤ mostLatitude) × (d .blanks ≤ 5)
-unfolding readDestination
-read-destination-found call d e =
-    let g = passed (eqb (length call) 6) _ Destination-refused _ (no-destination d) e in
-    let k = passed (areCharacters call) _ Destination-refused _ (no-destination d) (g .1) in
-    sited call d (readLatitude (textIn call)) (λ l b n q. let h = read-latitude-found l b n (textIn call) q in (h .near, h .few)) (k .1)
+    south-in : DestinationRead → Bool
+    south-in (Destination-read x) = x .south
+    south-in Destination-refused = south
+sited P call d Latitude-refused h e = absurd (no-destination d e)
+
+module _ (call : List ℕ) (d : Destination) (read : readDestination call ≡ Destination-read d) where
+  carried : destinationWith call (readLatitude (textIn call)) ≡ Destination-read d
+  unfolding readDestination
+  carried =
+      let g = passed (eqb (length call) 6) _ Destination-refused _ (no-destination d) read in
+      passed (areCharacters call) _ Destination-refused _ (no-destination d) (g .1) .1
+
+  found : LatitudeFound (d .latitude) (d .blanks) (d .south)
+  found = sited LatitudeFound call d (readLatitude (textIn call)) (λ l b south sixty. read-latitude-found l b south sixty (textIn call)) carried
+
+  pub read-destination-found : (natAbs (d .latitude .0) ≤ mostLatitude) × (d .blanks ≤ 5)
+  read-destination-found = (found .angle .near, found .few)
+
+  -- the side that was read is the latitude's own, where it is not 0
+  pub destination-side-is-the-angle's : (d .latitude .0 ≡ pos 0 → ⊥) → d .south ≡ isMinus (d .latitude .0)
+  destination-side-is-the-angle's = found .angle .side
+
+  -- and it is south exactly where the fourth character is none of P to Z
+  pub destination-side-is-the-fourth's : d .south ≡ not (isFlagged (getD call 3 0))
+  unfolding textIn
+  destination-side-is-the-fourth's =
+      sited (λ l b south. south ≡ not (isFlagged (getD call 3 0))) call d (readLatitude (textIn call))
+      (λ l b south sixty e.
+      latitude-side-is-the-letter's l b south sixty (textIn call) e
+      ∙ picked (λ letter flag. eqb letter capitalS ≡ not flag) capitalN capitalS refl refl (isFlagged (getD call 3 0)))
+      carried

@@ -36,16 +36,17 @@ textIn call =
     ∷ point ∷ digitOf (getD call 4 0) ∷ digitOf (getD call 5 0)
     ∷ cond (isFlagged (getD call 3 0)) capitalN capitalS ∷ []
 
--- "The first three give the message"; the last three "mean north, offset 100, west"
+-- "The first three give the message"; the last three "mean north, offset 100, west", the first of them by the text's letter
 unfoldable pub destinationWith : List ℕ → LatitudeRead → DestinationRead
-destinationWith call (Latitude-read latitude blanks letter) =
+destinationWith call (Latitude-read latitude blanks south sixty) =
     Read (record {
       latitude = latitude;
-      blanks = blanks;
-      north = isFlagged (getD call 3 0);
       message = messageOf (bitOf (getD call 0 0)) (bitOf (getD call 1 0)) (bitOf (getD call 2 0));
+      blanks = blanks;
+      south = south;
       hundred = isFlagged (getD call 4 0);
       west = isFlagged (getD call 5 0);
+      sixty = sixty;
     })
 destinationWith call Latitude-refused = Refused
 
@@ -83,5 +84,5 @@ destinationRefusal latitude blanks longitude = cond (longitudeOut longitude) 15 
 unfoldable pub writeDestination : ℤ → ℕ → Message → ℤ → DestinationWritten
 writeDestination latitude blanks message longitude =
     cond (eqb (destinationRefusal latitude blanks longitude) 0)
-    (record { refusal = 0; bytes = destinationBytes latitude blanks message longitude })
-    (record { refusal = destinationRefusal latitude blanks longitude; bytes = replicate 6 0 })
+    (record { bytes = destinationBytes latitude blanks message longitude; refusal = 0 })
+    (record { bytes = replicate 6 0; refusal = destinationRefusal latitude blanks longitude })

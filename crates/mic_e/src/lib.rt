@@ -83,14 +83,16 @@ pub enum Message {
     Unknown,
 }
 
-// What a destination says. `north` is the side as it was read, also of a latitude of 0.
+// What a destination says. `south` is the side as it was read, also of a latitude of 0; `sixty`, that the minutes are 60 or
+// more.
 pub struct Destination {
     pub latitude: Latitude,
-    pub blanks: u8,
-    pub north: bool,
     pub message: Message,
+    pub blanks: u8,
+    pub south: bool,
     pub hundred: bool,
     pub west: bool,
+    pub sixty: bool,
 }
 
 // What a destination reads as; a refusal is 11.
@@ -101,8 +103,8 @@ pub enum DestinationRead {
 
 // The six characters, or zeros with the refusal 15.
 pub struct DestinationWritten {
-    pub refusal: u8,
     pub bytes: [u8; 6],
+    pub refusal: u8,
 }
 
 // The bit of a destination's character: 0, a custom 1 or a standard 1.
@@ -539,14 +541,16 @@ fn destination_in(call: &[u8]) -> DestinationRead
         LatitudeRead::Read {
             latitude,
             blanks,
-            letter: _,
+            south,
+            sixty,
         } => DestinationRead::Read(Destination {
             latitude,
-            blanks,
-            north: is_flagged(call[3]),
             message: message_in(call),
+            blanks,
+            south,
             hundred: is_flagged(call[4]),
             west: is_flagged(call[5]),
+            sixty,
         }),
         LatitudeRead::Refused => DestinationRead::Refused,
     }
@@ -611,22 +615,22 @@ pub fn write_destination(
     let sides = sides_of(longitude);
     if 1080000 <= sides.size {
         return DestinationWritten {
-            refusal: 15,
             bytes: [0; 6],
+            refusal: 15,
         };
     }
     let mut text = [0u8; 8];
     let answer = lonlat::write_latitude(latitude, blanks, &mut text);
     if answer.refusal != 0 {
         return DestinationWritten {
-            refusal: answer.refusal,
             bytes: [0; 6],
+            refusal: answer.refusal,
         };
     }
     let bits = bits_of(message);
     let hundred = takes_hundred(sides.size / 6000);
     let bytes = characters(text, bits, hundred, sides.minus);
-    DestinationWritten { refusal: 0, bytes }
+    DestinationWritten { bytes, refusal: 0 }
 }
 
 // The information of what follows the type byte, under the offset and the side that the destination gave; its comment is

@@ -22,11 +22,11 @@ module _ (call text : List ℕ) (r : LatitudeRead) (t : text ≡ textIn call) (e
   unfolding destinationWith
   refused p = rw (← t, ← e, p)
 
-  read : (l : Latitude) (b k : ℕ) (n h w : Bool) (m : Message) → r ≡ Latitude-read l b k → n ≡ isFlagged (getD call 3 0)
+  read : (l : Latitude) (b : ℕ) (s x h w : Bool) (m : Message) → r ≡ Latitude-read l b s x
       → m ≡ messageOf (bitOf (getD call 0 0)) (bitOf (getD call 1 0)) (bitOf (getD call 2 0)) → h ≡ isFlagged (getD call 4 0) → w ≡ isFlagged (getD call 5 0)
-      → Read (record { latitude = l; blanks = b; north = n; message = m; hundred = h; west = w }) ≡ destinationWith call (readLatitude (textIn call))
+      → Read (record { latitude = l; message = m; blanks = b; south = s; hundred = h; west = w; sixty = x }) ≡ destinationWith call (readLatitude (textIn call))
   unfolding destinationWith
-  read l b k n h w m p q s u v = rw (← t, ← e, p, q, s, u, v)
+  read l b s x h w m p q u v = rw (← t, ← e, p, q, u, v)
 
 text-in-requires : tie.Need-text-in-requires
 text-in-requires c κs = search needs
@@ -40,14 +40,14 @@ read-latitude-requires c κs = search needs
 enum-known-read : tie.Need-enum-known-read
 enum-known-read c = search needs
 
+message-in-requires : tie.Need-message-in-requires
+message-in-requires c κs = search needs
+
 shared-slice-read-is-flagged : tie.Need-shared-slice-read-is-flagged
 shared-slice-read-is-flagged c = search needs
 
 is-flagged-requires : tie.Need-is-flagged-requires
 is-flagged-requires c κs = search needs
-
-message-in-requires : tie.Need-message-in-requires
-message-in-requires c κs = search needs
 
 shared-slice-read-is-flagged-2 : tie.Need-shared-slice-read-is-flagged-2
 shared-slice-read-is-flagged-2 c = search needs
@@ -55,21 +55,11 @@ shared-slice-read-is-flagged-2 c = search needs
 is-flagged-requires-2 : tie.Need-is-flagged-requires-2
 is-flagged-requires-2 c κs = search needs
 
-shared-slice-read-is-flagged-3 : tie.Need-shared-slice-read-is-flagged-3
-shared-slice-read-is-flagged-3 c = search needs
-
-is-flagged-requires-3 : tie.Need-is-flagged-requires-3
-is-flagged-requires-3 c κs = search needs
-
 enum-told : tie.Need-enum-told
 enum-told c = search needs
 
 returns : tie.Need-returns
-returns c =
-    let m = c .before .before .before .before in
-    let f = m .before .before .before .before in
-    let r = f .before .before in
-    read _ _ _ (r .before .before .text-in .ensures) (r .read-latitude .ensures) _ _ _ _ _ _ _ (f .read .given .1) (m .before .is-flagged .ensures) (m .message-in .ensures) (c .before .before .is-flagged2 .ensures) (c .is-flagged3 .ensures)
+returns c = search read
 
 returns-2 : tie.Need-returns-2
 returns-2 c = search refused
@@ -82,13 +72,11 @@ destination-in-spec =
     slice-aggregate-read-latitude
     read-latitude-requires
     enum-known-read
+    message-in-requires
     shared-slice-read-is-flagged
     is-flagged-requires
-    message-in-requires
     shared-slice-read-is-flagged-2
     is-flagged-requires-2
-    shared-slice-read-is-flagged-3
-    is-flagged-requires-3
     enum-told
     returns
     returns-2)
