@@ -666,14 +666,14 @@ fn size_of(longitude: Longitude) -> u32
     sides.size
 }
 
-// Whether the information is out of the range that a writer takes.
-fn is_out(i: Information) -> bool
+// Whether the information, whose longitude has that size, is out of the range that a writer takes.
+fn is_out(size: u32, i: Information) -> bool
+    requires { ⌜ size ≡ natAbs (i .longitude .0) ⌝ }
     ensures { λ r. ⌜ r ≡ informationOut i ⌝ }
 {
-    let longitude = i.longitude;
     let speed = i.speed.0;
     let course = i.course.0;
-    if 1080000 <= size_of(longitude) {
+    if 1080000 <= size {
         return true;
     }
     if 799 < speed {
@@ -682,15 +682,14 @@ fn is_out(i: Information) -> bool
     360 < course
 }
 
-// The eight bytes.
-fn information_bytes(i: Information) -> [u8; 8]
-    requires { ⌜ informationOut i ≡ false ⌝ }
+// The eight bytes of information whose longitude has that size.
+fn information_bytes(size: u32, i: Information) -> [u8; 8]
+    requires { ⌜ (size ≡ natAbs (i .longitude .0)) × (informationOut i ≡ false) ⌝ }
     ensures { λ r. ⌜ r ≡ informationBytes i ⌝ }
 {
-    let longitude = i.longitude;
     let speed = i.speed.0;
     let course = i.course.0;
-    let l = longitude_field(size_of(longitude));
+    let l = longitude_field(size);
     let m = motion_field(speed, course);
     [
         l.first,
@@ -708,9 +707,11 @@ fn information_bytes(i: Information) -> [u8; 8]
 pub fn write_information(i: Information, out: &mut [u8]) -> buffer::Answer
     ensures { λ r. ⌜ ends r (now (out .exit)) ≡ wrote (informationRefusal i) (informationBytes i) (now (out .entry)) ⌝ }
 {
-    if is_out(i) {
+    let longitude = i.longitude;
+    let size = size_of(longitude);
+    if is_out(size, i) {
         return buffer::refused(15);
     }
-    let bytes = information_bytes(i);
+    let bytes = information_bytes(size, i);
     buffer::write(&bytes, out)
 }

@@ -1,9 +1,9 @@
 -- What is in range: the tests, and what they tell.
 -- Assumes nothing.
 use mathlib.Core.Path.{_≡_}
-use mathlib.Core.Bool.{Bool, true, false, not}
+use mathlib.Core.Bool.{true, false}
 use Prim.Native.Nat.{ℕ, _<_, _≤_}
-use borrow.Author.Tests.{le-leb, lt-leb, lt-ltb, le-ltb, leb-true, not-true, not-false}
+use borrow.Author.Tests.{le-leb, lt-leb, lt-ltb, le-ltb, leb-true}
 use lib.Dec.{leb, ltb}
 use lib.IntN.{ℤ, natAbs}
 use Rattle.laws.proofs.Tests.{and-first, and-second}
@@ -34,16 +34,6 @@ module _ (most size blanks : ℕ) (e : inReach most size blanks ≡ true) where
   pub reach-few : blanks ≤ 5
   unfolding inReach
   reach-few = leb-true blanks 5 (and-second (leb size most) (leb blanks 5) e)
-
--- u is the test of the latitude, y and z the angles as the code has them
-module _ (p : Place) (u : Bool) (y : ℤ) (north : y ≡ p .latitude .0) (e : u ≡ inReach mostLatitude (natAbs y) (p .blanks)) where
-  pub place-far : not u ≡ true → false ≡ placeInRange p
-  unfolding placeInRange
-  place-far h = rw (← north, ← e, not-true u h)
-
-  pub place-near : not u ≡ false → (r : Bool) (z : ℤ) → z ≡ p .longitude .0 → r ≡ inReach mostLongitude (natAbs z) (p .blanks) → r ≡ placeInRange p
-  unfolding placeInRange
-  place-near h r z east f = rw (← north, ← e, not-false u h, ← east) f
 
 module _ (p : Place) (e : placeInRange p ≡ true) where
   pub latitude-near : inReach mostLatitude (natAbs (p .latitude .0)) (p .blanks) ≡ true

@@ -1,7 +1,6 @@
 -- What each public function promises fixes its result: two results that meet one promise are equal.
 -- Assumes nothing.
 use mathlib.Core.Path.{_≡_}
-use mathlib.Core.Bool.{Bool}
 use mathlib.Core.List.{List}
 use Prim.Native.Nat.{ℕ}
 use lib.IntN.{ℤ}
@@ -14,18 +13,12 @@ use Rattle.position.specs.declared.Place.{Place}
 use Rattle.position.specs.declared.PositionRead.{PositionRead}
 use Rattle.position.specs.declared.BoundsAnswer.{BoundsAnswer}
 use Rattle.position.specs.declared.PageBox.{PageBox}
-use Rattle.position.specs.Position.{readPosition, placeInRange, symbolsInRange, positionRefusal, positionText}
+use Rattle.position.specs.Position.{readPosition, positionRefusal, positionText}
 use Rattle.position.specs.Bounds.{boundsOf}
 use Rattle.position.specs.Page.{boxOf}
 
 pub unique-read-position : (s : List ℕ) (r r′ : PositionRead) → r ≡ readPosition s → r′ ≡ readPosition s → r ≡ r′
 unique-read-position s r r′ = one-value r r′ (readPosition s)
-
-pub unique-in-range : (p : Place) (r r′ : Bool) → r ≡ placeInRange p → r′ ≡ placeInRange p → r ≡ r′
-unique-in-range p r r′ = one-value r r′ (placeInRange p)
-
-pub unique-symbols-in-range : (p : Place) (r r′ : Bool) → r ≡ symbolsInRange p → r′ ≡ symbolsInRange p → r ≡ r′
-unique-symbols-in-range p r r′ = one-value r r′ (symbolsInRange p)
 
 pub unique-write-position : (p : Place) (r r′ : Answer) (o o′ out : List ℕ)
     → ends r o ≡ wrote (positionRefusal p) (positionText p) out → ends r′ o′ ≡ wrote (positionRefusal p) (positionText p) out → (r ≡ r′) × (o ≡ o′)

@@ -8,10 +8,9 @@ ghost use lib.ListN.{length, take, drop};
 ghost use Rattle.laws.specs.Bytes.{isDigit};
 ghost use Rattle.buffer.specs.Wrote.{ends, wrote};
 ghost use Rattle.lonlat.specs.Angle.{mostLatitude, mostLongitude, widthOf};
-ghost use Rattle.lonlat.specs.Latitude.{latitudeText};
-ghost use Rattle.lonlat.specs.Longitude.{readLongitude, longitudeText};
+ghost use Rattle.lonlat.specs.Longitude.{readLongitude};
 ghost use Rattle.position.specs.Reach.{inReach};
-ghost use Rattle.position.specs.Position.{fixedBytes, isNumeric, isUncompressed, refusedPosition, withLongitude, readPosition, placeInRange, symbolsInRange, positionRefusal, positionText};
+ghost use Rattle.position.specs.Position.{fixedBytes, isNumeric, isUncompressed, refusedPosition, withLongitude, readPosition, symbolsInRange, positionRefusal, positionText};
 ghost use Rattle.position.specs.Bounds.{fromDmh, degreesOf, degreeWidth, rangeOf, boundsOf};
 ghost use Rattle.position.specs.Page.{boxOf};
 use lonlat::Latitude;
@@ -172,20 +171,8 @@ fn in_reach(most: u32, angle: i32, blanks: u8) -> bool
     blanks <= 5
 }
 
-// Whether both angles and the blanks of a place are in range, whatever kind of record it is of.
-pub fn in_range(p: Place) -> bool
-    ensures { λ r. ⌜ r ≡ placeInRange p ⌝ }
-{
-    let latitude = p.latitude.0;
-    if !in_reach(540000, latitude, p.blanks) {
-        return false;
-    }
-    let longitude = p.longitude.0;
-    in_reach(1080000, longitude, p.blanks)
-}
-
 // Whether a position may have the symbol: both its bytes are below 128.
-pub fn symbols_in_range(p: Place) -> bool
+fn symbols_in_range(p: Place) -> bool
     ensures { λ r. ⌜ r ≡ symbolsInRange p ⌝ }
 {
     if p.table < 128 {
@@ -194,69 +181,26 @@ pub fn symbols_in_range(p: Place) -> bool
     false
 }
 
-// The text of a latitude that is in range.
-fn latitude_bytes(l: Latitude, blanks: u8) -> [u8; 8]
-    requires { ⌜ inReach mostLatitude (natAbs (l .0)) blanks ≡ true ⌝ }
-    ensures { λ r. ⌜ r ≡ latitudeText (l .0) blanks ⌝ }
-{
-    let mut t = [0u8; 8];
-    lonlat::write_latitude(l, blanks, &mut t);
-    t
-}
-
-// The text of a longitude that is in range.
-fn longitude_bytes(l: Longitude) -> [u8; 9]
-    requires { ⌜ natAbs (l .0) ≤ mostLongitude ⌝ }
-    ensures { λ r. ⌜ r ≡ longitudeText (l .0) ⌝ }
-{
-    let mut t = [0u8; 9];
-    lonlat::write_longitude(l, &mut t);
-    t
-}
-
-// The 19 bytes of a place that is in range.
-fn position_bytes(p: Place) -> [u8; 19]
-    requires { ⌜ placeInRange p ≡ true ⌝ }
-    ensures { λ r. ⌜ r ≡ positionText p ⌝ }
-{
-    let latitude = p.latitude;
-    let longitude = p.longitude;
-    let n = latitude_bytes(latitude, p.blanks);
-    let e = longitude_bytes(longitude);
-    [
-        n[0],
-        n[1],
-        n[2],
-        n[3],
-        n[4],
-        n[5],
-        n[6],
-        n[7],
-        p.table,
-        e[0],
-        e[1],
-        e[2],
-        e[3],
-        e[4],
-        e[5],
-        e[6],
-        e[7],
-        e[8],
-        p.code,
-    ]
-}
-
 // Writes the 19 bytes before the comment. An angle, the blanks or a symbol byte out of range is 15, a buffer without room 16.
 pub fn write_position(p: Place, out: &mut [u8]) -> buffer::Answer
     ensures { λ r. ⌜ ends r (now (out .exit)) ≡ wrote (positionRefusal p) (positionText p) (now (out .entry)) ⌝ }
 {
-    if !in_range(p) {
+    let latitude = p.latitude;
+    let longitude = p.longitude;
+    let mut text = [0u8; 19];
+    let north = lonlat::write_latitude(latitude, p.blanks, &mut text);
+    if north.refusal != 0 {
+        return buffer::refused(15);
+    }
+    let east = lonlat::write_longitude(longitude, &mut text[9..]);
+    if east.refusal != 0 {
         return buffer::refused(15);
     }
     if !symbols_in_range(p) {
         return buffer::refused(15);
     }
-    let text = position_bytes(p);
+    text[8] = p.table;
+    text[18] = p.code;
     buffer::write(&text, out)
 }
 

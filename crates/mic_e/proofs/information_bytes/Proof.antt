@@ -11,7 +11,6 @@ use Rattle.mic_e.specs.Information.{informationOut, informationBytes}
 use Rattle.mic_e.specs.declared.Field.{Field}
 use Rattle.mic_e.specs.declared.Information.{Information}
 use Rattle.mic_e.proofs.Range.{in-longitude, in-speed, in-course}
-use borrow.Author.Needs.{needs}
 use Rattle.mic_e.proofs.information_bytes.Statement.{statement}
 use Rattle.mic_e.proofs.information_bytes.Tie as tie
 
@@ -22,9 +21,6 @@ made : (i : Information) (n : ℕ) (l m : Field) → n ≡ natAbs (i .longitude 
     → l .first ∷ l .second ∷ l .third ∷ m .first ∷ m .second ∷ m .third ∷ i .code ∷ i .table ∷ [] ≡ informationBytes i
 unfolding informationBytes
 made i n l m e p q = rw (p, q, e)
-
-size-of-requires : tie.Need-size-of-requires
-size-of-requires c κs = search needs
 
 longitude-field-requires : tie.Need-longitude-field-requires
 longitude-field-requires c κs = search short
@@ -37,4 +33,4 @@ returns c = search made
 
 pub information-bytes-spec : {M : Type 1} → statement M
 information-bytes-spec =
-    tie.close (tie.spec size-of-requires longitude-field-requires motion-field-requires returns)
+    tie.close (tie.spec longitude-field-requires motion-field-requires returns)

@@ -10,7 +10,6 @@ use Rattle.mic_e.specs.Motion.{mostSpeed, mostCourse, motionOut}
 use Rattle.mic_e.specs.Longitude.{longitudeOut}
 use Rattle.mic_e.specs.Information.{informationOut}
 use Rattle.mic_e.specs.declared.Information.{Information}
-use borrow.Author.Needs.{needs}
 use Rattle.mic_e.proofs.is_out.Statement.{statement}
 use Rattle.mic_e.proofs.is_out.Tie as tie
 
@@ -27,9 +26,6 @@ module _ (i : Information) (n : ℕ) (e : n ≡ natAbs (i .longitude .0)) where
   unfolding informationOut longitudeOut motionOut
   rest h k = rw (← e, lt-leb mostLongitude n h, le-ltb mostSpeed (i .speed .0) k)
 
-size-of-requires : tie.Need-size-of-requires
-size-of-requires c κs = search needs
-
 returns : tie.Need-returns
 returns c = search far
 
@@ -40,4 +36,4 @@ returns-3 : tie.Need-returns-3
 returns-3 c = search rest
 
 pub is-out-spec : {M : Type 1} → statement M
-is-out-spec = tie.close (tie.spec size-of-requires returns returns-2 returns-3)
+is-out-spec = tie.close (tie.spec returns returns-2 returns-3)

@@ -1,4 +1,4 @@
--- `sides_of` hands the angle to lonlat; a number of 32 bits comes back as it went. Assumes nothing.
+-- `sides_of` hands the angle to `numbers::parts`; a number of 32 bits comes back as it went. Assumes nothing.
 use mathlib.Core.Path.{ap, _∙_}
 use Rattle.numbers.specs.Sign.{sidesOf}
 use Rattle.numbers.proofs.Sign.{back}

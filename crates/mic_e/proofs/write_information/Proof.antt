@@ -1,4 +1,4 @@
--- `write_information` refuses what is out of range, and else hands the eight bytes to `laws::write`. Assumes nothing.
+-- `write_information` refuses what is out of range, and else hands the eight bytes to `buffer::write`. Assumes nothing.
 use mathlib.Core.Path.{_≡_, refl, sym, _∙_}
 use mathlib.Core.Bool.{Bool, true, false}
 use mathlib.Core.List.{List}
@@ -25,6 +25,9 @@ module _ (i : Information) (out : List ℕ) (t : Bool) (e : t ≡ informationOut
   unfolding informationRefusal
   written bytes w p q h = h ∙ rw (q, ← e, p)
 
+size-of-requires : tie.Need-size-of-requires
+size-of-requires c κs = search needs
+
 is-out-requires : tie.Need-is-out-requires
 is-out-requires c κs = search needs
 
@@ -35,7 +38,7 @@ returns : tie.Need-returns
 returns c = search refused
 
 information-bytes-requires : tie.Need-information-bytes-requires
-information-bytes-requires c κs = search inside
+information-bytes-requires c κs = (search needs, search inside)
 
 slice-aggregate-write : tie.Need-slice-aggregate-write
 slice-aggregate-write c = search needs
@@ -53,6 +56,7 @@ pub write-information-spec : {M : Type 1} → statement M
 write-information-spec =
     tie.close
     (tie.spec
+    size-of-requires
     is-out-requires
     refused-requires
     returns
