@@ -3,27 +3,31 @@
 use mathlib.Core.Path.{_≡_, ap, _∙_}
 use mathlib.Core.Bool.{Bool, true, false, cond}
 use mathlib.Core.List.{List, [], _++_}
-use Prim.Native.Nat.{ℕ, _+_, _*_, _/_, _≤_}
+use Prim.Native.Nat.{ℕ, _*_, _/_, _≤_}
 use native.Mathlib.Omega.{arith}
 use lib.Dec.{ltb}
 use lib.ListN.{length, take, drop, replicate}
-use lib.Seq.{sets, sets-eq, take-at}
 use borrow.Author.Tests.{le-ltb}
 use Rattle.buffer.specs.Wrote.{Wrote, ends, refusedBy, noRoom, doneBy, wrote, wroteAs}
 use Rattle.buffer.specs.declared.Answer.{Answer}
+use Rattle.buffer.specs.Filled.{Filled, filled, frontOf, added}
 use Rattle.buffer.proofs.Wrote.{refused-as}
+use Rattle.buffer.proofs.Filled.{added-len, first-front}
 use Rattle.mic_e.specs.declared.Field.{Field}
 use Rattle.fields.specs.Each.{flat}
 use Rattle.fields.specs.Lists.{listed}
 use Rattle.fields.proofs.Stored.{length-flat}
 
--- the bytes found stand at the front of the buffer that they were found in
-pub found-bytes : (fields : List Field) (n : ℕ) (found : List ℕ) → 3 * length fields ≤ 108 → n ≡ 3 * length fields
-    → found ≡ sets (replicate 108 0) 0 (flat fields) → take n found ≡ flat fields
-found-bytes fields n found room e f =
-    let k : length (flat fields) ≡ n = omega (arith, length-flat fields) in
-    let h : 0 + length (flat fields) ≤ length {A = ℕ} (replicate 108 0) = omega arith in
-    ap (take n) (f ∙ sets-eq (flat fields) (replicate 108 0) 0 h) ∙ take-at (flat fields) _ n k
+-- the bytes found, three for each field, stand at the front of the buffer that they were found in
+module _ (fields : List Field) (n : ℕ) (found : List ℕ) (few : length fields ≤ 36) (e : filled found n ≡ added (filled (replicate 108 0) 0) (flat fields)) where
+  pub found-count : n ≡ 3 * length fields
+  found-count =
+      let l = added-len (filled (replicate 108 0) 0) (flat fields) (omega (arith, length-flat fields)) in
+      omega (arith, ap (λ (x : Filled). x .len) e, length-flat fields)
+
+  pub found-bytes : take n found ≡ flat fields
+  unfolding frontOf
+  found-bytes = ap frontOf e ∙ first-front (replicate 108 0) (flat fields) (omega (arith, length-flat fields))
 
 -- what the writer answered, with the fields counted
 module _ (fields : List Field) (n : ℕ) (bytes out o : List ℕ) (r : Answer) (count : n ≡ 3 * length fields) (same : bytes ≡ flat fields)

@@ -4,8 +4,8 @@
 ghost use mathlib.Core.Path.{_≡_};
 ghost use Prim.Native.Nat.{_+_, _*_, _≤_};
 ghost use lib.ListN.{length};
-ghost use lib.Seq.{sets};
 ghost use Rattle.buffer.specs.Wrote.{ends};
+ghost use Rattle.buffer.specs.Filled.{filled, added};
 ghost use Rattle.fields.specs.Each.{cell, row, allFields, flat};
 ghost use Rattle.fields.specs.Lists.{listed, motionFields, motionRefusal, longitudeFields, longitudeRefusal};
 ghost use Rattle.fields.specs.Search.{hits, fieldsOf, thirdAt, baseOf, tenFrom, Spans, sameSide};
@@ -200,26 +200,22 @@ fn span_of(t: Target, a: u8) -> Span
     }
 }
 
-// Writes the field, if there is one, at `at`, and answers the place after it.
+// ---- fields put into out at a place; the place behind them is answered
+
+// The field, if there is one.
 fn put(x: Third, a: u8, b: u8, out: &mut [u8], at: usize) -> usize
-    requires { ⌜ at + 3 * length (fieldsOf a b x) ≤ length (now out) ⌝ }
-    ensures { λ r. ⌜ (r ≡ at + 3 * length (fieldsOf a b x)) × (now (out .exit) ≡ sets (now (out .entry)) at (flat (fieldsOf a b x))) ⌝ }
+    ensures { λ r. ⌜ filled (now (out .exit)) r ≡ added (filled (now (out .entry)) at) (flat (fieldsOf a b x)) ⌝ }
 {
     match x {
-        Third::At(d) => {
-            out[at] = a;
-            out[at + 1] = b;
-            out[at + 2] = d;
-            at + 3
-        }
+        Third::At(d) => buffer::put(&[a, b, d], out, at),
         Third::Nowhere => at,
     }
 }
 
-// Writes the fields that begin with a, from `start` on, and answers the place after them.
+// The fields that begin with a.
 fn fill_row(t: Target, a: u8, out: &mut [u8], start: usize) -> usize
     requires { ⌜ start + 3 * length (row (hits t) a) ≤ length (now out) ⌝ }
-    ensures { λ r. ⌜ (r ≡ start + 3 * length (row (hits t) a)) × (now (out .exit) ≡ sets (now (out .entry)) start (flat (row (hits t) a))) ⌝ }
+    ensures { λ r. ⌜ filled (now (out .exit)) r ≡ added (filled (now (out .entry)) start) (flat (row (hits t) a)) ⌝ }
 {
     let span = span_of(t, a);
     let from = span.from;
@@ -232,10 +228,10 @@ fn fill_row(t: Target, a: u8, out: &mut [u8], start: usize) -> usize
     at
 }
 
-// Writes all the fields to the front of out, and answers how many bytes they are.
+// All of them, at the front.
 fn fill(t: Target, out: &mut [u8]) -> usize
     requires { ⌜ 3 * length (allFields (hits t)) ≤ length (now out) ⌝ }
-    ensures { λ r. ⌜ (r ≡ 3 * length (allFields (hits t))) × (now (out .exit) ≡ sets (now (out .entry)) 0 (flat (allFields (hits t)))) ⌝ }
+    ensures { λ r. ⌜ filled (now (out .exit)) r ≡ added (filled (now (out .entry)) 0) (flat (allFields (hits t))) ⌝ }
 {
     let mut at: usize = 0;
     for a in 0..256u32 {
@@ -243,6 +239,8 @@ fn fill(t: Target, out: &mut [u8]) -> usize
     }
     at
 }
+
+// ---- lists
 
 // A list holds at most 36 fields: they are found in a buffer of that size, and then written out.
 fn list(t: Target, out: &mut [u8]) -> buffer::Answer

@@ -1,22 +1,20 @@
 -- `list`: the fields fit the buffer that they are found in, and what the writer answers is the list's. Assumes nothing.
-use mathlib.Core.Path.{_≡_, sym, ap, _∙_}
+use mathlib.Core.Path.{sym}
 use Prim.Native.Nat.{_≤_}
 use native.Mathlib.Omega.{arith}
 use lib.ListN.{length}
-use lib.Seq.{length-sets, length-take-le}
+use lib.Seq.{length-take-le}
 use Rattle.fields.specs.Each.{allFields}
 use Rattle.fields.specs.Search.{hits}
-use Rattle.fields.proofs.Answers.{found-bytes, counted, short}
+use Rattle.fields.proofs.Answers.{found-count, found-bytes, counted, short}
+use Rattle.fields.proofs.Stored.{put-length}
 use Rattle.fields.proofs.LongitudeMost.{few-fields}
 use borrow.Author.Needs.{needs}
 use Rattle.fields.proofs.list.Statement.{statement}
 use Rattle.fields.proofs.list.Tie as tie
 
-room : (c : tie.After-fill) → length (c .fill .last .1 .0) ≡ 108
-room c = ap length (c .fill .ensures .1) ∙ simp length-sets
-
 within : (c : tie.After-fill) → c .fill .result ≤ length (c .fill .last .1 .0)
-within c = omega (arith, room c, few-fields (c .before .before .before .args .t), c .fill .ensures .0)
+within c = let f = few-fields (c .before .before .before .args .t) in omega (arith, put-length _ _ _ _ _ (c .fill .ensures), found-count _ _ _ f (c .fill .ensures))
 
 slice-aggregate-fill : tie.Need-slice-aggregate-fill
 slice-aggregate-fill c = search needs
@@ -45,7 +43,7 @@ returns c =
     let f = w .before .before .before .before in
     let t = f .before .before .before .args .t in
     let e = f .fill .ensures in
-    counted (allFields (hits t)) _ _ _ _ _ (e .0) (found-bytes (allFields (hits t)) _ _ (omega (arith, few-fields t)) (e .0) (e .1)) (w .write .ensures) (c .before .if1 .taken) _ (c .done .ensures)
+    counted (allFields (hits t)) _ _ _ _ _ (found-count _ _ _ (few-fields t) e) (found-bytes _ _ _ (few-fields t) e) (w .write .ensures) (c .before .if1 .taken) _ (c .done .ensures)
 
 same-length-2 : tie.Need-same-length-2
 same-length-2 c = search needs
@@ -56,7 +54,7 @@ returns-2 c =
     let f = w .before .before .before .before in
     let t = f .before .before .before .args .t in
     let e = f .fill .ensures in
-    short (allFields (hits t)) _ _ _ _ _ (e .0) (found-bytes (allFields (hits t)) _ _ (omega (arith, few-fields t)) (e .0) (e .1)) (w .write .ensures) (c .if1 .left)
+    short (allFields (hits t)) _ _ _ _ _ (found-count _ _ _ (few-fields t) e) (found-bytes _ _ _ (few-fields t) e) (w .write .ensures) (c .if1 .left)
 
 pub list-spec : {M : Type 1} → statement M
 list-spec =

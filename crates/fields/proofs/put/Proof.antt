@@ -1,36 +1,46 @@
--- `put`: three stores are one run of stores. Assumes nothing.
+-- `put`: three bytes are the one field; nothing put is no field. Assumes nothing.
+use mathlib.Core.Path.{_≡_, refl, sym}
+use mathlib.Core.Bool.{Bool, true, false}
+use mathlib.Core.List.{List, [], _∷_}
+use Prim.Native.Nat.{ℕ}
 use native.Mathlib.Omega.{arith}
-use native.Mathlib.Numerals.{add-one, add-two}
-use lib.ListN.{length-set}
+use lib.Dec.{leb}
+use lib.ListN.{length}
+use borrow.Author.Tests.{leb-true, leb-false}
+use Rattle.buffer.specs.Filled.{Filled, filled, added}
+use Rattle.buffer.proofs.Filled.{added-none, added-not}
 use Rattle.fields.specs.Each.{flat}
 use Rattle.fields.specs.Search.{fieldsOf}
+use Rattle.fields.specs.declared.Third.{Third}
+use Rattle.fields.specs.declared.Third.the-variants.{At, Nowhere}
 use borrow.Author.Needs.{needs}
 use Rattle.fields.proofs.put.Statement.{statement}
 use Rattle.fields.proofs.put.Tie as tie
 
+nothing-added : (f : Filled) → f ≡ added f []
+nothing-added f = go (leb (f .len) (length (f .bytes))) refl
+  where
+    go : (t : Bool) → leb (f .len) (length (f .bytes)) ≡ t → f ≡ added f []
+    go true e = added-none f (leb-true (f .len) (length (f .bytes)) e)
+    go false e = sym (added-not f [] (omega (arith, leb-false (f .len) (length (f .bytes)) e)))
+
+module _ (x : Third) (a b at : ℕ) (out : List ℕ) where
+  one : (d r : ℕ) (out′ : List ℕ) → x ≡ At d → filled out′ r ≡ added (filled out at) (a ∷ b ∷ d ∷ []) → filled out′ r ≡ added (filled out at) (flat (fieldsOf a b x))
+  unfolding fieldsOf flat
+  one d r out′ e w = rw e w
+
+  none : x ≡ Nowhere → filled out at ≡ added (filled out at) (flat (fieldsOf a b x))
+  unfolding fieldsOf flat
+  none e = rw e (nothing-added (filled out at))
+
 enum-known-x : tie.Need-enum-known-x
 enum-known-x c = search needs
 
-slice-write-out : tie.Need-slice-write-out
-unfolding fieldsOf
-slice-write-out c = omega (arith, rw (c .before .x .given .1) at (c .before .before .before .pre))
+slice-aggregate-put : tie.Need-slice-aggregate-put
+slice-aggregate-put c = search needs
 
-add-out : tie.Need-add-out
-add-out c = search needs
-
-slice-write-out-2 : tie.Need-slice-write-out-2
-unfolding fieldsOf
-slice-write-out-2 c = simp length-set (omega (arith, rw (c .before .x .given .1) at (c .before .before .before .pre)))
-
-add-out-2 : tie.Need-add-out-2
-add-out-2 c = search needs
-
-slice-write-out-3 : tie.Need-slice-write-out-3
-unfolding fieldsOf
-slice-write-out-3 c = simp length-set (omega (arith, rw (c .before .x .given .1) at (c .before .before .before .pre)))
-
-add-result : tie.Need-add-result
-add-result c = search needs
+put-requires : tie.Need-put-requires
+put-requires c κs = search needs
 
 enum-told : tie.Need-enum-told
 enum-told c = search needs
@@ -39,24 +49,18 @@ same-length : tie.Need-same-length
 same-length c = search needs
 
 returns : tie.Need-returns
-unfolding fieldsOf flat
-returns c = (rw (c .before .x .given .1), rw (c .before .x .given .1, add-one, add-two))
+returns c = search one
 
 returns-2 : tie.Need-returns-2
-unfolding fieldsOf flat
-returns-2 c = (rw (c .enum-told .given .1) (omega arith), rw (c .enum-told .given .1))
+returns-2 c = search none
 
 pub put-spec : {M : Type 1} → statement M
 put-spec =
     tie.close
     (tie.spec
     enum-known-x
-    slice-write-out
-    add-out
-    slice-write-out-2
-    add-out-2
-    slice-write-out-3
-    add-result
+    slice-aggregate-put
+    put-requires
     enum-told
     same-length
     returns
