@@ -11,13 +11,12 @@ use borrow.Author.Tests.{le-leb, lt-leb, leb-true, leb-false}
 use lib.Dec.{leb}
 use lib.ListN.{length, take, drop, getD, replicate, length-append, length-replicate, getD-replicate, take-append-drop, length-drop}
 use lib.Seq.{length-take-le, take-at, getD-append-add}
-use Rattle.laws.specs.Bytes.{within, isDigit, digit0, digit9}
+use Rattle.laws.specs.Bytes.{isDigit}
 use Rattle.laws.specs.Lists.{every}
-use Rattle.laws.proofs.Lists.{next}
-use Rattle.laws.proofs.Tests.{within-low, within-high}
 use Rattle.laws.proofs.Each.{every-first, every-rest, every-drop}
 use Rattle.lonlat.specs.Digits.{lastAs, degreesOf, minutesOf, hundredthsOf, valueOf, isSixty}
 use Rattle.numbers.specs.Numbers.{numberAfter, numberOf}
+use Rattle.numbers.proofs.Counts.{a-digit, number-append}
 
 -- ---- the last n as b
 
@@ -44,35 +43,11 @@ module _ (b n : ℕ) (t : List ℕ) (few : n ≤ length t) where
 
 -- ---- numbers
 
-pub digit-below : (b : ℕ) → b < digit0 → isDigit b ≡ false
-unfolding within
-digit-below b h = rw (lt-leb digit0 b h)
-
-pub digit-above : (b : ℕ) → digit9 < b → isDigit b ≡ false
-unfolding within
-digit-above b h = let l : digit0 ≤ b = omega arith in rw (le-leb digit0 b l, lt-leb b digit9 h)
-
 pub grows : (v i x : ℕ) → v < 10 ^ i → x ≤ 9 → 10 * v + x < 10 ^ (i + 1)
 grows v i x h k = rw (add-one i, pow-succ' 10 i) (omega arith)
 
 pub seven : (v i : ℕ) → v < 10 ^ i → i ≤ 7 → v < 10000000
 seven v i h k = let l : 10 ^ i ≤ 10 ^ 7 = pow-le-pow-right (omega arith) k in omega arith
-
-pub number-more : (t : List ℕ) (i v : ℕ) → i < length t → numberOf t ≡ numberAfter v (drop i t) → numberOf t ≡ numberAfter (10 * v + (getD t i 0 - digit0)) (drop (i + 1) t)
-unfolding numberAfter
-number-more t i v h e = e ∙ rw (next 0 t i h)
-
-pub record IsDigit (b : ℕ) : Type 0 where
-  pub low : digit0 ≤ b
-  pub high : b ≤ digit9
-
-pub a-digit : (b : ℕ) → isDigit b ≡ true → IsDigit b
-a-digit b e = record { low = within-low digit0 digit9 b e; high = within-high digit0 digit9 b e }
-
-number-append : (v : ℕ) (s t : List ℕ) → numberAfter v (s ++ t) ≡ numberAfter (numberAfter v s) t
-unfolding numberAfter
-number-append v [] t = refl
-number-append v (b ∷ s) t = number-append (10 * v + (b - digit0)) s t
 
 -- degrees d, and four digits behind them: what the one number of them all says
 record Four (d : ℕ) (t : List ℕ) : Type 0 where

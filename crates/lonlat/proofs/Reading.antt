@@ -15,7 +15,10 @@ use Rattle.laws.specs.Lists.{indexOf, every}
 use Rattle.laws.proofs.Places.{index-le}
 use Rattle.laws.proofs.Tests.{guard, passed}
 use Rattle.lonlat.specs.Angle.{mostLatitude, mostLongitude}
-use Rattle.numbers.specs.Sign.{signedOf}
+use Rattle.numbers.specs.Sign.{numberOn}
+use Rattle.numbers.specs.declared.Number.{Number}
+use Rattle.numbers.specs.declared.Number.the-variants as number
+use Rattle.numbers.proofs.Sign.{number-told, number-never}
 use Rattle.lonlat.specs.declared.Size.{Size}
 use Rattle.lonlat.specs.declared.Size.the-variants.{Hundredths, NoDigit}
 use Rattle.lonlat.specs.declared.AngleRead.{AngleRead}
@@ -104,9 +107,13 @@ module _ (most : ℕ) (minus : Bool) (t : List ℕ) (q : Size) (e : q ≡ sizeOf
     unfolding angleIn fits
     angle-big h = rw (known .digits, known .value, lt-leb v most h)
 
-    pub angle-of : v ≤ most → (z : ℤ) → z ≡ signedOf minus v → Of z sixty ≡ angleIn most minus t
-    unfolding angleIn fits
-    angle-of h z g = rw (known .digits, known .value, known .sixties, le-leb v most h, g)
+    module _ (h : v ≤ most) (k : most ≤ mostLongitude) (r : Number) (g : r ≡ numberOn minus v) where
+      pub angle-of : (z z′ : ℤ) → r ≡ number.Is z → z′ ≡ z → Of z′ sixty ≡ angleIn most minus t
+      unfolding angleIn fits
+      angle-of z z′ i j = rw (known .digits, known .value, known .sixties, le-leb v most h, ← number-told minus v (omega arith) r g z i, j)
+
+      pub angle-never : r ≡ number.Bad → Bad ≡ angleIn most minus t
+      angle-never i = absurd (number-never minus v (omega arith) r g i)
 
 -- ---- with a letter: u is the test of the letter, a the angle
 

@@ -18,10 +18,11 @@ use Rattle.laws.proofs.Each.{every-first, every-rest, every-append, every-snoc,
 use Rattle.lonlat.specs.Angle.{mostLatitude}
 use Rattle.lonlat.specs.Digits.{lastAs, angleIn, placesOf, textOf}
 use Rattle.numbers.specs.Numbers.{digitOf, digitsOf}
+use Rattle.numbers.proofs.Counts.{a-digit}
 use Rattle.lonlat.specs.Latitude.{isBlank, isDigitOrBlank, blanksIn, restBlank, countedDigits, isNorthOrSouth, latitudeWith, latitudeIn, latitudePlaces, readLatitude, blankedPlaces, northOrSouth, latitudeText}
 use Rattle.lonlat.specs.Longitude.{longitudeIn, readLongitude, eastOrWest, longitudeText}
 use Rattle.lonlat.proofs.Cut.{up-to-five}
-use Rattle.lonlat.proofs.Digits.{a-digit, last-length, last-start}
+use Rattle.lonlat.proofs.Digits.{last-length, last-start}
 
 -- ---- digits
 

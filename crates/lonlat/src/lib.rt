@@ -7,11 +7,11 @@ ghost use lib.Dec.{eqb};
 ghost use Rattle.laws.specs.Lists.{every};
 ghost use Rattle.buffer.specs.Wrote.{ends, wrote};
 ghost use Rattle.lonlat.specs.Angle.{mostLongitude, longitudeOf};
-ghost use Rattle.numbers.specs.Sign.{signedOf};
 ghost use Rattle.lonlat.specs.Digits.{lastAs, sizeOf, angleIn, placesOf, textOf};
 ghost use Rattle.numbers.specs.Numbers.{digitOf};
 ghost use Rattle.lonlat.specs.Latitude.{isBlank, keptOf, latitudeIn, readLatitude, blankedPlaces, latitudeText, latitudeRefusal};
 ghost use Rattle.lonlat.specs.Longitude.{longitudeIn, readLongitude, longitudeText, longitudeRefusal};
+use numbers::Number;
 
 // A latitude: signed hundredths of a minute, north positive.
 pub struct Latitude(pub i32);
@@ -25,18 +25,6 @@ pub enum LongitudeMade {
     OutOfRange,
 }
 
-// The angle of a side and a size.
-fn signed(size: u32, minus: bool) -> i32
-    requires { ⌜ size ≤ mostLongitude ⌝ }
-    ensures { λ r. ⌜ r ≡ signedOf minus size ⌝ }
-{
-    if minus {
-        0 - (size as i32)
-    } else {
-        size as i32
-    }
-}
-
 // The longitude of that size, east or west; 0 on either side is plain 0. Past 180 degrees it is out of range.
 pub fn longitude_of(size: u32, west: bool) -> LongitudeMade
     ensures { λ r. ⌜ r ≡ longitudeOf size west ⌝ }
@@ -44,7 +32,10 @@ pub fn longitude_of(size: u32, west: bool) -> LongitudeMade
     if 1080000 < size {
         return LongitudeMade::OutOfRange;
     }
-    LongitudeMade::Made(Longitude(signed(size, west)))
+    match numbers::signed(size, west) {
+        Number::Is(angle) => LongitudeMade::Made(Longitude(angle)),
+        Number::Bad => LongitudeMade::OutOfRange,
+    }
 }
 
 // What digit places say together: hundredths of a minute, and whether the minutes are 60 or more.
@@ -130,9 +121,9 @@ fn angle_in(most: u32, minus: bool, t: &[u8]) -> AngleRead
             if most < size {
                 return AngleRead::Bad;
             }
-            AngleRead::Of {
-                angle: signed(size, minus),
-                sixty,
+            match numbers::signed(size, minus) {
+                Number::Is(angle) => AngleRead::Of { angle, sixty },
+                Number::Bad => AngleRead::Bad,
             }
         }
         Size::NoDigit => AngleRead::Bad,

@@ -3,7 +3,7 @@
 use mathlib.Core.Path.{_≡_, refl, sym, ap, _∙_}
 use mathlib.Core.Bool.{Bool, true, false, cond}
 use mathlib.Core.List.{List, [], _∷_, _++_}
-use Prim.Native.Nat.{ℕ, zero, suc, _+_, _-_, _*_, _/_, _%_, _<_, _≤_}
+use Prim.Native.Nat.{ℕ, zero, suc, _+_, _/_, _%_, _<_, _≤_}
 use native.Mathlib.Omega.{arith}
 use lib.Dec.{ltb, eqb}
 use borrow.Author.Tests.{ltb-true, ltb-false, ne-eqb, le-leb}
@@ -15,18 +15,14 @@ use Rattle.laws.specs.Bytes.{dash, digit0, digit9, isDigit}
 use Rattle.laws.specs.Lists.{every}
 use Rattle.laws.proofs.Each.{every-snoc}
 use Rattle.laws.proofs.Tests.{within-yes}
-use Rattle.numbers.specs.Sign.{signedOf}
+use Rattle.numbers.specs.Sign.{signedOf, mostOn, numberOn}
 use Rattle.numbers.specs.Numbers.{numberAfter, numberOf}
 use Rattle.numbers.specs.declared.Count.the-variants.{Is}
 use Rattle.numbers.specs.declared.Number.the-variants as number
 use Rattle.numbers.specs.Numbers.{digitsBy, digits, decimal, countOf, readCount, onSide, readNumber}
+use Rattle.numbers.proofs.Counts.{number-append}
 
 -- ---- read back
-
-value-last : (v : ℕ) (l : List ℕ) (d : ℕ) → numberAfter v (l ++ d ∷ []) ≡ 10 * numberAfter v l + (d - digit0)
-unfolding numberAfter
-value-last v [] d = refl
-value-last v (x ∷ l) d = value-last (10 * v + (x - digit0)) l d
 
 by-read : (left n : ℕ) → n < left → numberAfter 0 (digitsBy left n) ≡ n
 unfolding digitsBy numberAfter
@@ -39,7 +35,7 @@ by-read (suc left) n h = go (ltb n 10) refl (λ k. by-read left (n / 10) k)
     go false e r =
         let g : 10 ≤ n = ltb-false n 10 e in
         let i : numberAfter 0 (digitsBy left (n / 10)) ≡ n / 10 = r (omega arith) in
-        value-last 0 (digitsBy left (n / 10)) (digit0 + n % 10) ∙ omega arith
+        number-append 0 (digitsBy left (n / 10)) ((digit0 + n % 10) ∷ []) ∙ omega arith
 
 pub digits-read : (n : ℕ) → numberAfter 0 (digits n) ≡ n
 unfolding digits
@@ -112,8 +108,11 @@ count-back n most h =
     rw (ne-eqb (length (digits n)) 0 (λ e. omega arith), by-digits (suc n) n, digits-read n, le-leb n most h)
 
 pub number-back : (z : ℤ) → SFits w32 z → readNumber (decimal z) ≡ number.Is z
-unfolding readNumber onSide decimal digits signedOf
+unfolding readNumber onSide decimal digits numberOn mostOn signedOf
 number-back (pos n) f =
     let k = by-first (suc n) n (omega arith) in
-    rw (ne-eqb (getD (digits n) 0 0) dash (λ e. omega arith), count-back n 2147483647 (omega (arith, f .sfits)))
-number-back (negsuc n) f = rw (count-back (suc n) 2147483648 (omega (arith, f .sfits)))
+    let h : n ≤ 2147483647 = omega (arith, f .sfits) in
+    rw (ne-eqb (getD (digits n) 0 0) dash (λ e. omega arith), count-back n 2147483648 (omega arith), le-leb n 2147483647 h)
+number-back (negsuc n) f =
+    let h : suc n ≤ 2147483648 = omega (arith, f .sfits) in
+    rw (count-back (suc n) 2147483648 h, le-leb (suc n) 2147483648 h)

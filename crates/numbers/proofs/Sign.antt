@@ -1,19 +1,21 @@
 -- Numbers put together and taken apart. First the laws of a side and a size that callers cite, then the machine's signed
--- numbers: an `i32` is taken apart by way of an `i64`.
+-- numbers: an `i32` is made and taken apart by way of an `i64`.
 -- Assumes nothing.
 use mathlib.Core.Path.{_≡_, refl, sym, ap, subst, _∙_}
 use mathlib.Core.Bool.{Bool, true, false, false≢true}
-use Prim.Native.Nat.{ℕ, zero, suc, _<_}
+use Prim.Native.Nat.{ℕ, zero, suc, _<_, _≤_}
 use native.Mathlib.Omega.{arith}
-use borrow.Author.Tests.{ltb-true}
+use borrow.Author.Tests.{ltb-true, le-leb, lt-leb}
 use lib.Dec.{T}
 use lib.IntN.{ℤ, pos, negsuc, negℤ, natAbs, _-ℤ_, +ℤ-idl}
 use lib.Signed.{ltZ, nonNeg}
 use mir.Syntax.{w32, w64}
 use mir.Val.{Fits, SFits, toZ, ofZ}
-use mir.Facts.{toZ-ofZ, sfits-widen, fits-natAbs}
-use Rattle.numbers.specs.Sign.{signedOf, isMinus, sidesOf}
+use mir.Facts.{toZ-ofZ, toZ-pos, sfits-widen, fits-natAbs}
+use Rattle.numbers.specs.Sign.{signedOf, mostOn, numberOn, isMinus, sidesOf}
 use Rattle.numbers.specs.declared.Sides.{Sides}
+use Rattle.numbers.specs.declared.Number.{Number}
+use Rattle.numbers.specs.declared.Number.the-variants.{Is, Bad}
 
 -- ---- a side and a size
 
@@ -45,6 +47,64 @@ module _ (angle z : ℤ) (back : z ≡ angle) (p : Sides) (e : p ≡ sidesOf z) 
   pub parts-minus : p .minus ≡ isMinus angle
   unfolding sidesOf
   parts-minus = ap (λ (q : Sides). q .minus) e ∙ ap isMinus back
+
+-- a size that an `i32` holds on either side
+pub number-small : (minus : Bool) (size : ℕ) → size ≤ 2147483647 → numberOn minus size ≡ Is (signedOf minus size)
+unfolding numberOn mostOn
+number-small false size h = rw (le-leb size 2147483647 h)
+number-small true size h = rw (le-leb size 2147483648 (omega arith))
+
+-- what a caller learns of such a size: r is what it was answered
+module _ (minus : Bool) (size : ℕ) (h : size ≤ 2147483647) (r : Number) (e : r ≡ numberOn minus size) where
+  pub number-told : (z : ℤ) → r ≡ Is z → z ≡ signedOf minus size
+  number-told z f = let k : Is z ≡ Is (signedOf minus size) = sym f ∙ e ∙ number-small minus size h in cc
+
+  pub number-never : r ≡ Bad → ⊥
+  number-never f =
+      let k : Bad ≡ Is (signedOf minus size) = sym f ∙ e ∙ number-small minus size h in
+      let n : _≡_ {A = ℕ} 0 1 = cc in
+      omega arith
+
+-- ---- the machine's numbers: together
+
+module _ (minus : Bool) (size : ℕ) where
+  pub number-past : (most : ℕ) → most ≡ mostOn minus → most < size → Bad ≡ numberOn minus size
+  unfolding numberOn
+  number-past most e h = rw (← e, lt-leb size most h)
+
+  pub number-is : (most : ℕ) → most ≡ mostOn minus → size ≤ most → (z : ℤ) → z ≡ signedOf minus size → Is z ≡ numberOn minus size
+  unfolding numberOn
+  number-is most e h z g = rw (← e, le-leb size most h, g)
+
+pub plus-whole : (m : ℕ) → m ≤ 2147483647 → toZ w32 m ≡ signedOf false m
+unfolding signedOf
+plus-whole m h = toZ-pos w32 {n = m} (omega arith)
+
+-- minus a size goes by way of an `i64`
+fits-wide : (m : ℕ) → m ≤ 2147483648 → SFits w64 (negℤ (pos m))
+fits-wide zero h = record { sfits = omega arith }
+fits-wide (suc n) h = record { sfits = omega arith }
+
+fits-narrow : (m : ℕ) → m ≤ 2147483648 → SFits w32 (negℤ (pos m))
+fits-narrow zero h = record { sfits = omega arith }
+fits-narrow (suc n) h = record { sfits = omega arith }
+
+module _ (m : ℕ) (h : m ≤ 2147483648) where
+  minus-is : pos 0 -ℤ toZ w64 m ≡ negℤ (pos m)
+  minus-is = ap (λ (y : ℤ). pos 0 -ℤ y) (toZ-pos w64 {n = m} (omega arith)) ∙ +ℤ-idl (negℤ (pos m))
+
+  pub minus-wide : SFits w64 (pos 0 -ℤ toZ w64 m)
+  minus-wide = subst (SFits w64) (sym minus-is) (fits-wide m h)
+
+  minus-back : toZ w64 (ofZ w64 (pos 0 -ℤ toZ w64 m)) ≡ negℤ (pos m)
+  minus-back = toZ-ofZ {w = w64} {z = pos 0 -ℤ toZ w64 m} minus-wide ∙ minus-is
+
+  pub minus-narrow : SFits w32 (toZ w64 (ofZ w64 (pos 0 -ℤ toZ w64 m)))
+  minus-narrow = subst (SFits w32) (sym minus-back) (fits-narrow m h)
+
+  pub minus-whole : toZ w32 (ofZ w32 (toZ w64 (ofZ w64 (pos 0 -ℤ toZ w64 m)))) ≡ signedOf true m
+  unfolding signedOf
+  minus-whole = toZ-ofZ {w = w32} {z = toZ w64 (ofZ w64 (pos 0 -ℤ toZ w64 m))} minus-narrow ∙ minus-back
 
 -- ---- the machine's numbers: apart
 

@@ -1,6 +1,7 @@
 -- What each public function promises fixes its result: two results that meet one promise are equal.
 -- Assumes nothing.
 use mathlib.Core.Path.{_≡_}
+use mathlib.Core.Bool.{Bool}
 use mathlib.Core.List.{List}
 use Prim.Native.Nat.{ℕ}
 use lib.IntN.{ℤ}
@@ -10,11 +11,14 @@ use Rattle.buffer.proofs.Unique.{one-filled}
 use Rattle.numbers.specs.declared.Sides.{Sides}
 use Rattle.numbers.specs.declared.Count.{Count}
 use Rattle.numbers.specs.declared.Number.{Number}
-use Rattle.numbers.specs.Sign.{sidesOf}
+use Rattle.numbers.specs.Sign.{sidesOf, numberOn}
 use Rattle.numbers.specs.Numbers.{digits, decimal, readCount, readNumber, hexPair, hexValue}
 
 pub unique-parts : (number : ℤ) (r r′ : Sides) → r ≡ sidesOf number → r′ ≡ sidesOf number → r ≡ r′
 unique-parts number r r′ = one-value r r′ (sidesOf number)
+
+pub unique-signed : (minus : Bool) (size : ℕ) (r r′ : Number) → r ≡ numberOn minus size → r′ ≡ numberOn minus size → r ≡ r′
+unique-signed minus size r r′ = one-value r r′ (numberOn minus size)
 
 pub unique-hex-value : (d r r′ : ℕ) → r ≡ hexValue d → r′ ≡ hexValue d → r ≡ r′
 unique-hex-value d r r′ = one-value r r′ (hexValue d)

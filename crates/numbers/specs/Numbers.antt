@@ -9,7 +9,7 @@ use lib.ListN.{length, getD, drop}
 use lib.IntN.{ℤ, pos, negsuc}
 use Rattle.laws.specs.Bytes.{dash, digit0, smallA, within, isDigit}
 use Rattle.laws.specs.Lists.{every}
-use Rattle.numbers.specs.Sign.{signedOf}
+use Rattle.numbers.specs.Sign.{numberOn}
 use Rattle.numbers.specs.declared.Count.{Count}
 use Rattle.numbers.specs.declared.Count.the-variants.{Is, Over, Bad}
 use Rattle.numbers.specs.declared.Number.{Number}
@@ -58,16 +58,16 @@ readCount s most = cond (eqb (length s) 0) Bad (cond (every isDigit s) (countOf 
 
 -- a count on a side of 0
 unfoldable pub onSide : Bool → Count → Number
-onSide minus (Is size) = number.Is (signedOf minus size)
+onSide minus (Is size) = numberOn minus size
 onSide minus Over = number.Bad
 onSide minus Bad = number.Bad
 
--- a dash and digits, or digits alone, of a number that an `i32` holds
+-- a dash and digits, or digits alone, of a number that an `i32` holds: none is of a size past 2147483648
 unfoldable pub readNumber : List ℕ → Number
 readNumber s =
     cond (eqb (getD s 0 0) dash)
     (onSide true (readCount (drop 1 s) 2147483648))
-    (onSide false (readCount s 2147483647))
+    (onSide false (readCount s 2147483648))
 
 -- ---- hexadecimal, in small letters
 

@@ -1,23 +1,23 @@
-// Numbers: taken apart by their sign, read from text and put into a buffer as text, in decimal and in hexadecimal.
+// Numbers: taken apart by their sign and put together again, read from text and put into a buffer as text, in decimal and in hexadecimal.
 ghost use mathlib.Core.Path.{_≡_};
-ghost use mathlib.Core.Bool.{true, false};
-ghost use Prim.Native.Nat.{_<_, _≤_};
+ghost use mathlib.Core.Bool.{true};
+ghost use Prim.Native.Nat.{_<_};
 ghost use lib.ListN.{length, drop};
 ghost use Rattle.laws.specs.Bytes.{isDigit};
 ghost use Rattle.laws.specs.Lists.{every};
 ghost use Rattle.buffer.specs.Filled.{filled, added};
-ghost use Rattle.numbers.specs.Sign.{signedOf, sidesOf};
+ghost use Rattle.numbers.specs.Sign.{sidesOf, numberOn};
 ghost use Rattle.numbers.specs.Numbers.{digits, decimal, countOf, readCount, onSide, readNumber, hexDigit, hexPair, hexValue};
 
 // ---- a sign
 
-// An angle taken apart: whether it lies south or west, and its size. 0 does not.
+// A number taken apart: whether it is below 0, which 0 itself is not, and its size.
 pub struct Sides {
     pub size: u32,
     pub minus: bool,
 }
 
-// The angle's side and size.
+// The number's sign and size; of an angle, its side and size.
 pub fn parts(angle: i32) -> Sides
     ensures { λ r. ⌜ r ≡ sidesOf angle ⌝ }
 {
@@ -34,18 +34,34 @@ pub fn parts(angle: i32) -> Sides
     }
 }
 
+// A signed number, or that an `i32` does not hold it or that a text is none.
+pub enum Number {
+    Is(i32),
+    Bad,
+}
+
+// The number of that size, below zero where minus is said; 0 is plain 0 either way.
+pub fn signed(size: u32, minus: bool) -> Number
+    ensures { λ r. ⌜ r ≡ numberOn minus size ⌝ }
+{
+    if minus {
+        if 2147483648 < size {
+            return Number::Bad;
+        }
+        return Number::Is((0 - (size as i64)) as i32);
+    }
+    if 2147483647 < size {
+        return Number::Bad;
+    }
+    Number::Is(size as i32)
+}
+
 // ---- numbers read
 
 // A number read: how much it is, that it is more than may be, or that the text is none.
 pub enum Count {
     Is(u32),
     Over,
-    Bad,
-}
-
-// A signed number read, or that the text is none or more than an `i32` holds.
-pub enum Number {
-    Is(i32),
     Bad,
 }
 
@@ -96,33 +112,13 @@ pub fn read_count(s: &[u8], most: u32) -> Count
     Count::Bad
 }
 
-// The number of that size below zero.
-fn below_zero(size: u32) -> i32
-    requires { ⌜ size ≤ 2147483648 ⌝ }
-    ensures { λ r. ⌜ r ≡ signedOf true size ⌝ }
-{
-    (0 - (size as i64)) as i32
-}
-
-// The number of digits that a dash stands before.
-fn read_minus(s: &[u8]) -> Number
-    ensures { λ r. ⌜ r ≡ onSide true (readCount (now (s .entry)) 2147483648) ⌝ }
+// The number of digits alone, on a side of 0.
+fn read_signed(s: &[u8], minus: bool) -> Number
+    ensures { λ r. ⌜ r ≡ onSide minus (readCount (now (s .entry)) 2147483648) ⌝ }
 {
     let read = read_count(s, 2147483648);
     match read {
-        Count::Is(size) => Number::Is(below_zero(size)),
-        Count::Over => Number::Bad,
-        Count::Bad => Number::Bad,
-    }
-}
-
-// The number of digits alone.
-fn read_plus(s: &[u8]) -> Number
-    ensures { λ r. ⌜ r ≡ onSide false (readCount (now (s .entry)) 2147483647) ⌝ }
-{
-    let read = read_count(s, 2147483647);
-    match read {
-        Count::Is(size) => Number::Is(size as i32),
+        Count::Is(size) => signed(size, minus),
         Count::Over => Number::Bad,
         Count::Bad => Number::Bad,
     }
@@ -136,9 +132,9 @@ pub fn read_number(s: &[u8]) -> Number
         return Number::Bad;
     }
     if s[0] == b'-' {
-        return read_minus(&s[1..]);
+        return read_signed(&s[1..], true);
     }
-    read_plus(s)
+    read_signed(s, false)
 }
 
 // What a hexadecimal digit stands for, a letter a small one; 16 for any other byte.

@@ -1,20 +1,19 @@
 -- `value`: so far every byte was a digit, v is the number they write, and v has at most i digits. Assumes nothing.
-use mathlib.Core.Path.{_≡_, refl, _∙_}
+use mathlib.Core.Path.{_≡_, refl, sym}
 use mathlib.Core.Bool.{true}
 use mathlib.Core.List.{List}
 use Prim.Native.Nat.{ℕ, _+_, _-_, _*_, _/_, _%_, _^_, _<_, _≤_}
 use native.Mathlib.Omega.{arith}
 use lib.Dec.{leb}
-use lib.ListN.{length, drop, getD, drop-of-length-le}
+use lib.ListN.{length, drop, getD}
 use denote.Ref.{now}
 use Rattle.laws.specs.Bytes.{digit0, digit9, isDigit}
 use Rattle.laws.specs.Lists.{every}
-use Rattle.laws.proofs.Tests.{within-yes}
-use Rattle.laws.proofs.Each.{every-more, every-not, every-end}
 use Rattle.lonlat.specs.declared.Size.the-variants.{Hundredths, NoDigit}
 use Rattle.numbers.specs.Numbers.{numberAfter, numberOf}
+use Rattle.numbers.proofs.Counts.{below-digit, above-digit, digit-more, digits-all, grown-more, grown-whole}
 use Rattle.lonlat.specs.Digits.{sizeOf}
-use Rattle.lonlat.proofs.Digits.{digit-below, digit-above, grows, seven, number-more, value-number, sixty-number}
+use Rattle.lonlat.proofs.Digits.{grows, seven, value-number, sixty-number}
 use Rattle.lonlat.proofs.value.Statement.{statement}
 use Rattle.lonlat.proofs.value.Tie as tie
 
@@ -24,25 +23,20 @@ Inv-loop t v₀ i₀ v i = (i ≤ length t) × (v < 10 ^ i) × (every isDigit t 
 abbrev μ-loop : tie.MeasureT-loop
 μ-loop t v₀ i₀ v i = length t - i
 
-module _ (t : List ℕ) (i : ℕ) (h : i < length t) (e : every isDigit t ≡ every isDigit (drop i t)) where
-  below : getD t i 0 < digit0 → NoDigit ≡ sizeOf t
+module _ (t : List ℕ) (i : ℕ) (e : every isDigit t ≡ every isDigit (drop i t)) where
+  below : i < length t → getD t i 0 < digit0 → NoDigit ≡ sizeOf t
   unfolding sizeOf
-  below k = rw (every-not isDigit 0 t i h (digit-below (getD t i 0) k) e)
+  below h k = rw (← below-digit t i e h k)
 
-  above : digit9 < getD t i 0 → NoDigit ≡ sizeOf t
+  above : i < length t → digit9 < getD t i 0 → NoDigit ≡ sizeOf t
   unfolding sizeOf
-  above k = rw (every-not isDigit 0 t i h (digit-above (getD t i 0) k) e)
+  above h k = rw (← above-digit t i e h k)
 
-  goes-on : digit0 ≤ getD t i 0 → getD t i 0 ≤ digit9 → every isDigit t ≡ every isDigit (drop (i + 1) t)
-  goes-on k l = every-more isDigit 0 t i h (within-yes digit0 digit9 (getD t i 0) k l) e
-
-ended : (t : List ℕ) (i v : ℕ) → 4 ≤ length t → length t ≤ i → every isDigit t ≡ every isDigit (drop i t) → numberOf t ≡ numberAfter v (drop i t)
-    → Hundredths (6000 * (v / 10000) + v % 10000) (leb 6000 (v % 10000)) ≡ sizeOf t
-unfolding sizeOf numberAfter
-ended t i v l h e n =
-    let d : every isDigit t ≡ true = every-end isDigit t i h e in
-    let m : numberOf t ≡ v = n ∙ rw (drop-of-length-le t h) in
-    rw (d, value-number t l d, sixty-number t l d, m)
+  ended : (v : ℕ) → 4 ≤ length t → length t ≤ i → numberOf t ≡ numberAfter v (drop i t) → Hundredths (6000 * (v / 10000) + v % 10000) (leb 6000 (v % 10000)) ≡ sizeOf t
+  unfolding sizeOf
+  ended v l h n =
+      let d : every isDigit t ≡ true = sym (digits-all t i e h) in
+      rw (d, value-number t l d, sixty-number t l d, grown-whole t i v n h)
 
 small : (l : tie.At-loop Inv-loop μ-loop) → l .loop .v < 10000000
 small l = seven (l .loop .v) (l .loop .i) (l .loop .inv .1) (omega arith)
@@ -83,7 +77,7 @@ loop-again c =
     let h : l .i < length t = omega arith in
     let low : digit0 ≤ getD t (l .i) 0 = omega arith in
     let high : getD t (l .i) 0 ≤ digit9 = omega arith in
-    (omega arith, grows (l .v) (l .i) (getD t (l .i) 0 - digit0) (l .inv .1) (omega arith), goes-on t (l .i) h (l .inv .2) low high, number-more t (l .i) (l .v) h (l .inv .3))
+    (omega arith, grows (l .v) (l .i) (getD t (l .i) 0 - digit0) (l .inv .1) (omega arith), digit-more t (l .i) (l .inv .2) h low high, grown-more t (l .i) (l .v) (l .inv .3) h)
 
 mul-t12 : tie.Need-mul-t12 Inv-loop μ-loop
 mul-t12 c = omega (arith, small (c .before))

@@ -12,23 +12,23 @@ returns c = search no-text
 shared-slice-read-if2 : tie.Need-shared-slice-read-if2
 shared-slice-read-if2 c = search needs
 
-sub-read-minus : tie.Need-sub-read-minus
-sub-read-minus c = search needs
+sub-read-signed : tie.Need-sub-read-signed
+sub-read-signed c = search needs
 
-part-read-minus-start : tie.Need-part-read-minus-start
-part-read-minus-start c = search needs
+part-read-signed-start : tie.Need-part-read-signed-start
+part-read-signed-start c = search needs
 
-part-read-minus-end : tie.Need-part-read-minus-end
-part-read-minus-end c = search needs
+part-read-signed-end : tie.Need-part-read-signed-end
+part-read-signed-end c = search needs
 
-read-minus-requires : tie.Need-read-minus-requires
-read-minus-requires c κs = search needs
+read-signed-requires : tie.Need-read-signed-requires
+read-signed-requires c κs = search needs
 
 returns-2 : tie.Need-returns-2
 returns-2 c = search (with-dash, part-to-end)
 
-read-plus-requires : tie.Need-read-plus-requires
-read-plus-requires c κs = search needs
+read-signed-requires-2 : tie.Need-read-signed-requires-2
+read-signed-requires-2 c κs = search needs
 
 returns-3 : tie.Need-returns-3
 returns-3 c = search without-dash
@@ -39,10 +39,10 @@ read-number-spec =
     (tie.spec
     returns
     shared-slice-read-if2
-    sub-read-minus
-    part-read-minus-start
-    part-read-minus-end
-    read-minus-requires
+    sub-read-signed
+    part-read-signed-start
+    part-read-signed-end
+    read-signed-requires
     returns-2
-    read-plus-requires
+    read-signed-requires-2
     returns-3)

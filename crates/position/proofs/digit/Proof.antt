@@ -1,6 +1,6 @@
 -- `digit`: the two ends of the digits. Assumes nothing.
 use mathlib.Core.Path.{sym}
-use Rattle.lonlat.proofs.Digits.{digit-below}
+use Rattle.numbers.proofs.Counts.{digit-below}
 use Rattle.position.proofs.Reading.{digit-high}
 use Rattle.position.proofs.digit.Statement.{statement}
 use Rattle.position.proofs.digit.Tie as tie
