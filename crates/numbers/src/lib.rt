@@ -1,4 +1,5 @@
-// Numbers: taken apart by their sign and put together again, read from text and put into a buffer as text, in decimal and in hexadecimal.
+// Numbers: taken apart by their sign and put together again, read from text and put into a buffer as text, in decimal and in
+// hexadecimal.
 ghost use mathlib.Core.Path.{_≡_};
 ghost use mathlib.Core.Bool.{true};
 ghost use Prim.Native.Nat.{_<_};
