@@ -1,6 +1,7 @@
 -- An address that is written reads back, and what is read from an address is in range.
 -- Assumes nothing.
 use mathlib.Core.Path.{_≡_, refl, ap, _∙_}
+use mathlib.Core.Logic.{_⊎_, inl, inr}
 use mathlib.Core.Bool.{Bool, true, false, cond, not, _&&_}
 use mathlib.Core.List.{List, [], _∷_, _++_, map}
 use Prim.Native.Nat.{ℕ, zero, suc, _+_, _-_, _*_, _/_, _%_, _<_, _≤_}
@@ -108,7 +109,34 @@ address-seven c field last z = go (eqb (length b) 7) refl (ap (λ (a : AddressRe
     go true e r = eqb-true (length b) 7 e
     go false e r = absurd (omega arith)
 
--- an address is accepted or refused with 3
+-- ---- refusals
+
+-- written: 15 where the callsign is out of range, and else 13 or nothing
+pub out-of-range : (c : Callsign) (field : Field) (last : Bool) → inRange c ≡ false → writeAddress c field last .refusal ≡ 15
+unfolding writeAddress unwrittenBy
+out-of-range c field last e = rw e
+
+packed-refusal : (cs : List ℕ) (s : ℕ) → (packedAs cs s .refusal ≡ 0) ⊎ (packedAs cs s .refusal ≡ 13)
+unfolding packedAs unwrittenBy
+packed-refusal cs s = go (ltb 6 (length cs)) (every isLetterOrDigit cs)
+  where
+    go : (p q : Bool)
+        → (cond p (unwrittenBy 13) (cond (not q) (unwrittenBy 13) (record { refusal = 0; bytes = map sent cs ++ replicate (6 - length cs) 64 ++ s ∷ [] })) .refusal ≡ 0)
+        ⊎ (cond p (unwrittenBy 13) (cond (not q) (unwrittenBy 13) (record { refusal = 0; bytes = map sent cs ++ replicate (6 - length cs) 64 ++ s ∷ [] })) .refusal ≡ 13)
+    go true q = inr refl
+    go false true = inl refl
+    go false false = inr refl
+
+number-refusal : (cs : List ℕ) (m : Number) (field : Field) (last : Bool) → (packedBy cs m field last .refusal ≡ 0) ⊎ (packedBy cs m field last .refusal ≡ 13)
+unfolding packedBy unwrittenBy
+number-refusal cs Unfit field last = inr refl
+number-refusal cs (Fits n) field last = packed-refusal cs (seventhOf field n last)
+
+pub within-range : (c : Callsign) (field : Field) (last : Bool) → inRange c ≡ true → (writeAddress c field last .refusal ≡ 0) ⊎ (writeAddress c field last .refusal ≡ 13)
+unfolding writeAddress
+within-range c field last e = rw e (number-refusal (callPart c) (ssidNumber (ssidPart c)) field last)
+
+-- read: 3 or nothing
 pub address-refusal : (s : List ℕ) → (readAddress s .refusal ≡ 0 → ⊥) → readAddress s .refusal ≡ 3
 unfolding readAddress addressRefused addressOf
 address-refusal s = go (eqb (length s) 7) (unpacked (take 6 s))

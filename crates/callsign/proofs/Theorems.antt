@@ -1,7 +1,8 @@
 -- What the definitions of a callsign amount to: read and written they agree, and what is read is in range.
 -- Assumes nothing.
 use mathlib.Core.Path.{_≡_, refl}
-use mathlib.Core.Bool.{Bool, true}
+use mathlib.Core.Logic.{_⊎_}
+use mathlib.Core.Bool.{Bool, true, false}
 use mathlib.Core.List.{List, [], _∷_}
 use Prim.Native.Nat.{ℕ}
 use Rattle.laws.specs.Bytes.{within, raised}
@@ -24,6 +25,13 @@ use Rattle.callsign.proofs.TextBack as text
 pub address-reads-back : (c : Callsign) (field : Field) (last : Bool) → writeAddress c field last .refusal ≡ 0
     → readAddress (writeAddress c field last .bytes) ≡ address-as (address.inAddress c) (heardIn field) last
 address-reads-back = address.address-back
+
+-- an address is refused with 15 exactly where its callsign is out of range; one in range is written, or refused with 13
+pub address-out-of-range : (c : Callsign) (field : Field) (last : Bool) → inRange c ≡ false → writeAddress c field last .refusal ≡ 15
+address-out-of-range = address.out-of-range
+
+pub address-within-range : (c : Callsign) (field : Field) (last : Bool) → inRange c ≡ true → (writeAddress c field last .refusal ≡ 0) ⊎ (writeAddress c field last .refusal ≡ 13)
+address-within-range = address.within-range
 
 -- whatever is read of an address is in range
 pub address-is-in-range : (b : List ℕ) → inRange (readAddress b .call) ≡ true

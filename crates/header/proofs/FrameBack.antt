@@ -26,7 +26,7 @@ use Rattle.header.specs.Frame.{pair, startsWithPair, addressHop, address
 use Rattle.header.specs.Range.{headerInRange, frameRefusal}
 use Rattle.header.proofs.InRange.{route-count}
 use Rattle.header.proofs.Frames.{destination-read}
-use Rattle.header.proofs.Sent.{first-none, hops-length}
+use Rattle.header.proofs.FrameWritten.{first-none, hops-length}
 
 -- a hop as its address holds it: "Frames keep each heard bit as it is."
 unfoldable pub inFrame : Hop → Hop

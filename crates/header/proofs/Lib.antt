@@ -2,14 +2,13 @@ pub mod Stars
 pub mod Going
 pub mod TextHops
 pub mod Heads
-pub mod Built
-pub mod Calls
 pub mod InRange
+pub mod Pieces
+pub mod Putting
 pub mod TextWritten
-pub mod Bounds
+pub mod FrameWritten
 pub mod FrameHops
 pub mod Frames
-pub mod Sent
 pub mod Walks
 pub mod Answers
 pub mod FrameBack

@@ -16,7 +16,7 @@ use Rattle.laws.proofs.Tests.{or-neither}
 use Rattle.callsign.specs.Range.{textOf, withStar}
 use Rattle.header.specs.declared.Hop.{Hop}
 use Rattle.header.specs.Text.{anyHeard, carried, hopsText}
-use Rattle.header.specs.Written.{heardUpTo}
+use Rattle.header.specs.Private.{heardUpTo}
 
 -- ---- reading: what the array holds with the hops from i to n done
 

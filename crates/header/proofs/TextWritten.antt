@@ -1,178 +1,140 @@
--- A header put into the text: source, `>`, destination, and each hop after a comma, the last heard one starred.
+-- The pieces of a header's text: their bytes are the text, the greatest refusal is the header's, and they take at most 178 bytes.
 -- Assumes nothing.
 use mathlib.Core.Path.{_≡_, refl, sym, ap, _∙_}
-use mathlib.Core.Bool.{Bool, true, false, not, _&&_}
+use mathlib.Core.Bool.{Bool, true, false, not, cond, _&&_}
 use mathlib.Core.List.{List, [], _∷_, _++_, append-assoc}
-use Prim.Native.Nat.{ℕ, _+_, _*_, _<_, _≤_}
-use native.Mathlib.Numerals.{add-one}
+use Prim.Native.Nat.{ℕ, _*_, _≤_, max}
 use native.Mathlib.Omega.{arith}
-use mir.Val.{Fits}
-use mir.Syntax.{w64}
 use lib.Dec.{eqb}
-use lib.ListN.{length, take, getD, set, length-set, length-append}
-use lib.Seq.{slice, slice-cons, slice-empty, getD-take, length-take-le}
-use Rattle.laws.specs.Bytes.{comma, greater}
+use borrow.Author.Tests.{not-true}
+use lib.ListN.{length, take, length-take}
+use Rattle.laws.specs.Bytes.{comma, colon, greater}
 use Rattle.laws.specs.Lists.{every}
-use Rattle.callsign.specs.Range.{inRange, textOf, withStar}
+use Rattle.buffer.specs.declared.Answer.{Answer}
+use Rattle.buffer.specs.Wrote.{Wrote, ends, refusedBy, wrote}
+use Rattle.buffer.proofs.Wrote.{passed-on}
+use Rattle.callsign.specs.declared.Callsign.{Callsign}
+use Rattle.callsign.specs.Range.{inRange, rangeRefusal, textOf, withStar}
 use Rattle.callsign.proofs.Ranges.{text-short, star-short}
 use Rattle.header.specs.declared.Hop.{Hop}
 use Rattle.header.specs.declared.Header.{Header}
 use Rattle.header.specs.Header.{hopsOf}
-use Rattle.header.specs.Range.{hopInRange, headerInRange}
-use Rattle.header.specs.Text.{anyHeard, hopsText, routeText}
-use Rattle.header.specs.Written.{Filled, filled, added, heardUpTo}
-use Rattle.header.proofs.Stars.{star-at}
-use Rattle.header.proofs.Built.{added-added, added-none, added-length, added-len, added-byte}
-use Rattle.header.proofs.InRange.{hop-fine, from-fine, to-fine}
+use Rattle.header.specs.Text.{anyHeard, hopsText, routeText, headerText}
+use Rattle.header.specs.Range.{hopInRange, headerInRange, textRefusal}
+use Rattle.header.specs.Private.{Building, isTidy, building, plain, callPiece, withPiece, withPieces, endPieces, hopPieces, textPieces}
+use Rattle.header.proofs.Pieces.{bytesOf, greatest, sizeOf, sizes, bytes-append, greatest-append, sizes-append, sizes-accepted, put-out}
+use Rattle.header.proofs.Putting.{all-put}
+use Rattle.header.proofs.InRange.{tidy-count, judged-tidy, path-tidy, untidy-out, tidy-range}
 
--- i of the hops are put, and at is the place behind them
-pub record Putting (text₀ : List ℕ) (from : ℕ) (hops : List Hop) (n : ℕ) (text : List ℕ) (at i : ℕ) : Type 0 where
-  pub few : n ≤ 8
-  pub up : i ≤ n
-  pub small : at ≤ from + 18 * i
-  pub whole : length text ≡ length text₀
-  pub rest : added (filled text₀ from) (hopsText (take n hops)) ≡ added (filled text at) (hopsText (slice i n hops))
+-- ---- refusals
 
-pub putting-start : (text₀ : List ℕ) (from : ℕ) (hops : List Hop) (n : ℕ) → n ≤ 8 → Putting text₀ from hops n text₀ from 0
-putting-start text₀ from hops n k = record { few = k; up = omega arith; small = omega arith; whole = refl; rest = refl }
+hops-judged : (l : List Hop) → greatest (hopPieces l) ≡ cond (every hopInRange l) 0 15
+unfolding hopPieces greatest every rangeRefusal
+hops-judged [] = refl
+hops-judged (h ∷ l) = go (inRange (h .call)) (every hopInRange l) (hops-judged l)
+  where
+    go : (a b : Bool) → greatest (hopPieces l) ≡ cond b 0 15 → max 0 (max (cond a 0 15) (greatest (hopPieces l))) ≡ cond (a && b) 0 15
+    go true true e = omega arith
+    go true false e = omega arith
+    go false true e = omega arith
+    go false false e = omega arith
 
-module _ (text₀ : List ℕ) (from : ℕ) (hops : List Hop) (n : ℕ) (text : List ℕ) (at i : ℕ) (d : Hop) (last : ℕ)
-    (e : every hopInRange (take n hops) ≡ true) (f : length hops ≡ 8) (g : Putting text₀ from hops n text at i) (lt : i < n) (room : from + 144 ≤ length text₀)
-    (el : last ≡ heardUpTo (take n hops)) where
-  abbrev hop : Hop
-  hop = getD hops i d
+pub text-judged : (h : Header) → isTidy (h .path) ≡ true → greatest (textPieces h) ≡ textRefusal h
+unfolding textPieces greatest textRefusal rangeRefusal
+text-judged h e =
+    rw (tidy-range h e)
+    (go (inRange (h .from)) (inRange (h .to)) (every hopInRange (hopsOf (h .path))) (hops-judged (hopsOf (h .path))) (greatest-append (hopPieces (hopsOf (h .path))) (plain (colon ∷ []) ∷ [])))
+  where
+    go : (a b d : Bool) → greatest (hopPieces (hopsOf (h .path))) ≡ cond d 0 15
+        → greatest (hopPieces (hopsOf (h .path)) ++ plain (colon ∷ []) ∷ []) ≡ max (greatest (hopPieces (hopsOf (h .path)))) 0
+        → max (cond a 0 15) (max 0 (max (cond b 0 15) (greatest (hopPieces (hopsOf (h .path)) ++ plain (colon ∷ []) ∷ [])))) ≡ cond (a && (b && d)) 0 15
+    go true true true p q = omega arith
+    go true true false p q = omega arith
+    go true false true p q = omega arith
+    go true false false p q = omega arith
+    go false true true p q = omega arith
+    go false true false p q = omega arith
+    go false false true p q = omega arith
+    go false false false p q = omega arith
 
-  abbrev T : List ℕ
-  T = withStar (textOf (hop .call)) (eqb (i + 1) last)
+-- ---- bytes
 
-  pub call-fine : inRange (getD hops i d .call) ≡ true
-  call-fine = hop-fine hops n i d (g .few) f e lt
+hops-spelled : (l : List Hop) → bytesOf (hopPieces l) ≡ hopsText l
+unfolding hopPieces bytesOf hopsText
+hops-spelled [] = refl
+hops-spelled (h ∷ l) = ap (λ (x : List ℕ). comma ∷ (withStar (textOf (h .call)) (h .heard && not (anyHeard l)) ++ x)) (hops-spelled l)
 
-  short : (starred : Bool) → length (withStar (textOf (hop .call)) starred) ≤ 17
-  short starred = star-short (hop .call) starred call-fine
+pub text-spelled : (h : Header) → bytesOf (textPieces h) ≡ headerText h
+unfolding textPieces bytesOf withStar headerText routeText
+text-spelled h =
+    let hops = hopsText (hopsOf (h .path)) in
+    rw (bytes-append (hopPieces (hopsOf (h .path))) (plain (colon ∷ []) ∷ []), hops-spelled (hopsOf (h .path)))
+    (sym (append-assoc (textOf (h .from)) (greater ∷ (textOf (h .to) ++ hops)) (colon ∷ [])
+    ∙ ap (λ (x : List ℕ). textOf (h .from) ++ greater ∷ x) (append-assoc (textOf (h .to)) hops (colon ∷ []))))
 
-  pub comma-room : at < length text
-  comma-room = let k = g .few in let m = g .small in let w = g .whole in omega arith
+-- ---- how many
 
-  pub call-room : (starred : Bool) → at + 1 + length (withStar (textOf (getD hops i d .call)) starred) ≤ length (set text at comma)
-  call-room starred = let k = g .few in let m = g .small in let w = g .whole in let y = short starred in rw length-set (omega arith)
+plain-size : (l : List ℕ) → sizeOf (plain l) ≡ length l
+unfolding sizeOf
+plain-size l = refl
 
-  -- the hop at i is starred where it is the last heard one
-  starred : eqb (i + 1) last ≡ (hop .heard && not (anyHeard (slice (i + 1) n hops)))
-  starred =
-      let k = g .few in
-      let m : length (take n hops) ≡ n = length-take-le n hops (omega arith) in
-      rw (el, add-one) (star-at (take n hops) i d (omega arith) ∙ rw (getD-take n hops i d lt))
+call-size : (c : Callsign) → sizeOf (callPiece c false) ≤ 16
+unfolding sizeOf withStar rangeRefusal
+call-size c = go (inRange c) refl
+  where
+    go : (b : Bool) → inRange c ≡ b → cond (eqb (cond b 0 15) 0) (length (textOf c)) 0 ≤ 16
+    go true e = text-short c e
+    go false e = omega arith
 
-  spelled : hopsText (slice i n hops) ≡ comma ∷ (T ++ hopsText (slice (i + 1) n hops))
-  unfolding hopsText
-  spelled = let k = g .few in rw (slice-cons i n hops d lt (omega arith), starred, add-one)
+starred-size : (c : Callsign) (starred : Bool) → sizeOf (callPiece c starred) ≤ 17
+unfolding sizeOf rangeRefusal
+starred-size c starred = go (inRange c) refl
+  where
+    go : (b : Bool) → inRange c ≡ b → cond (eqb (cond b 0 15) 0) (length (withStar (textOf c) starred)) 0 ≤ 17
+    go true e = star-short c starred e
+    go false e = omega arith
 
-  pub putting-more : (text′ : List ℕ) (at′ : ℕ) → filled text′ at′ ≡ added (filled (set text at comma) (at + 1)) (withStar (textOf (getD hops i d .call)) (eqb (i + 1) last))
-      → Putting text₀ from hops n text′ at′ (i + 1)
-  putting-more text′ at′ q =
-      let k = g .few in
-      let m = g .small in
-      let w = g .whole in
-      let y = short (eqb (i + 1) last) in
-      let c = comma-room in
-      let R : List ℕ = hopsText (slice (i + 1) n hops) in
-      let b : filled (set text at comma) (at + 1) ≡ added (filled text at) (comma ∷ []) = added-byte text at comma c in
-      let r : filled text′ at′ ≡ added (filled text at) (comma ∷ T) = q ∙ rw b (added-added (filled text at) (comma ∷ []) T (omega arith)) in
-      let v : at′ ≡ at + length (comma ∷ T) = ap (λ (x : Filled). x .len) r ∙ added-len (filled text at) (comma ∷ T) in
-      let s : length text′ ≡ length text = ap (λ (x : Filled). length (x .bytes)) r ∙ added-length (filled text at) (comma ∷ T) (omega arith) in
-      record {
-        few = k;
-        up = omega arith;
-        small = omega arith;
-        whole = s ∙ w;
-        rest = g .rest ∙ rw spelled (sym (rw r (added-added (filled text at) (comma ∷ T) R (omega arith))));
-      }
+hops-size : (l : List Hop) → sizes (hopPieces l) ≤ 18 * length l
+unfolding hopPieces sizes
+hops-size [] = omega arith
+hops-size (h ∷ l) =
+    let a = starred-size (h .call) (h .heard && not (anyHeard l)) in
+    let b = hops-size l in
+    let d : sizeOf (plain (comma ∷ [])) ≡ 1 = plain-size (comma ∷ []) in
+    omega arith
 
-pub putting-done : (text₀ : List ℕ) (from : ℕ) (hops : List Hop) (n : ℕ) (text : List ℕ) (at i : ℕ) → Putting text₀ from hops n text at i → n ≤ i → from + 144 ≤ length text₀
-    → filled text at ≡ added (filled text₀ from) (hopsText (take n hops))
-unfolding hopsText
-putting-done text₀ from hops n text at i g h room =
-    let k = g .few in
-    let u = g .up in
-    let q : i ≡ n = omega arith in
-    let m = g .small in
-    let w = g .whole in
-    added-none (filled text at) (omega arith) ∙ sym (g .rest ∙ rw (q, slice-empty))
+pub text-size : (h : Header) → isTidy (h .path) ≡ true → sizes (textPieces h) ≤ 178
+unfolding textPieces sizes sizeOf hopsOf
+text-size h e =
+    let m = tidy-count (h .path) e in
+    let k = length-take (h .path .count) (h .path .hops) in
+    let a = call-size (h .from) in
+    let b = call-size (h .to) in
+    let d = hops-size (hopsOf (h .path)) in
+    let f = sizes-append (hopPieces (hopsOf (h .path))) (plain (colon ∷ []) ∷ []) in
+    omega arith
 
--- ---- source, `>` and destination before them
+-- a header in range is at most 178 bytes of text
+pub text-bound : (h : Header) → headerInRange h ≡ true → length (headerText h) ≤ 178
+unfolding textRefusal
+text-bound h e =
+    let t = path-tidy h e in
+    let z : greatest (textPieces h) ≡ 0 = text-judged h t ∙ rw e in
+    rw (← text-spelled h) (omega (arith, sizes-accepted (textPieces h) z, text-size h t))
 
-module _ (h : Header) (v : List ℕ) (e : headerInRange h ≡ true) (room : 177 ≤ length v) where
-  pub from-room : 0 + length (withStar (textOf (h .from)) false) ≤ length v
-  from-room = let x = star-short (h .from) false (from-fine h e) in omega arith
+-- ---- the writer's answers
 
-  module _ (t : List ℕ) (g : ℕ) (q : filled t g ≡ added (filled v 0) (withStar (textOf (h .from)) false)) where
-    first : filled t g ≡ added (filled v 0) (textOf (h .from))
-    unfolding withStar
-    first = q
+pub text-put : (h : Header) (b b₁ b₂ b₃ : Building) → b₁ ≡ withPieces b (endPieces (h .from) (h .to)) → b₂ ≡ withPieces b₁ (hopPieces (take (h .path .count) (h .path .hops)))
+    → b₃ ≡ withPiece b₂ (plain (colon ∷ [])) → b₃ ≡ withPieces b (textPieces h)
+unfolding textPieces hopsOf
+text-put h b b₁ b₂ b₃ = all-put b b₁ b₂ b₃ (endPieces (h .from) (h .to)) (hopPieces (hopsOf (h .path))) (plain (colon ∷ []))
 
-    ends-at : g ≡ length (textOf (h .from))
-    ends-at = let x : g ≡ 0 + length (textOf (h .from)) = ap (λ (f : Filled). f .len) first ∙ added-len (filled v 0) (textOf (h .from)) in omega arith
+pub text-untidy : (u : Bool) (h : Header) (r : Answer) (out : List ℕ) → u ≡ isTidy (h .path) → not u ≡ true → r ≡ refusedBy 15 → ends r out ≡ wrote (textRefusal h) (headerText h) out
+unfolding textRefusal
+text-untidy u h r out e t q = passed-on r 15 (textRefusal h) (headerText h) out q (λ z. omega arith) (rw (untidy-out h (sym e ∙ not-true u t)))
 
-    early : g ≤ 16
-    early = let x = text-short (h .from) (from-fine h e) in let y = ends-at in omega arith
-
-    long : length t ≡ length v
-    long = let x = text-short (h .from) (from-fine h e) in ap (λ (f : Filled). length (f .bytes)) first ∙ added-length (filled v 0) (textOf (h .from)) (omega arith)
-
-    pub greater-room : g < length t
-    greater-room = let x = early in let y = long in omega arith
-
-    pub greater-fits : Fits w64 (g + 1)
-    greater-fits = let x = early in record { fits = omega arith }
-
-    pub to-room : g + 1 + length (withStar (textOf (h .to)) false) ≤ length (set t g greater)
-    to-room = let x = early in let y = long in let z = star-short (h .to) false (to-fine h e) in rw length-set (omega arith)
-
-    module _ (t′ : List ℕ) (d : ℕ) (q′ : filled t′ d ≡ added (filled (set t g greater) (g + 1)) (withStar (textOf (h .to)) false)) where
-      abbrev two : List ℕ
-      two = textOf (h .from) ++ (greater ∷ textOf (h .to))
-
-      second : filled t′ d ≡ added (filled v 0) two
-      unfolding withStar
-      second =
-          let x = early in
-          let y = long in
-          let z = text-short (h .to) (to-fine h e) in
-          let w = ends-at in
-          q′
-          ∙ ap (λ (f : Filled). added f (textOf (h .to))) (added-byte t g greater greater-room)
-          ∙ added-added (filled t g) (greater ∷ []) (textOf (h .to)) (omega arith)
-          ∙ ap (λ (f : Filled). added f (greater ∷ textOf (h .to))) first
-          ∙ added-added (filled v 0) (textOf (h .from)) (greater ∷ textOf (h .to)) (omega arith)
-
-      size : length two ≡ g + 1 + length (textOf (h .to))
-      size = let w = ends-at in length-append (textOf (h .from)) (greater ∷ textOf (h .to)) ∙ omega arith
-
-      later : d ≤ 33
-      later =
-          let x : d ≡ 0 + length two = ap (λ (f : Filled). f .len) second ∙ added-len (filled v 0) two in
-          let y = size in
-          let z = text-short (h .to) (to-fine h e) in
-          let w = early in
-          omega arith
-
-      pub hops-room : d + 144 ≤ length t′
-      hops-room =
-          let x = later in
-          let y = size in
-          let z = text-short (h .to) (to-fine h e) in
-          let w = early in
-          let s : length t′ ≡ length v = ap (λ (f : Filled). length (f .bytes)) second ∙ added-length (filled v 0) two (omega arith) in
-          omega arith
-
-      pub route-put : (t″ : List ℕ) (r : ℕ) → filled t″ r ≡ added (filled t′ d) (hopsText (take (h .path .count) (h .path .hops))) → filled t″ r ≡ added (filled v 0) (routeText h)
-      unfolding routeText hopsOf
-      route-put t″ r q″ =
-          let y = size in
-          let z = text-short (h .to) (to-fine h e) in
-          let w = early in
-          q″
-          ∙ ap (λ (f : Filled). added f (hopsText (take (h .path .count) (h .path .hops)))) second
-          ∙ added-added (filled v 0) two (hopsText (take (h .path .count) (h .path .hops))) (omega arith)
-          ∙ ap (added (filled v 0)) (append-assoc (textOf (h .from)) (greater ∷ textOf (h .to)) (hopsText (take (h .path .count) (h .path .hops))))
+pub text-out : (u : Bool) (h : Header) (v t : List ℕ) (r n : ℕ) (w : Wrote) (out : List ℕ) → u ≡ isTidy (h .path) → not u ≡ false → building r t n ≡ withPieces (building 0 v 0) (textPieces h)
+    → 178 ≤ length v → w ≡ wrote r (take n t) out → w ≡ wrote (textRefusal h) (headerText h) out
+text-out u h v t r n w out e k q room p =
+    let s = judged-tidy u (h .path) e k in
+    put-out v t r n (textPieces h) q (omega (arith, text-size h s)) w out p ∙ rw (text-judged h s, text-spelled h)

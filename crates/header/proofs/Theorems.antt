@@ -20,8 +20,8 @@ use Rattle.header.specs.Text.{onFirst, fields, isQ, hopOf, readHop, hopT
 use Rattle.header.specs.Frame.{readFrameHeader, headerFrame}
 use Rattle.header.specs.Range.{headerInRange, frameRefusal}
 use Rattle.header.proofs.Stars.{starredLast, eachText, written-stars, carried-starred, carried-twice}
-use Rattle.header.proofs.Bounds as bounds
-use Rattle.header.proofs.Sent as sent
+use Rattle.header.proofs.TextWritten as text
+use Rattle.header.proofs.FrameWritten as frame
 use Rattle.header.proofs.Walks.{InText, InFrame}
 use Rattle.header.proofs.Answers.{text-answered, frame-answered, answered-range, answered-body, answered-number, answered-blank}
 use Rattle.header.proofs.FrameBack.{inFrame, frame-back}
@@ -62,10 +62,10 @@ frame-refused-blank s = answered-blank InFrame s (frame-answered s)
 -- ---- how long a written header is
 
 pub text-at-most-178 : (h : Header) → headerInRange h ≡ true → length (headerText h) ≤ 178
-text-at-most-178 = bounds.text-bound
+text-at-most-178 = text.text-bound
 
 pub frame-at-most-72 : (h : Header) → frameRefusal h ≡ 0 → length (headerFrame h) ≤ 72
-frame-at-most-72 = sent.frame-bound
+frame-at-most-72 = frame.frame-bound
 
 -- ---- stars
 

@@ -2,4 +2,4 @@ pub mod Header
 pub mod Text
 pub mod Frame
 pub mod Range
-pub mod Written
+pub mod Private

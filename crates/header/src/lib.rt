@@ -1,19 +1,18 @@
 // The header of a packet: source, destination, up to eight hops, and where the body starts; of a line of text and of an
 // AX.25 frame, read and written.
 ghost use mathlib.Core.Path.{_≡_};
-ghost use mathlib.Core.Bool.{true, _||_};
-ghost use mathlib.Core.List.{[], _∷_, _++_};
-ghost use Prim.Native.Nat.{_+_, _≤_};
+ghost use mathlib.Core.Bool.{_||_};
+ghost use mathlib.Core.List.{_++_};
+ghost use Prim.Native.Nat.{_≤_, max};
 ghost use lib.ListN.{length, take, drop};
 ghost use Rattle.laws.specs.Lists.{every};
 ghost use Rattle.buffer.specs.Wrote.{ends, wrote};
-ghost use Rattle.callsign.specs.Range.{inRange, textLen, textOf, withStar};
 ghost use Rattle.callsign.specs.Packed.{writeAddress};
 ghost use Rattle.header.specs.Header.{blankHop, blankHeader, headerRefused, pathRead, refused};
-ghost use Rattle.header.specs.Text.{fields, isQ, readHop, textHops, carried, carriedBack, withPath, readRoute, readBefore, readTextHeader, hopsText, routeText, headerText};
-ghost use Rattle.header.specs.Frame.{frameHops, withPair, readSource, readFrameHeader, hopAddresses, addresses, headerFrame};
-ghost use Rattle.header.specs.Range.{hopInRange, isBlank, pathInRange, headerInRange, textRefusal, frameRefusal};
-ghost use Rattle.header.specs.Written.{filled, added, placed, addedAll, heardUpTo};
+ghost use Rattle.header.specs.Text.{fields, isQ, readHop, textHops, carried, carriedBack, withPath, readRoute, readBefore, readTextHeader, headerText};
+ghost use Rattle.header.specs.Frame.{frameHops, withPair, readSource, readFrameHeader, headerFrame};
+ghost use Rattle.header.specs.Range.{isBlank, textRefusal, frameRefusal};
+ghost use Rattle.header.specs.Private.{isTidy, building, plain, callPiece, addressPiece, withPiece, withPieces, heardUpTo, endPieces, hopPieces, textPieces, endAddressPieces, hopAddressPieces, framePieces};
 use callsign::Callsign;
 use callsign::Field;
 
@@ -386,7 +385,7 @@ pub fn read_frame(s: &[u8]) -> HeaderRead
     read_source(destination, s)
 }
 
-// ---- the range
+// ---- which paths can be written
 
 // A hop with nothing in it, and not heard.
 fn is_blank(h: Hop) -> bool
@@ -397,23 +396,6 @@ fn is_blank(h: Hop) -> bool
     }
     let call = h.call;
     callsign::is_blank(call)
-}
-
-// Whether the callsigns of the first n hops are in range.
-fn calls_in_range(hops: [Hop; 8], n: usize) -> bool
-    requires { ⌜ n ≤ 8 ⌝ }
-    ensures { λ r. ⌜ r ≡ every hopInRange (take n hops) ⌝ }
-{
-    let mut i: usize = 0;
-    while i < n {
-        let h = hops[i];
-        let call = h.call;
-        if !callsign::in_range(call) {
-            return false;
-        }
-        i += 1;
-    }
-    true
 }
 
 // Whether the hops from n on are blank.
@@ -432,35 +414,84 @@ fn spare_blank(hops: [Hop; 8], n: usize) -> bool
     true
 }
 
-fn path_in_range(p: Path) -> bool
-    ensures { λ r. ⌜ r ≡ pathInRange p ⌝ }
+// Whether a path has at most eight hops, and nothing in the spare ones.
+fn is_tidy(p: Path) -> bool
+    ensures { λ r. ⌜ r ≡ isTidy p ⌝ }
 {
     let n = p.count;
     if 8 < n {
         return false;
     }
     let hops = p.hops;
-    if calls_in_range(hops, n) {
-        spare_blank(hops, n)
-    } else {
-        false
+    spare_blank(hops, n)
+}
+
+// ---- pieces put into a scratch array, each judged by its own writer
+
+// The place behind the pieces that are put, and the greatest refusal of their writers or 0: 15 counts before 13.
+struct Put {
+    at: usize,
+    refusal: u8,
+}
+
+fn greater(a: u8, b: u8) -> u8
+    ensures { λ r. ⌜ r ≡ max a b ⌝ }
+{
+    if a < b { b } else { a }
+}
+
+// Puts bytes that nothing refuses.
+fn put_bytes(p: Put, s: &[u8], scratch: &mut [u8]) -> Put
+    requires { ⌜ p .at ≤ length (now scratch) ⌝ }
+    ensures { λ r. ⌜ building (r .refusal) (now (scratch .exit)) (r .at) ≡ withPiece (building (p .refusal) (now (scratch .entry)) (p .at)) (plain (now (s .entry))) ⌝ }
+{
+    let at = p.at;
+    let w = buffer::write(s, &mut scratch[at..]);
+    Put {
+        at: at + w.reported,
+        refusal: greater(p.refusal, w.refusal),
     }
 }
 
-// Whether a header is in range: at most eight hops, every callsign in range, the spare hops blank.
-pub fn in_range(h: Header) -> bool
-    ensures { λ r. ⌜ r ≡ headerInRange h ⌝ }
+// Puts a callsign's text, with a star behind it where starred.
+fn put_call(p: Put, c: Callsign, starred: bool, scratch: &mut [u8]) -> Put
+    requires { ⌜ p .at ≤ length (now scratch) ⌝ }
+    ensures { λ r. ⌜ building (r .refusal) (now (scratch .exit)) (r .at) ≡ withPiece (building (p .refusal) (now (scratch .entry)) (p .at)) (callPiece c starred) ⌝ }
 {
-    let from = h.from;
-    if !callsign::in_range(from) {
-        return false;
+    let at = p.at;
+    let w = callsign::write_text(c, starred, &mut scratch[at..]);
+    Put {
+        at: at + w.reported,
+        refusal: greater(p.refusal, w.refusal),
     }
-    let to = h.to;
-    if !callsign::in_range(to) {
-        return false;
+}
+
+// Puts a callsign's address.
+fn put_address(p: Put, c: Callsign, field: Field, last: bool, scratch: &mut [u8]) -> Put
+    requires { ⌜ p .at ≤ length (now scratch) ⌝ }
+    ensures { λ r. ⌜ building (r .refusal) (now (scratch .exit)) (r .at) ≡ withPiece (building (p .refusal) (now (scratch .entry)) (p .at)) (addressPiece (writeAddress c field last)) ⌝ }
+{
+    let a = callsign::write_address(c, field, last);
+    if a.refusal != 0 {
+        return Put {
+            at: p.at,
+            refusal: greater(p.refusal, a.refusal),
+        };
     }
-    let path = h.path;
-    path_in_range(path)
+    let seven = a.bytes;
+    put_bytes(p, &seven, scratch)
+}
+
+// Writes what is put, unless a piece of it was refused.
+fn write_put(p: Put, scratch: &[u8], out: &mut [u8]) -> buffer::Answer
+    requires { ⌜ p .at ≤ length (now scratch) ⌝ }
+    ensures { λ r. ⌜ ends r (now (out .exit)) ≡ wrote (p .refusal) (take (p .at) (now (scratch .entry))) (now (out .entry)) ⌝ }
+{
+    if p.refusal != 0 {
+        return buffer::refused(p.refusal);
+    }
+    let n = p.at;
+    buffer::write(&scratch[..n], out)
 }
 
 // ---- a line of text written
@@ -482,169 +513,114 @@ fn heard_up_to(hops: [Hop; 8], n: usize) -> usize
     last
 }
 
-// How many bytes a callsign in range takes.
-fn text_len(c: Callsign) -> usize
-    requires { ⌜ inRange c ≡ true ⌝ }
-    ensures { λ r. ⌜ r ≡ textLen c ⌝ }
-{
-    let k = c.ssid_len;
-    if k == 0 {
-        return c.call_len;
-    }
-    c.call_len + 1 + k
-}
-
-// Writes a callsign that is in range, which is not judged again.
-fn write_call(c: Callsign, starred: bool, out: &mut [u8]) -> buffer::Answer
-    requires { ⌜ inRange c ≡ true ⌝ }
-    ensures { λ r. ⌜ ends r (now (out .exit)) ≡ wrote 0 (withStar (textOf c) starred) (now (out .entry)) ⌝ }
-{
-    let n = text_len(c);
-    let text = c.text;
-    if starred {
-        buffer::write_two(17, &text[..n], b"*", out)
-    } else {
-        buffer::write(&text[..n], out)
-    }
-}
-
-// Puts a callsign at a place of the text, and answers the place behind it.
-fn put_call(c: Callsign, starred: bool, text: &mut [u8], at: usize) -> usize
-    requires { ⌜ (inRange c ≡ true) × (at + length (withStar (textOf c) starred) ≤ length (now text)) ⌝ }
-    ensures { λ r. ⌜ filled (now (text .exit)) r ≡ added (filled (now (text .entry)) at) (withStar (textOf c) starred) ⌝ }
-{
-    let w = write_call(c, starred, &mut text[at..]);
-    at + w.reported
-}
-
 // Puts each of the first n hops after a comma, with a star after the last that was heard.
-fn put_hops(hops: [Hop; 8], n: usize, text: &mut [u8], from: usize) -> usize
-    requires { ⌜ (n ≤ 8) × (every hopInRange (take n hops) ≡ true) × (from + 144 ≤ length (now text)) ⌝ }
-    ensures { λ r. ⌜ filled (now (text .exit)) r ≡ added (filled (now (text .entry)) from) (hopsText (take n hops)) ⌝ }
+fn put_hops(p: Put, hops: [Hop; 8], n: usize, scratch: &mut [u8]) -> Put
+    requires { ⌜ (n ≤ 8) × (p .at ≤ length (now scratch)) ⌝ }
+    ensures { λ r. ⌜ building (r .refusal) (now (scratch .exit)) (r .at) ≡ withPieces (building (p .refusal) (now (scratch .entry)) (p .at)) (hopPieces (take n hops)) ⌝ }
 {
     let last = heard_up_to(hops, n);
-    let mut at = from;
+    let mut done = p;
     let mut i: usize = 0;
     while i < n {
         let h = hops[i];
         let call = h.call;
         i += 1;
-        text[at] = b',';
-        at = put_call(call, i == last, text, at + 1);
+        let comma = put_bytes(done, b",", scratch);
+        done = put_call(comma, call, i == last, scratch);
     }
-    at
+    done
 }
 
-// Puts all of a header but its colon at the front of the text.
-fn put_route(h: Header, text: &mut [u8]) -> usize
-    requires { ⌜ (headerInRange h ≡ true) × (177 ≤ length (now text)) ⌝ }
-    ensures { λ r. ⌜ filled (now (text .exit)) r ≡ added (filled (now (text .entry)) 0) (routeText h) ⌝ }
+// Puts source and destination, with `>` between them.
+fn put_ends(from: Callsign, to: Callsign, scratch: &mut [u8]) -> Put
+    ensures { λ r. ⌜ building (r .refusal) (now (scratch .exit)) (r .at) ≡ withPieces (building 0 (now (scratch .entry)) 0) (endPieces from to) ⌝ }
+{
+    let start = Put { at: 0, refusal: 0 };
+    let source = put_call(start, from, false, scratch);
+    let mark = put_bytes(source, b">", scratch);
+    put_call(mark, to, false, scratch)
+}
+
+// Puts a header as text, with its colon.
+fn put_text(h: Header, scratch: &mut [u8]) -> Put
+    requires { ⌜ h .path .count ≤ 8 ⌝ }
+    ensures { λ r. ⌜ building (r .refusal) (now (scratch .exit)) (r .at) ≡ withPieces (building 0 (now (scratch .entry)) 0) (textPieces h) ⌝ }
 {
     let from = h.from;
     let to = h.to;
     let path = h.path;
     let hops = path.hops;
     let n = path.count;
-    let g = put_call(from, false, text, 0);
-    text[g] = b'>';
-    let d = put_call(to, false, text, g + 1);
-    put_hops(hops, n, text, d)
+    let ends = put_ends(from, to, scratch);
+    let route = put_hops(ends, hops, n, scratch);
+    put_bytes(route, b":", scratch)
 }
 
 // Writes a header as text, with its colon; refused with 15 or 16.
 pub fn write_text(h: Header, out: &mut [u8]) -> buffer::Answer
     ensures { λ r. ⌜ ends r (now (out .exit)) ≡ wrote (textRefusal h) (headerText h) (now (out .entry)) ⌝ }
 {
-    if !in_range(h) {
+    let path = h.path;
+    if !is_tidy(path) {
         return buffer::refused(15);
     }
-    let mut text = [0u8; 177];
-    let n = put_route(h, &mut text);
-    buffer::write_two(178, &text[..n], b":", out)
+    let mut scratch = [0u8; 178];
+    let p = put_text(h, &mut scratch);
+    write_put(p, &scratch, out)
 }
 
 // ---- a frame written
 
-// The refusal's number or 0, and the place behind what is put.
-struct Put {
-    refusal: u8,
-    at: usize,
-}
-
-// Puts a callsign's address at a place of the bytes.
-fn put_address(c: Callsign, field: Field, last: bool, bytes: &mut [u8], at: usize) -> Put
-    requires { ⌜ at + 7 ≤ length (now bytes) ⌝ }
-    ensures { λ r. ⌜ placed (r .refusal) (now (bytes .exit)) (r .at) ≡ addedAll (filled (now (bytes .entry)) at) (writeAddress c field last ∷ []) ⌝ }
-{
-    let a = callsign::write_address(c, field, last);
-    if a.refusal != 0 {
-        return Put {
-            refusal: a.refusal,
-            at,
-        };
-    }
-    let seven = a.bytes;
-    buffer::write(&seven, &mut bytes[at..]);
-    Put {
-        refusal: 0,
-        at: at + 7,
-    }
-}
-
 // Puts the addresses of the first n hops, the last of them marked.
-fn put_hop_addresses(hops: [Hop; 8], n: usize, bytes: &mut [u8], from: usize) -> Put
-    requires { ⌜ (n ≤ 8) × (from + 56 ≤ length (now bytes)) ⌝ }
-    ensures { λ r. ⌜ placed (r .refusal) (now (bytes .exit)) (r .at) ≡ addedAll (filled (now (bytes .entry)) from) (hopAddresses (take n hops)) ⌝ }
+fn put_hop_addresses(p: Put, hops: [Hop; 8], n: usize, scratch: &mut [u8]) -> Put
+    requires { ⌜ (n ≤ 8) × (p .at ≤ length (now scratch)) ⌝ }
+    ensures { λ r. ⌜ building (r .refusal) (now (scratch .exit)) (r .at) ≡ withPieces (building (p .refusal) (now (scratch .entry)) (p .at)) (hopAddressPieces (take n hops)) ⌝ }
 {
-    let mut at = from;
+    let mut done = p;
     let mut i: usize = 0;
     while i < n {
         let h = hops[i];
         let call = h.call;
         let field = Field::Hop(h.heard);
         i += 1;
-        let p = put_address(call, field, i == n, bytes, at);
-        if p.refusal != 0 {
-            return p;
-        }
-        at = p.at;
+        done = put_address(done, call, field, i == n, scratch);
     }
-    Put { refusal: 0, at }
+    done
 }
 
-// Puts all addresses of a header: destination, source, hops.
-fn put_addresses(h: Header, bytes: &mut [u8]) -> Put
-    requires { ⌜ (h .path .count ≤ 8) × (70 ≤ length (now bytes)) ⌝ }
-    ensures { λ r. ⌜ placed (r .refusal) (now (bytes .exit)) (r .at) ≡ addedAll (filled (now (bytes .entry)) 0) (addresses h) ⌝ }
+// Puts the addresses of destination and source, the source's marked where it is the last.
+fn put_end_addresses(to: Callsign, from: Callsign, last: bool, scratch: &mut [u8]) -> Put
+    ensures { λ r. ⌜ building (r .refusal) (now (scratch .exit)) (r .at) ≡ withPieces (building 0 (now (scratch .entry)) 0) (endAddressPieces to from last) ⌝ }
 {
+    let start = Put { at: 0, refusal: 0 };
+    let destination = put_address(start, to, Field::Destination, false, scratch);
+    put_address(destination, from, Field::Source, last, scratch)
+}
+
+// Puts a header as the front of a frame: destination, source, hops, and the control pair.
+fn put_frame(h: Header, scratch: &mut [u8]) -> Put
+    requires { ⌜ h .path .count ≤ 8 ⌝ }
+    ensures { λ r. ⌜ building (r .refusal) (now (scratch .exit)) (r .at) ≡ withPieces (building 0 (now (scratch .entry)) 0) (framePieces h) ⌝ }
+{
+    let from = h.from;
+    let to = h.to;
     let path = h.path;
     let hops = path.hops;
     let n = path.count;
-    let to = h.to;
-    let d = put_address(to, Field::Destination, false, bytes, 0);
-    if d.refusal != 0 {
-        return d;
-    }
-    let from = h.from;
-    let f = put_address(from, Field::Source, n == 0, bytes, d.at);
-    if f.refusal != 0 {
-        return f;
-    }
-    put_hop_addresses(hops, n, bytes, f.at)
+    let ends = put_end_addresses(to, from, n == 0, scratch);
+    let route = put_hop_addresses(ends, hops, n, scratch);
+    put_bytes(route, b"\x03\xf0", scratch)
 }
 
 // Writes the header of a frame, addresses and control pair; refused with 15, 13 or 16.
 pub fn write_frame(h: Header, out: &mut [u8]) -> buffer::Answer
     ensures { λ r. ⌜ ends r (now (out .exit)) ≡ wrote (frameRefusal h) (headerFrame h) (now (out .entry)) ⌝ }
 {
-    if !in_range(h) {
+    let path = h.path;
+    if !is_tidy(path) {
         return buffer::refused(15);
     }
-    let mut bytes = [0u8; 70];
-    let p = put_addresses(h, &mut bytes);
-    if p.refusal != 0 {
-        return buffer::refused(p.refusal);
-    }
-    let n = p.at;
-    buffer::write_two(72, &bytes[..n], b"\x03\xf0", out)
+    let mut scratch = [0u8; 72];
+    let p = put_frame(h, &mut scratch);
+    write_put(p, &scratch, out)
 }

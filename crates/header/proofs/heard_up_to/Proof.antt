@@ -3,7 +3,7 @@ use Prim.Native.Nat.{_≤_, _-_}
 use mathlib.Core.Path.{_≡_, refl}
 use native.Mathlib.Omega.{arith}
 use lib.ListN.{take}
-use Rattle.header.specs.Written.{heardUpTo}
+use Rattle.header.specs.Private.{heardUpTo}
 use Rattle.header.proofs.Stars.{last-moves, last-stays, last-found}
 use Rattle.header.proofs.heard_up_to.Statement.{statement}
 use Rattle.header.proofs.heard_up_to.Tie as tie

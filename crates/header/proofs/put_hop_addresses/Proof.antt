@@ -1,18 +1,21 @@
 -- The hops' addresses are put one by one. Assumes nothing.
 use Prim.Native.Nat.{_-_}
+use mathlib.Core.Path.{refl}
+use Rattle.header.specs.Frame.{hopAddresses}
 use native.Mathlib.Omega.{arith}
-use Rattle.header.proofs.Sent.{Sending, sending-start, sending-refused, sending-more, sending-done}
+use Rattle.header.specs.Private.{hopAddressPieces}
+use Rattle.header.proofs.Putting.{Putting, putting-start, hop-addressed, putting-done}
 use Rattle.header.proofs.put_hop_addresses.Statement.{statement}
 use Rattle.header.proofs.put_hop_addresses.Tie as tie
 
 abbrev Inv-loop : tie.InvT-loop
-Inv-loop n bytes₀ from hops at₀ i₀ bytes at i = Sending bytes₀ from hops n bytes at i
+Inv-loop n scratch₀ hops done₀ i₀ scratch done i = Putting hopAddressPieces scratch₀ done₀ hops n scratch done i
 
 abbrev μ-loop : tie.MeasureT-loop
-μ-loop n bytes₀ from hops at₀ i₀ bytes at i = n - i
+μ-loop n scratch₀ hops done₀ i₀ scratch done i = n - i
 
 loop-holds : tie.Need-loop-holds Inv-loop μ-loop
-loop-holds c = search sending-start
+loop-holds c = search putting-start
 
 mul-h : tie.Need-mul-h Inv-loop μ-loop
 mul-h c = omega arith
@@ -26,23 +29,18 @@ add-i c = omega arith
 put-address-requires : tie.Need-put-address-requires Inv-loop μ-loop
 put-address-requires c κs = omega arith
 
-same-length : tie.Need-same-length Inv-loop μ-loop
-same-length c = omega arith
-
-returns : tie.Need-returns Inv-loop μ-loop
-returns c = search sending-refused
-
 loop-less : tie.Need-loop-less Inv-loop μ-loop
 loop-less c = omega arith
 
 loop-again : tie.Need-loop-again Inv-loop μ-loop
-loop-again c = search sending-more
+loop-again c = search hop-addressed
 
-same-length-2 : tie.Need-same-length-2 Inv-loop μ-loop
-same-length-2 c = c .before .loop .inv .whole
+same-length : tie.Need-same-length Inv-loop μ-loop
+same-length c = c .before .loop .inv .whole
 
-returns-2 : tie.Need-returns-2 Inv-loop μ-loop
-returns-2 c = search sending-done
+returns : tie.Need-returns Inv-loop μ-loop
+unfolding hopAddresses
+returns c = putting-done hopAddressPieces _ _ _ _ _ _ _ (c .before .loop .inv) refl (c .loop-test .left)
 
 pub put-hop-addresses-spec : {M : Type 1} → statement M
 put-hop-addresses-spec =
@@ -55,9 +53,7 @@ put-hop-addresses-spec =
     array-copy-out-h
     add-i
     put-address-requires
-    same-length
-    returns
     loop-less
     loop-again
-    same-length-2
-    returns-2)
+    same-length
+    returns)

@@ -2,15 +2,17 @@
 use Prim.Native.Nat.{_-_}
 use native.Mathlib.Omega.{arith}
 use borrow.Author.Needs.{needs}
-use Rattle.header.proofs.TextWritten.{Putting, putting-start, call-fine, call-room, putting-more, putting-done}
+use mathlib.Core.Path.{refl}
+use Rattle.header.specs.Private.{hopPieces}
+use Rattle.header.proofs.Putting.{Putting, place-behind, putting-start, hop-put, putting-done}
 use Rattle.header.proofs.put_hops.Statement.{statement}
 use Rattle.header.proofs.put_hops.Tie as tie
 
 abbrev Inv-loop : tie.InvT-loop
-Inv-loop n text₀ from hops last at₀ i₀ text at i = Putting text₀ from hops n text at i
+Inv-loop n scratch₀ hops last done₀ i₀ t12 scratch done i = Putting hopPieces scratch₀ done₀ hops n scratch done i
 
 abbrev μ-loop : tie.MeasureT-loop
-μ-loop n text₀ from hops last at₀ i₀ text at i = n - i
+μ-loop n scratch₀ hops last done₀ i₀ t12 scratch done i = n - i
 
 heard-up-to-requires : tie.Need-heard-up-to-requires Inv-loop μ-loop
 heard-up-to-requires c κs = search needs
@@ -27,26 +29,27 @@ array-copy-out-h c = omega arith
 add-i : tie.Need-add-i Inv-loop μ-loop
 add-i c = omega arith
 
-slice-write-text : tie.Need-slice-write-text Inv-loop μ-loop
-slice-write-text c = omega arith
+slice-aggregate-put-bytes : tie.Need-slice-aggregate-put-bytes Inv-loop μ-loop
+slice-aggregate-put-bytes c = search needs
 
-add-put-call : tie.Need-add-put-call Inv-loop μ-loop
-add-put-call c = omega arith
+put-bytes-requires : tie.Need-put-bytes-requires Inv-loop μ-loop
+put-bytes-requires c κs = omega arith
 
 put-call-requires : tie.Need-put-call-requires Inv-loop μ-loop
-put-call-requires c κs = (search call-fine, search call-room)
+put-call-requires c κs = place-behind _ _ _ _ _ _ _ (c .before .before .before .put-bytes .ensures) (omega arith)
 
 loop-less : tie.Need-loop-less Inv-loop μ-loop
 loop-less c = omega arith
 
 loop-again : tie.Need-loop-again Inv-loop μ-loop
-loop-again c = search putting-more
+loop-again c = search hop-put
 
 same-length : tie.Need-same-length Inv-loop μ-loop
 same-length c = c .before .loop .inv .whole
 
 returns : tie.Need-returns Inv-loop μ-loop
-returns c = search putting-done
+unfolding hopPieces
+returns c = putting-done hopPieces _ _ _ _ _ _ _ (c .before .loop .inv) refl (c .loop-test .left)
 
 pub put-hops-spec : {M : Type 1} → statement M
 put-hops-spec =
@@ -59,8 +62,8 @@ put-hops-spec =
     mul-h
     array-copy-out-h
     add-i
-    slice-write-text
-    add-put-call
+    slice-aggregate-put-bytes
+    put-bytes-requires
     put-call-requires
     loop-less
     loop-again

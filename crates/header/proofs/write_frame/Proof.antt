@@ -1,64 +1,48 @@
--- The addresses are built in a scratch array and written with the control pair. Assumes nothing.
-use Rattle.header.proofs.InRange.{route-count}
-use Rattle.header.proofs.Bounds.{range-held, frame-out}
-use Rattle.header.proofs.Sent.{frame-refused, frame-within, frame-prefix, frame-done}
+-- 15 for a path that is not tidy; else the pieces of the frame decide. Assumes nothing.
 use borrow.Author.Needs.{needs}
+use Rattle.header.proofs.InRange.{judged-count}
+use Rattle.header.proofs.Pieces.{put-within}
+use Rattle.header.proofs.FrameWritten.{frame-untidy, frame-out}
 use Rattle.header.proofs.write_frame.Statement.{statement}
 use Rattle.header.proofs.write_frame.Tie as tie
 
-in-range-requires : tie.Need-in-range-requires
-in-range-requires c κs = search needs
+is-tidy-requires : tie.Need-is-tidy-requires
+is-tidy-requires c κs = search needs
 
 refused-requires : tie.Need-refused-requires
 refused-requires c κs = search needs
 
 returns : tie.Need-returns
-returns c = search frame-out
+returns c = search frame-untidy
 
-slice-aggregate-put-addresses : tie.Need-slice-aggregate-put-addresses
-slice-aggregate-put-addresses c = search needs
+slice-aggregate-put-frame : tie.Need-slice-aggregate-put-frame
+slice-aggregate-put-frame c = search needs
 
-put-addresses-requires : tie.Need-put-addresses-requires
-put-addresses-requires c κs = (search (route-count, range-held), search needs)
+put-frame-requires : tie.Need-put-frame-requires
+put-frame-requires c κs = search judged-count
 
-refused-requires-2 : tie.Need-refused-requires-2
-refused-requires-2 c κs = search needs
+slice-aggregate-write-put : tie.Need-slice-aggregate-write-put
+slice-aggregate-write-put c = search needs
 
-returns-2 : tie.Need-returns-2
-returns-2 c = search (frame-refused, range-held)
-
-array-share-prefix-bytes : tie.Need-array-share-prefix-bytes
-array-share-prefix-bytes c = search (frame-within, range-held, needs)
-
-slice-aggregate-write-two : tie.Need-slice-aggregate-write-two
-slice-aggregate-write-two c = search (frame-prefix, range-held, needs)
-
-slice-aggregate-write-two-2 : tie.Need-slice-aggregate-write-two-2
-slice-aggregate-write-two-2 c = search needs
-
-write-two-requires : tie.Need-write-two-requires
-write-two-requires c κs = search needs
+write-put-requires : tie.Need-write-put-requires
+write-put-requires c κs = search put-within
 
 same-length : tie.Need-same-length
 same-length c = search needs
 
-returns-3 : tie.Need-returns-3
-returns-3 c = search (frame-done, range-held, needs)
+returns-2 : tie.Need-returns-2
+returns-2 c = search (frame-out, needs)
 
 pub write-frame-spec : {M : Type 1} → statement M
 write-frame-spec =
     tie.close
     (tie.spec
-    in-range-requires
+    is-tidy-requires
     refused-requires
     returns
-    slice-aggregate-put-addresses
-    put-addresses-requires
-    refused-requires-2
-    returns-2
-    array-share-prefix-bytes
-    slice-aggregate-write-two
-    slice-aggregate-write-two-2
-    write-two-requires
+    slice-aggregate-put-frame
+    put-frame-requires
+    slice-aggregate-write-put
+    write-put-requires
     same-length
-    returns-3)
+    returns-2)

@@ -1,0 +1,102 @@
+-- What only private functions promise: the pieces of a header, each with its writer's refusal, put one behind the other into a
+-- scratch array; a path apart from its callsigns; and the place of the last star.
+-- Assumes nothing.
+use Prim.Native.Nat.{ℕ, suc, _+_, max}
+use mathlib.Core.Bool.{Bool, false, not, cond, _&&_}
+use mathlib.Core.List.{List, [], _∷_, _++_, map}
+use lib.ListN.{length, drop}
+use lib.Dec.{eqb, leb}
+use Rattle.laws.specs.Bytes.{comma, colon, greater}
+use Rattle.laws.specs.Lists.{every}
+use Rattle.buffer.specs.Filled.{Filled, filled, added}
+use Rattle.callsign.specs.declared.Callsign.{Callsign}
+use Rattle.callsign.specs.declared.AddressWritten.{AddressWritten}
+use Rattle.callsign.specs.declared.Field.the-variants.{Destination, Source}
+use Rattle.callsign.specs.Packed.{writeAddress}
+use Rattle.callsign.specs.Range.{rangeRefusal, textOf, withStar}
+use Rattle.header.specs.declared.Hop.{Hop}
+use Rattle.header.specs.declared.Path.{Path}
+use Rattle.header.specs.declared.Header.{Header}
+use Rattle.header.specs.Header.{hopsOf}
+use Rattle.header.specs.Text.{anyHeard}
+use Rattle.header.specs.Frame.{pair, hopAddresses, addresses}
+use Rattle.header.specs.Range.{isBlank}
+
+-- at most eight hops, and blank ones behind them; their callsigns are not looked at
+unfoldable pub isTidy : Path → Bool
+isTidy p = leb (p .count) 8 && every isBlank (drop (p .count) (p .hops))
+
+-- ---- pieces in an array
+
+-- what a writer makes of one part: its refusal or 0, and its bytes
+pub record Piece : Type 0 where
+  pub refusal : ℕ
+  pub bytes : List ℕ
+
+-- an array with pieces in it, and the greatest refusal of their writers
+pub record Building : Type 0 where
+  pub refusal : ℕ
+  pub array : Filled
+
+-- a refusal, and an array of which so many bytes are in use
+abbrev pub building : ℕ → List ℕ → ℕ → Building
+building refusal bytes len = record { refusal = refusal; array = filled bytes len }
+
+-- what the writer of a piece answers that is lent the rest of the array: its refusal, or 16 without room
+unfoldable pub answerTo : Filled → Piece → ℕ
+answerTo f p = cond (eqb (p .refusal) 0) (cond (leb (f .len + length (p .bytes)) (length (f .bytes))) 0 16) (p .refusal)
+
+-- a piece behind those that are there, unless it is refused
+unfoldable pub withPiece : Building → Piece → Building
+withPiece b p = record { refusal = max (b .refusal) (answerTo (b .array) p); array = cond (eqb (p .refusal) 0) (added (b .array) (p .bytes)) (b .array) }
+
+-- pieces in turn
+unfoldable pub withPieces : Building → List Piece → Building
+withPieces b [] = b
+withPieces b (p ∷ l) = withPieces (withPiece b p) l
+
+-- ---- the pieces of a header
+
+-- bytes that nothing refuses
+abbrev pub plain : List ℕ → Piece
+plain bytes = record { refusal = 0; bytes = bytes }
+
+-- a callsign's text
+abbrev pub callPiece : Callsign → Bool → Piece
+callPiece c starred = record { refusal = rangeRefusal c; bytes = withStar (textOf c) starred }
+
+-- source and destination
+abbrev pub endPieces : Callsign → Callsign → List Piece
+endPieces from to = callPiece from false ∷ plain (greater ∷ []) ∷ callPiece to false ∷ []
+
+-- each hop after a comma, the last heard one with a star
+unfoldable pub hopPieces : List Hop → List Piece
+hopPieces [] = []
+hopPieces (h ∷ l) = plain (comma ∷ []) ∷ callPiece (h .call) (h .heard && not (anyHeard l)) ∷ hopPieces l
+
+-- a header's text
+unfoldable pub textPieces : Header → List Piece
+textPieces h = endPieces (h .from) (h .to) ++ (hopPieces (hopsOf (h .path)) ++ plain (colon ∷ []) ∷ [])
+
+-- an address
+abbrev pub addressPiece : AddressWritten → Piece
+addressPiece a = record { refusal = a .refusal; bytes = a .bytes }
+
+-- destination and source, which is the last or not
+abbrev pub endAddressPieces : Callsign → Callsign → Bool → List Piece
+endAddressPieces to from last = addressPiece (writeAddress to Destination false) ∷ addressPiece (writeAddress from Source last) ∷ []
+
+-- hops
+abbrev pub hopAddressPieces : List Hop → List Piece
+hopAddressPieces l = map addressPiece (hopAddresses l)
+
+-- a header's frame
+unfoldable pub framePieces : Header → List Piece
+framePieces h = map addressPiece (addresses h) ++ plain pair ∷ []
+
+-- ---- the last star
+
+-- the number of hops up to the last that was heard, 0 where none was
+unfoldable pub heardUpTo : List Hop → ℕ
+heardUpTo [] = 0
+heardUpTo (h ∷ l) = cond (anyHeard l) (suc (heardUpTo l)) (cond (h .heard) 1 0)
