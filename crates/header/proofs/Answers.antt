@@ -1,7 +1,7 @@
 -- What a reader of headers answers: a refusal of its list with the blank header, or a header in range and a place within
 -- the input.
 -- Assumes nothing.
-use mathlib.Core.Path.{_≡_, refl}
+use mathlib.Core.Path.{_≡_, refl, _∙_}
 use mathlib.Core.Logic.{inl}
 use mathlib.Core.Bool.{Bool, true, false, cond, false≢true}
 use mathlib.Core.List.{List, [], _∷_}
@@ -23,11 +23,12 @@ use Rattle.callsign.proofs.Made.{blank-range}
 use Rattle.callsign.proofs.Theorems.{text-is-in-range, address-is-in-range}
 use Rattle.header.specs.declared.Hop.{Hop}
 use Rattle.header.specs.declared.HeaderRead.{HeaderRead}
-use Rattle.header.specs.Header.{Hops, blankHop, pathOf, hopsOf, headerOf, blankHeader, pathRead, headerRefused, headerAccepted, unlessRefused}
-use Rattle.header.specs.Text.{fields, firstOf, othersOf, withPath, readRoute, readBefore, readTextHeader}
+use Rattle.header.specs.Header.{Hops, blankHop, pathOf, hopsOf, headerOf, blankHeader, headerRefused, headerAccepted, unlessRefused, withHops}
+use Rattle.header.specs.Text.{fields, firstOf, othersOf, carried, readRoute, readBefore, readTextHeader}
 use Rattle.header.specs.Frame.{startsWithPair, withPair, readSource, readFrameHeader}
 use Rattle.header.specs.Range.{hopInRange, isBlank, pathInRange, headerInRange}
-use Rattle.header.proofs.Walks.{InText, InFrame, Sound, none, some, either-sound, call-in-text, text-sound, carried-sound, address-in-frame, frame-sound}
+use Rattle.header.proofs.Going.{length-carried}
+use Rattle.header.proofs.Walks.{InText, InFrame, Sound, none, some, either-sound, call-in-text, text-sound, carried-range, address-in-frame, frame-sound}
 
 pub data Answered (ok : ℕ → Type 0) (s : List ℕ) : HeaderRead → Type 0 where
   no : (n : ℕ) → ok n → Answered ok s (headerRefused n)
@@ -49,17 +50,18 @@ two-in-text : InText 2
 two-in-text = record { low = omega arith; high = omega arith }
 
 module _ (s : List ℕ) where
-  path-answered : (from to : Callsign) (body : ℕ) {w : Hops} → inRange from ≡ true → inRange to ≡ true → body ≤ length s → Sound InText 8 w → Answered InText s (withPath from to (pathRead w) body)
-  unfolding withPath pathRead
-  path-answered from to body a b m (none n p) = unless InText s n (λ z. p) (λ z. absurd (let q = p .low in omega arith))
-  path-answered from to body a b m (some l k q) = unless InText s 0 (λ z. absurd (z refl)) (λ z. yes from to l body a b k q m)
+  hops-answered : (from to : Callsign) (body : ℕ) {w : Hops} → inRange from ≡ true → inRange to ≡ true → body ≤ length s → Sound InText 8 w
+      → Answered InText s (withHops w (λ l. headerAccepted from to (pathOf (carried l)) body))
+  unfolding withHops
+  hops-answered from to body a b m (none n p) = no n p
+  hops-answered from to body a b m (some l k q) = let c = length-carried l in yes from to (carried l) body a b (omega arith) (carried-range l ∙ q) m
 
   route-answered : (from : Callsign) (t : List ℕ) (body : ℕ) → inRange from ≡ true → body ≤ length s → Answered InText s (readRoute from t body)
   unfolding readRoute
   route-answered from t body a m =
       let to = firstOf (fields t) in
       unless InText s (readText to .refusal) (call-in-text to) (λ z.
-      path-answered from (readText to .call) body a (text-is-in-range to) m (carried-sound 8 (text-sound 8 (othersOf (fields t)))))
+      hops-answered from (readText to .call) body a (text-is-in-range to) m (text-sound 8 (othersOf (fields t))))
 
   before-answered : (t : List ℕ) (body : ℕ) → body ≤ length s → Answered InText s (readBefore t body)
   unfolding readBefore
@@ -93,13 +95,12 @@ pair-within s at e = go (drop at s) (length-drop at s) e
     go (a ∷ b ∷ l) q f = omega arith
 
 module _ (s : List ℕ) where
-  pair-answered : (from to : Callsign) {w : Hops} → inRange from ≡ true → inRange to ≡ true → Sound InFrame 8 w → Answered InFrame s (withPair from to (pathRead w) s)
-  unfolding withPair pathRead
-  pair-answered from to a b (none n p) = unless InFrame s n (λ z. p) (λ z. absurd (let q = p .low in omega arith))
+  pair-answered : (from to : Callsign) {w : Hops} → inRange from ≡ true → inRange to ≡ true → Sound InFrame 8 w → Answered InFrame s (withHops w (λ l. withPair from to (pathOf l) s))
+  unfolding withHops withPair
+  pair-answered from to a b (none n p) = no n p
   pair-answered from to a b (some l k q) =
-      unless InFrame s 0 (λ z. absurd (z refl)) (λ z.
       either InFrame s (startsWithPair (drop (14 + 7 * pathOf l .count) s))
-      (λ e. yes from to l (14 + 7 * pathOf l .count + 2) a b k q (pair-within s (14 + 7 * pathOf l .count) e)) (λ e. no 2 two-in-frame))
+      (λ e. yes from to l (14 + 7 * pathOf l .count + 2) a b k q (pair-within s (14 + 7 * pathOf l .count) e)) (λ e. no 2 two-in-frame)
 
   source-answered : (to : Callsign) → inRange to ≡ true → Answered InFrame s (readSource to s)
   unfolding readSource every

@@ -21,7 +21,7 @@ use Rattle.callsign.proofs.AddressBack.{inAddress, address-seven}
 use Rattle.callsign.proofs.Theorems.{address-reads-back}
 use Rattle.header.specs.declared.Hop.{Hop}
 use Rattle.header.specs.declared.Header.{Header}
-use Rattle.header.specs.Header.{these, before, pathOf, hopsOf, pathRead, headerAccepted, unlessRefused}
+use Rattle.header.specs.Header.{these, before, pathOf, hopsOf, headerAccepted, unlessRefused, withHops}
 use Rattle.header.specs.Frame.{pair, startsWithPair, addressHop, addressThen, frameHops, withPair, readSource, readFrameHeader, isNone, hopAddresses, addresses, firstRefusal, addressBytes, headerFrame}
 use Rattle.header.specs.Range.{headerInRange, frameRefusal}
 use Rattle.header.proofs.InRange.{route-count}
@@ -64,8 +64,8 @@ all-hops [] n x e m z = rw (eq-eqb n 0 (sym e))
 all-hops (h ∷ l) n x e m z = rw (ne-eqb n 0 (λ q. omega arith)) (hops-back h l 8 x (omega arith) z)
 
 pair-back : (from to : Callsign) (l : List Hop) (s x : List ℕ) → drop (14 + 7 * length l) s ≡ pair ++ x
-    → withPair from to (pathRead (these l)) s ≡ headerAccepted from to (pathOf l) (16 + 7 * length l)
-unfolding withPair unlessRefused pathRead pathOf startsWithPair
+    → withPair from to (pathOf l) s ≡ headerAccepted from to (pathOf l) (16 + 7 * length l)
+unfolding withPair pathOf startsWithPair
 pair-back from to l s x e = let q : 14 + 7 * length l + 2 ≡ 16 + 7 * length l = omega arith in rw (e, q)
 
 module _ (h : Header) (body : List ℕ) (full : length (h .path .hops) ≡ 8) (e : headerInRange h ≡ true) (z : firstRefusal (addresses h) ≡ 0) where
@@ -116,7 +116,7 @@ module _ (h : Header) (body : List ℕ) (full : length (h .path .hops) ≡ 8) (e
   long = rw (spelled, length-append (a .bytes) (b .bytes ++ rest), length-append (b .bytes) rest, a-seven, b-seven) (omega arith)
 
   source-back : readSource (inAddress (h .to)) (headerFrame h ++ body) ≡ headerAccepted (inAddress (h .from)) (inAddress (h .to)) (pathOf (map inFrame hops)) (16 + 7 * length hops)
-  unfolding readSource unlessRefused heardIn
+  unfolding readSource unlessRefused withHops heardIn
   source-back =
       let m = route-count h e in
       let n : length (map inFrame hops) ≡ length hops = length-map hops inFrame in

@@ -1,6 +1,6 @@
 -- The header of a frame, place by place: destination, source, hops, and the control pair behind the addresses.
 -- Assumes nothing.
-use mathlib.Core.Path.{_≡_, refl, ap, _∙_}
+use mathlib.Core.Path.{_≡_, refl, sym, ap, _∙_}
 use mathlib.Core.Bool.{true, false}
 use mathlib.Core.List.{List, [], _∷_}
 use Prim.Native.Nat.{ℕ, _+_, _-_, _*_, _<_, _≤_}
@@ -12,10 +12,13 @@ use Rattle.laws.proofs.Lists.{next}
 use Rattle.callsign.specs.declared.Callsign.{Callsign}
 use Rattle.callsign.specs.declared.AddressRead.{AddressRead}
 use Rattle.callsign.specs.Address.{readAddress}
+use Rattle.header.specs.declared.Hop.{Hop}
+use Rattle.header.specs.declared.Path.{Path}
 use Rattle.header.specs.declared.PathRead.{PathRead}
 use Rattle.header.specs.declared.HeaderRead.{HeaderRead}
-use Rattle.header.specs.Header.{Hops, refused, pathOf, pathRead, headerOf, headerRefused, headerAccepted, unlessRefused}
+use Rattle.header.specs.Header.{Hops, refused, these, pathOf, headerRefused, headerAccepted, unlessRefused, withHops}
 use Rattle.header.specs.Frame.{control, protocol, startsWithPair, frameHops, withPair, readSource, readFrameHeader}
+use Rattle.header.specs.Private.{pathRefused, frameRead}
 use Rattle.header.proofs.Walks.{InFrame, Sound, none, some, frame-sound}
 
 -- ---- the two bytes behind the addresses
@@ -46,46 +49,49 @@ module _ (s : List ℕ) (at : ℕ) where
     unfolding startsWithPair
     pair-both p e = rw (two, eq-eqb (getD s at 0) control p, eq-eqb (getD s (at + 1) 0) protocol e)
 
-module _ (from to : Callsign) (p : PathRead) (s : List ℕ) (r : HeaderRead) where
-  pub path-refused : (p .refusal ≡ 0 → ⊥) → r ≡ headerRefused (p .refusal) → r ≡ withPair from to p s
-  unfolding withPair unlessRefused
-  path-refused z w = rw (ne-eqb (p .refusal) 0 z) w
+module _ (from to : Callsign) (p : Path) (s : List ℕ) (r : HeaderRead) where
+  wrong : startsWithPair (drop (14 + 7 * p .count) s) ≡ false → r ≡ headerRefused 2 → r ≡ withPair from to p s
+  unfolding withPair
+  wrong e w = rw e w
 
-  module _ (z : p .refusal ≡ 0) where
-    wrong : startsWithPair (drop (14 + 7 * p .path .count) s) ≡ false → r ≡ headerRefused 2 → r ≡ withPair from to p s
-    unfolding withPair unlessRefused
-    wrong e w = rw (eq-eqb (p .refusal) 0 z, e) w
+  pub no-pair : length s < 14 + 7 * p .count + 2 → r ≡ headerRefused 2 → r ≡ withPair from to p s
+  no-pair h w = wrong (pair-short s (14 + 7 * p .count) h) w
 
-    pub no-pair : length s < 14 + 7 * p .path .count + 2 → r ≡ headerRefused 2 → r ≡ withPair from to p s
-    no-pair h w = wrong (pair-short s (14 + 7 * p .path .count) h) w
+  module _ (h : 14 + 7 * p .count + 2 ≤ length s) where
+    pub no-control : (getD s (14 + 7 * p .count) 0 ≡ control → ⊥) → r ≡ headerRefused 2 → r ≡ withPair from to p s
+    no-control e w = wrong (pair-first s (14 + 7 * p .count) h e) w
 
-    module _ (h : 14 + 7 * p .path .count + 2 ≤ length s) where
-      pub no-control : (getD s (14 + 7 * p .path .count) 0 ≡ control → ⊥) → r ≡ headerRefused 2 → r ≡ withPair from to p s
-      no-control e w = wrong (pair-first s (14 + 7 * p .path .count) h e) w
+    module _ (c : getD s (14 + 7 * p .count) 0 ≡ control) where
+      pub no-protocol : (getD s (14 + 7 * p .count + 1) 0 ≡ protocol → ⊥) → r ≡ headerRefused 2 → r ≡ withPair from to p s
+      no-protocol e w = wrong (pair-second s (14 + 7 * p .count) h c e) w
 
-      module _ (c : getD s (14 + 7 * p .path .count) 0 ≡ control) where
-        pub no-protocol : (getD s (14 + 7 * p .path .count + 1) 0 ≡ protocol → ⊥) → r ≡ headerRefused 2 → r ≡ withPair from to p s
-        no-protocol e w = wrong (pair-second s (14 + 7 * p .path .count) h c e) w
+      pub pair-there : getD s (14 + 7 * p .count + 1) 0 ≡ protocol → r ≡ headerAccepted from to p (14 + 7 * p .count + 2) → r ≡ withPair from to p s
+      unfolding withPair
+      pair-there e w = rw (pair-both s (14 + 7 * p .count) h c e) w
 
-pub pair-there : (from to : Callsign) (p : PathRead) (s : List ℕ) → p .refusal ≡ 0 → 14 + 7 * p .path .count + 2 ≤ length s
-    → getD s (14 + 7 * p .path .count) 0 ≡ control → getD s (14 + 7 * p .path .count + 1) 0 ≡ protocol
-    → record { refusal = 0; header = record { from = from; to = to; path = p .path }; body = 14 + 7 * p .path .count + 2 } ≡ withPair from to p s
-unfolding withPair unlessRefused headerAccepted headerOf
-pair-there from to p s z h c e = rw (eq-eqb (p .refusal) 0 z, pair-both s (14 + 7 * p .path .count) h c e)
+-- ---- what a walk can give
 
--- ---- how many hops a walk can give
+pub none-count : (p : Path) → p ≡ pathOf [] → p .count ≤ 8
+unfolding pathOf
+none-count p e = rw e (omega arith)
 
-sound-count : (k : ℕ) {w : Hops} → Sound InFrame k w → pathRead w .path .count ≤ k
-unfolding pathRead pathOf
+sound-count : (k : ℕ) {w : Hops} → Sound InFrame k w → frameRead w .path .count ≤ k
+unfolding frameRead pathRefused pathOf
 sound-count k (none n p) = omega arith
 sound-count k (some l m q) = m
 
-pub walk-count : (p : PathRead) (s : List ℕ) → p ≡ pathRead (frameHops 8 s) → p .path .count ≤ 8
+pub walk-count : (p : PathRead) (s : List ℕ) → p ≡ frameRead (frameHops 8 s) → p .path .count ≤ 8
 walk-count p s e = rw e (sound-count 8 (frame-sound 8 s))
 
-pub none-count : (p : PathRead) (n : ℕ) → p ≡ pathRead (refused n) → p .path .count ≤ 8
-unfolding pathRead pathOf
-none-count p n e = rw e (omega arith)
+hops-refused : (w : Hops) (next : List Hop → HeaderRead) → (frameRead w .refusal ≡ 0 → ⊥) → headerRefused (frameRead w .refusal) ≡ withHops w next
+unfolding frameRead pathRefused withHops
+hops-refused (refused n) next z = refl
+hops-refused (these l) next z = absurd (z refl)
+
+hops-given : (next : Path → HeaderRead) {w : Hops} → Sound InFrame 8 w → frameRead w .refusal ≡ 0 → next (frameRead w .path) ≡ withHops w (λ l. next (pathOf l))
+unfolding frameRead pathRefused withHops
+hops-given next (none n p) z = let m = p .low in absurd (omega arith)
+hops-given next (some l m q) z = refl
 
 -- ---- source and hops
 
@@ -99,14 +105,26 @@ module _ (to : Callsign) (s : List ℕ) (r : HeaderRead) where
     unfolding readSource unlessRefused
     source-refused z w = rw (le-ltb (length s) 14 h, ← q, ne-eqb (from .refusal) 0 z) w
 
-    module _ (z : from .refusal ≡ 0) (p : PathRead) (w : r ≡ withPair (from .call) to p s) where
-      pub source-alone : from .last ≡ true → p ≡ pathRead (refused 0) → r ≡ readSource to s
-      unfolding readSource unlessRefused pathRead
-      source-alone l e = rw (le-ltb (length s) 14 h, ← q, eq-eqb (from .refusal) 0 z, l) (rw e at w)
+    module _ (z : from .refusal ≡ 0) where
+      pub source-alone : (p : Path) → from .last ≡ true → p ≡ pathOf [] → r ≡ withPair (from .call) to p s → r ≡ readSource to s
+      unfolding readSource unlessRefused withHops
+      source-alone p l e w = rw (le-ltb (length s) 14 h, ← q, eq-eqb (from .refusal) 0 z, l, ← e) w
 
-      pub source-hops : from .last ≡ false → p ≡ pathRead (frameHops 8 (take (length s - 14) (drop 14 s))) → r ≡ readSource to s
-      unfolding readSource unlessRefused
-      source-hops l e = rw (le-ltb (length s) 14 h, ← q, eq-eqb (from .refusal) 0 z, l, ← part-to-end s 14) (rw e at w)
+      module _ (l : from .last ≡ false) (p : PathRead) (e : p ≡ frameRead (frameHops 8 (take (length s - 14) (drop 14 s)))) where
+        hops-are : p ≡ frameRead (frameHops 8 (drop 14 s))
+        hops-are = e ∙ rw (part-to-end s 14)
+
+        pub source-hops-refused : (p .refusal ≡ 0 → ⊥) → r ≡ headerRefused (p .refusal) → r ≡ readSource to s
+        unfolding readSource unlessRefused
+        source-hops-refused y w =
+            rw (le-ltb (length s) 14 h, ← q, eq-eqb (from .refusal) 0 z, l)
+            (w ∙ rw hops-are (hops-refused (frameHops 8 (drop 14 s)) _ (λ x. y (ap (λ (a : PathRead). a .refusal) hops-are ∙ x))))
+
+        pub source-hops : p .refusal ≡ 0 → r ≡ withPair (from .call) to (p .path) s → r ≡ readSource to s
+        unfolding readSource unlessRefused
+        source-hops y w =
+            rw (le-ltb (length s) 14 h, ← q, eq-eqb (from .refusal) 0 z, l)
+            (w ∙ rw hops-are (hops-given (λ x. withPair (from .call) to x s) (frame-sound 8 (drop 14 s)) (sym (ap (λ (a : PathRead). a .refusal) hops-are) ∙ y)))
 
 -- ---- the frame
 

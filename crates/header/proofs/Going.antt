@@ -9,8 +9,9 @@ use lib.Seq.{take-at, drop-at}
 use Rattle.laws.specs.Lists.{padTo}
 use Rattle.laws.proofs.Lists.{pad-set}
 use Rattle.header.specs.declared.Hop.{Hop}
-use Rattle.header.specs.Header.{Hops, refused, these, before, blankHop, pathOf, pathRead}
-use Rattle.header.specs.Text.{carried, carriedBack}
+use Rattle.header.specs.Header.{Hops, refused, these, before, blankHop, pathOf}
+use Rattle.header.specs.Text.{carried}
+use Rattle.header.specs.Private.{frameRead, textRead}
 
 -- hops, and what follows them
 unfoldable pub after : List Hop → Hops → Hops
@@ -70,10 +71,10 @@ module _ (whole rest : Hops) (hops : List Hop) (n : ℕ) (g : Going whole rest h
     all = g .agrees ∙ rw e (ap these (append-nil (g .done)))
 
     -- the array and the count are the path of the hops done
-    pub going-done : record { refusal = 0; path = record { hops = hops; count = n } } ≡ pathRead whole
-    unfolding pathRead pathOf
+    pub going-done : record { path = record { hops = hops; count = n }; refusal = 0 } ≡ frameRead whole
+    unfolding frameRead pathOf
     going-done = rw (all, g .held, g .count)
 
-    pub going-carried : (out : List Hop) → out ≡ carried (take n hops) ++ drop n hops → record { refusal = 0; path = record { hops = out; count = n } } ≡ pathRead (carriedBack whole)
-    unfolding pathRead pathOf carriedBack
+    pub going-carried : (out : List Hop) → out ≡ carried (take n hops) ++ drop n hops → record { path = record { hops = out; count = n }; refusal = 0 } ≡ textRead whole
+    unfolding textRead pathOf
     going-carried out q = rw (all, q, g .held, ← g .count, padded-carried (g .done), length-carried (g .done))

@@ -1,7 +1,7 @@
 -- The header of a text, place by place: the first `:`, the first `>` before it, the first comma after that.
 -- Assumes nothing.
-use mathlib.Core.Path.{_≡_, sym, _∙_}
-use mathlib.Core.List.{List}
+use mathlib.Core.Path.{_≡_, refl, sym, ap, _∙_}
+use mathlib.Core.List.{List, []}
 use Prim.Native.Nat.{ℕ, suc, _+_, _-_, _<_, _≤_}
 use native.Mathlib.Numerals.{add-one}
 use native.Mathlib.Omega.{arith}
@@ -14,10 +14,14 @@ use Rattle.laws.proofs.Places.{index-le}
 use Rattle.callsign.specs.declared.Callsign.{Callsign}
 use Rattle.callsign.specs.declared.CallRead.{CallRead}
 use Rattle.callsign.specs.Text.{readText}
+use Rattle.header.specs.declared.Hop.{Hop}
+use Rattle.header.specs.declared.Path.{Path}
 use Rattle.header.specs.declared.PathRead.{PathRead}
 use Rattle.header.specs.declared.HeaderRead.{HeaderRead}
-use Rattle.header.specs.Header.{refused, pathRead, headerRefused, unlessRefused}
-use Rattle.header.specs.Text.{fields, firstOf, othersOf, textHops, carried, carriedBack, withPath, readRoute, readBefore, readTextHeader}
+use Rattle.header.specs.Header.{Hops, refused, these, pathOf, headerRefused, headerAccepted, unlessRefused, withHops}
+use Rattle.header.specs.Text.{fields, firstOf, othersOf, textHops, carried, readRoute, readBefore, readTextHeader}
+use Rattle.header.specs.Private.{pathRefused, textRead}
+use Rattle.header.proofs.Walks.{InText, Sound, none, some, text-sound}
 use Rattle.header.proofs.TextHops.{fields-one, fields-two, fields-some, no-parts}
 
 rest-at : (t : List ℕ) (d : ℕ) → take (length t - (d + 1)) (drop (d + 1) t) ≡ drop (suc d) t
@@ -29,9 +33,21 @@ first-part : (t : List ℕ) → firstOf (fields t) ≡ take (indexOf comma t) t
 unfolding firstOf
 first-part t = let p = fields-some t in rw (p .1)
 
-none-after : (t : List ℕ) → indexOf comma t ≡ length t → pathRead (carriedBack (textHops 8 (othersOf (fields t)))) ≡ pathRead (refused 0)
-unfolding othersOf carriedBack carried pathRead
+none-after : (t : List ℕ) → indexOf comma t ≡ length t → textHops 8 (othersOf (fields t)) ≡ these []
+unfolding othersOf
 none-after t e = rw (fields-one t e, no-parts 8)
+
+-- what the hops come to, by what the code has of them
+hops-refused : (w : Hops) (next : List Hop → HeaderRead) → (textRead w .refusal ≡ 0 → ⊥) → headerRefused (textRead w .refusal) ≡ withHops w next
+unfolding textRead pathRefused withHops
+hops-refused (refused n) next z = refl
+hops-refused (these l) next z = absurd (z refl)
+
+hops-given : (from to : Callsign) (body : ℕ) {w : Hops} → Sound InText 8 w → textRead w .refusal ≡ 0
+    → headerAccepted from to (textRead w .path) body ≡ withHops w (λ l. headerAccepted from to (pathOf (carried l)) body)
+unfolding textRead pathRefused withHops
+hops-given from to body (none n p) z = let m = p .low in absurd (omega arith)
+hops-given from to body (some l m q) z = refl
 
 module _ (from : Callsign) (t : List ℕ) (body d : ℕ) (to : CallRead) (r : HeaderRead) (f : d ≡ indexOf comma t) (q : to ≡ readText (take d t)) where
   its-to : readText (firstOf (fields t)) ≡ to
@@ -41,17 +57,30 @@ module _ (from : Callsign) (t : List ℕ) (body d : ℕ) (to : CallRead) (r : He
   unfolding readRoute unlessRefused
   to-refused z w = rw (its-to, ne-eqb (to .refusal) 0 z) w
 
-  pub to-alone : (p : PathRead) → to .refusal ≡ 0 → d ≡ length t → p ≡ pathRead (refused 0) → r ≡ withPath from (to .call) p body → r ≡ readRoute from t body
-  unfolding readRoute unlessRefused
-  to-alone p z l e w = rw (its-to, eq-eqb (to .refusal) 0 z, none-after t (sym f ∙ l), ← e) w
+  module _ (z : to .refusal ≡ 0) where
+    pub to-alone : (p : Path) → d ≡ length t → p ≡ pathOf [] → r ≡ headerAccepted from (to .call) p body → r ≡ readRoute from t body
+    unfolding readRoute unlessRefused withHops carried
+    to-alone p l e w = rw (its-to, eq-eqb (to .refusal) 0 z, none-after t (sym f ∙ l), ← e) w
 
-  pub to-hops : (p : PathRead) → to .refusal ≡ 0 → (d ≡ length t → ⊥) → p ≡ pathRead (carriedBack (textHops 8 (fields (take (length t - (d + 1)) (drop (d + 1) t)))))
-      → r ≡ withPath from (to .call) p body → r ≡ readRoute from t body
-  unfolding readRoute unlessRefused othersOf
-  to-hops p z l e w =
-      let y : indexOf comma t < length t = omega (arith, index-le comma t) in
-      let x : othersOf (fields t) ≡ fields (take (length t - (d + 1)) (drop (d + 1) t)) = rw (fields-two t y, rest-at t d, f) in
-      rw (its-to, eq-eqb (to .refusal) 0 z, x, ← e) w
+    module _ (p : PathRead) (l : d ≡ length t → ⊥) (e : p ≡ textRead (textHops 8 (fields (take (length t - (d + 1)) (drop (d + 1) t))))) where
+      others : othersOf (fields t) ≡ fields (take (length t - (d + 1)) (drop (d + 1) t))
+      unfolding othersOf
+      others =
+          let y : indexOf comma t < length t = omega (arith, index-le comma t) in
+          rw (fields-two t y, rest-at t d, f)
+
+      hops-are : p ≡ textRead (textHops 8 (othersOf (fields t)))
+      hops-are = e ∙ rw others
+
+      pub to-hops-refused : (p .refusal ≡ 0 → ⊥) → r ≡ headerRefused (p .refusal) → r ≡ readRoute from t body
+      unfolding readRoute unlessRefused
+      to-hops-refused y w = rw (its-to, eq-eqb (to .refusal) 0 z) (w ∙ rw hops-are (hops-refused (textHops 8 (othersOf (fields t))) _ (λ x. y (ap (λ (q : PathRead). q .refusal) hops-are ∙ x))))
+
+      pub to-hops : p .refusal ≡ 0 → r ≡ headerAccepted from (to .call) (p .path) body → r ≡ readRoute from t body
+      unfolding readRoute unlessRefused
+      to-hops y w =
+          rw (its-to, eq-eqb (to .refusal) 0 z)
+          (w ∙ rw hops-are (hops-given from (to .call) body (text-sound 8 (othersOf (fields t))) (sym (ap (λ (q : PathRead). q .refusal) hops-are) ∙ y)))
 
 -- ---- source
 

@@ -1,5 +1,6 @@
 pub mod Stars
 pub mod Going
+pub mod Walks
 pub mod TextHops
 pub mod Heads
 pub mod InRange
@@ -9,7 +10,6 @@ pub mod TextWritten
 pub mod FrameWritten
 pub mod FrameHops
 pub mod Frames
-pub mod Walks
 pub mod Answers
 pub mod FrameBack
 pub mod Theorems

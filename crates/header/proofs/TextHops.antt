@@ -19,8 +19,9 @@ use Rattle.laws.proofs.Places.{index-le, found-next}
 use Rattle.header.specs.declared.Hop.{Hop}
 use Rattle.header.specs.declared.HopRead.{HopRead}
 use Rattle.header.specs.declared.PathRead.{PathRead}
-use Rattle.header.specs.Header.{refused, these, blankHop, pathRead}
-use Rattle.header.specs.Text.{fields, onFirst, readHop, hopThen, textHops, carried, carriedBack}
+use Rattle.header.specs.Header.{refused, these, blankHop}
+use Rattle.header.specs.Text.{fields, onFirst, readHop, hopThen, textHops, carried}
+use Rattle.header.specs.Private.{pathRefused, textRead}
 use Rattle.header.proofs.Going.{Going, going-start, going-more, going-refused, going-carried}
 
 -- ---- the parts of a text, by the place of its first comma
@@ -74,8 +75,8 @@ pub reading-start : (s : List ℕ) (b : Hop) → b ≡ blankHop → Reading s s 
 reading-start s b e = record { going = going-start (textHops 8 (fields s)) b e; within = omega arith }
 
 module _ (s t : List ℕ) (hops : List Hop) (n : ℕ) (g : Reading s t hops n) where
-  pub ninth : (r : PathRead) → n ≡ 8 → r ≡ pathRead (refused 5) → r ≡ pathRead (carriedBack (textHops 8 (fields s)))
-  unfolding textHops carriedBack
+  pub ninth : (r : PathRead) → n ≡ 8 → r ≡ pathRefused 5 → r ≡ textRead (textHops 8 (fields s))
+  unfolding textHops textRead
   ninth r e w =
       let p = fields-some t in
       let z : 8 - n ≡ 0 = omega arith in
@@ -94,8 +95,8 @@ module _ (s t : List ℕ) (hops : List Hop) (n : ℕ) (g : Reading s t hops n) w
         let z : 8 - n ≡ suc (8 - (n + 1)) = omega arith in
         rw (p, z, ← q)
 
-    pub hop-refused : (r : PathRead) → (h .refusal ≡ 0 → ⊥) → r ≡ pathRead (refused (h .refusal)) → r ≡ pathRead (carriedBack (textHops 8 (fields s)))
-    unfolding hopThen carriedBack
+    pub hop-refused : (r : PathRead) → (h .refusal ≡ 0 → ⊥) → r ≡ pathRefused (h .refusal) → r ≡ textRead (textHops 8 (fields s))
+    unfolding hopThen textRead
     hop-refused r z w =
         let p = fields-some t in
         let x : fields t ≡ take e t ∷ p .0 = rw f (p .1) in
@@ -126,5 +127,5 @@ module _ (s t : List ℕ) (hops : List Hop) (n : ℕ) (g : Reading s t hops n) w
         record { going = goes _ p z; within = omega arith }
 
 pub hops-read : (s : List ℕ) (hops : List Hop) (n : ℕ) (out : List Hop) → Read s hops n → out ≡ carried (take n hops) ++ drop n hops
-    → record { refusal = 0; path = record { hops = out; count = n } } ≡ pathRead (carriedBack (textHops 8 (fields s)))
+    → record { path = record { hops = out; count = n }; refusal = 0 } ≡ textRead (textHops 8 (fields s))
 hops-read s hops n out g q = going-carried _ _ hops n (g .going) refl out q

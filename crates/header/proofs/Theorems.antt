@@ -16,7 +16,7 @@ use Rattle.callsign.proofs.AddressBack.{inAddress}
 use Rattle.header.specs.declared.Hop.{Hop}
 use Rattle.header.specs.declared.Header.{Header}
 use Rattle.header.specs.Header.{these, before, pathOf, hopsOf, headerRefused, headerAccepted}
-use Rattle.header.specs.Text.{onFirst, fields, isQ, hopOf, readHop, hopThen, textHops, anyHeard, carried, carriedBack, readTextHeader, hopsText, headerText}
+use Rattle.header.specs.Text.{onFirst, fields, isQ, hopOf, readHop, hopThen, textHops, anyHeard, carried, readTextHeader, hopsText, headerText}
 use Rattle.header.specs.Frame.{readFrameHeader, headerFrame}
 use Rattle.header.specs.Range.{headerInRange, frameRefusal}
 use Rattle.header.proofs.Stars.{starredLast, eachText, written-stars, carried-starred, carried-twice}
@@ -91,9 +91,12 @@ P11-text = 65 ∷ comma ∷ 66 ∷ star ∷ comma ∷ 67 ∷ []
 abbrev pub P11-hops : List Hop
 P11-hops = hop 65 true ∷ hop 66 true ∷ hop 67 false ∷ []
 
-pub P11-read : carriedBack (textHops 8 (fields P11-text)) ≡ these P11-hops
-unfolding fields onFirst textHops hopThen before readHop isQ hopOf readText readUnstarred parted callAccepted indexOf utf8 characters after within isZero made joined padTo carriedBack carried anyHeard
-P11-read = refl
+abbrev P11-typed : List Hop
+P11-typed = hop 65 false ∷ hop 66 true ∷ hop 67 false ∷ []
+
+pub P11-read : (textHops 8 (fields P11-text) ≡ these P11-typed) × (carried P11-typed ≡ P11-hops)
+unfolding fields onFirst textHops hopThen before readHop isQ hopOf readText readUnstarred parted callAccepted indexOf utf8 characters after within isZero made joined padTo carried anyHeard
+P11-read = (refl, refl)
 
 pub P11-written : hopsText P11-hops ≡ comma ∷ P11-text
 unfolding hopsText anyHeard textOf callPart ssidPart withStar made joined padTo

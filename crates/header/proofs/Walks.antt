@@ -1,6 +1,6 @@
 -- What reading hops can give, of a text or of a frame: a refusal, or at most so many hops, each in range.
 -- Assumes nothing.
-use mathlib.Core.Path.{_≡_, refl, ap, _∙_}
+use mathlib.Core.Path.{_≡_, refl, ap}
 use mathlib.Core.Logic.{_⊎_, inl, inr}
 use mathlib.Core.Bool.{Bool, true, false, cond, _&&_}
 use mathlib.Core.List.{List, [], _∷_}
@@ -19,10 +19,9 @@ use Rattle.callsign.proofs.TextBack.{text-low}
 use Rattle.callsign.proofs.AddressBack.{address-refusal}
 use Rattle.header.specs.declared.Hop.{Hop}
 use Rattle.header.specs.Header.{Hops, refused, these, before, blankHop}
-use Rattle.header.specs.Text.{isQ, hopRefused, hopOf, readHop, hopThen, textHops, carried, carriedBack}
+use Rattle.header.specs.Text.{isQ, hopRefused, hopOf, readHop, hopThen, textHops, carried}
 use Rattle.header.specs.Frame.{addressHop, addressThen, frameHops}
 use Rattle.header.specs.Range.{hopInRange}
-use Rattle.header.proofs.Going.{length-carried}
 
 -- ---- the numbers
 
@@ -83,15 +82,10 @@ text-sound (suc k) (t ∷ ts) =
     (λ e. before-sound InText (readHop t .hop) k (hop-range t) r)
     (λ e. none (readHop t .refusal) (hop-in-text t (eqb-false (readHop t .refusal) 0 e)))
 
-carried-range : (l : List Hop) → every hopInRange (carried l) ≡ every hopInRange l
+pub carried-range : (l : List Hop) → every hopInRange (carried l) ≡ every hopInRange l
 unfolding every carried
 carried-range [] = refl
 carried-range (h ∷ l) = ap (λ (b : Bool). inRange (h .call) && b) (carried-range l)
-
-pub carried-sound : (k : ℕ) {w : Hops} → Sound InText k w → Sound InText k (carriedBack w)
-unfolding carriedBack
-carried-sound k (none n p) = none n p
-carried-sound k (some l m q) = let c = length-carried l in some (carried l) (omega arith) (carried-range l ∙ q)
 
 -- ---- a frame's hops
 

@@ -15,9 +15,9 @@ use Rattle.callsign.specs.Address.{readAddress}
 use Rattle.callsign.specs.Packed.{writeAddress}
 use Rattle.header.specs.declared.Hop.{Hop}
 use Rattle.header.specs.declared.Header.{Header}
-use Rattle.header.specs.declared.PathRead.{PathRead}
+use Rattle.header.specs.declared.Path.{Path}
 use Rattle.header.specs.declared.HeaderRead.{HeaderRead}
-use Rattle.header.specs.Header.{Hops, refused, these, before, hopsOf, pathRead, headerRefused, headerAccepted, unlessRefused}
+use Rattle.header.specs.Header.{Hops, refused, these, before, pathOf, hopsOf, headerRefused, headerAccepted, unlessRefused, withHops}
 
 -- ---- the control and protocol bytes
 
@@ -62,11 +62,10 @@ frameHops (suc k) s =
 -- ---- the header read
 
 -- the addresses, seven bytes each, and behind them the pair
-unfoldable pub withPair : Callsign → Callsign → PathRead → List ℕ → HeaderRead
-withPair from to p s =
-    let at = 14 + 7 * p .path .count in
-    unlessRefused (p .refusal)
-    (cond (startsWithPair (drop at s)) (headerAccepted from to (p .path) (at + 2)) (headerRefused 2))
+unfoldable pub withPair : Callsign → Callsign → Path → List ℕ → HeaderRead
+withPair from to path s =
+    let at = 14 + 7 * path .count in
+    cond (startsWithPair (drop at s)) (headerAccepted from to path (at + 2)) (headerRefused 2)
 
 -- source and hops of the frame s, after its destination
 unfoldable pub readSource : Callsign → List ℕ → HeaderRead
@@ -74,7 +73,7 @@ readSource to s =
     let from = readAddress (take 7 (drop 7 s)) in
     cond (ltb (length s) 14) (headerRefused 2)
     (unlessRefused (from .refusal)
-    (withPair (from .call) to (pathRead (cond (from .last) (these []) (frameHops 8 (drop 14 s)))) s))
+    (withHops (cond (from .last) (these []) (frameHops 8 (drop 14 s))) (λ l. withPair (from .call) to (pathOf l) s)))
 
 -- 1, and then the destination: present (2), readable (3), not last (2)
 unfoldable pub readFrameHeader : List ℕ → HeaderRead

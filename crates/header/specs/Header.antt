@@ -12,7 +12,6 @@ use Rattle.callsign.specs.Text.{blankCall}
 use Rattle.header.specs.declared.Hop.{Hop}
 use Rattle.header.specs.declared.Path.{Path}
 use Rattle.header.specs.declared.Header.{Header}
-use Rattle.header.specs.declared.PathRead.{PathRead}
 use Rattle.header.specs.declared.HeaderRead.{HeaderRead}
 
 -- ---- the record
@@ -63,7 +62,7 @@ unfoldable pub before : Hop → Hops → Hops
 before h (refused n) = refused n
 before h (these l) = these (h ∷ l)
 
--- the same as a number and a path
-unfoldable pub pathRead : Hops → PathRead
-pathRead (refused n) = record { refusal = n; path = pathOf [] }
-pathRead (these l) = record { refusal = 0; path = pathOf l }
+-- the hops' refusal is the header's; without one, what is made of the hops
+unfoldable pub withHops : Hops → (List Hop → HeaderRead) → HeaderRead
+withHops (refused n) next = headerRefused n
+withHops (these l) next = next l

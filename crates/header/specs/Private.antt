@@ -1,5 +1,5 @@
--- What only private functions promise: the pieces of a header, each with its writer's refusal, put one behind the other into a
--- scratch array; a path apart from its callsigns; and the place of the last star.
+-- What only private functions promise: hops as the code hands them on; the pieces of a header, each with its writer's refusal, put
+-- one behind the other into a scratch array; a path apart from its callsigns; and the place of the last star.
 -- Assumes nothing.
 use Prim.Native.Nat.{ℕ, suc, _+_, max}
 use mathlib.Core.Bool.{Bool, false, not, cond, _&&_}
@@ -16,11 +16,30 @@ use Rattle.callsign.specs.Packed.{writeAddress}
 use Rattle.callsign.specs.Range.{rangeRefusal, textOf, withStar}
 use Rattle.header.specs.declared.Hop.{Hop}
 use Rattle.header.specs.declared.Path.{Path}
+use Rattle.header.specs.declared.PathRead.{PathRead}
 use Rattle.header.specs.declared.Header.{Header}
-use Rattle.header.specs.Header.{hopsOf}
-use Rattle.header.specs.Text.{anyHeard}
+use Rattle.header.specs.Header.{Hops, refused, these, pathOf, hopsOf}
+use Rattle.header.specs.Text.{anyHeard, carried}
 use Rattle.header.specs.Frame.{pair, hopAddresses, addresses}
 use Rattle.header.specs.Range.{isBlank}
+
+-- ---- hops read
+
+-- a refusal: no hops
+unfoldable pub pathRefused : ℕ → PathRead
+pathRefused n = record { path = pathOf []; refusal = n }
+
+-- a frame's hops, each heard as it is
+unfoldable pub frameRead : Hops → PathRead
+frameRead (refused n) = pathRefused n
+frameRead (these l) = record { path = pathOf l; refusal = 0 }
+
+-- a text's, their stars carried back
+unfoldable pub textRead : Hops → PathRead
+textRead (refused n) = pathRefused n
+textRead (these l) = record { path = pathOf (carried l); refusal = 0 }
+
+-- ---- a path to be written
 
 -- at most eight hops, and blank ones behind them; their callsigns are not looked at
 unfoldable pub isTidy : Path → Bool

@@ -15,9 +15,8 @@ use Rattle.callsign.specs.Range.{textOf, withStar}
 use Rattle.header.specs.declared.Hop.{Hop}
 use Rattle.header.specs.declared.HopRead.{HopRead}
 use Rattle.header.specs.declared.Header.{Header}
-use Rattle.header.specs.declared.PathRead.{PathRead}
 use Rattle.header.specs.declared.HeaderRead.{HeaderRead}
-use Rattle.header.specs.Header.{Hops, refused, these, before, blankHop, hopsOf, pathRead, headerRefused, headerAccepted, unlessRefused}
+use Rattle.header.specs.Header.{Hops, refused, these, before, blankHop, pathOf, hopsOf, headerRefused, headerAccepted, unlessRefused, withHops}
 
 -- ---- the parts between commas
 
@@ -81,23 +80,14 @@ unfoldable pub carried : List Hop → List Hop
 carried [] = []
 carried (h ∷ l) = record { call = h .call; heard = h .heard || anyHeard l } ∷ carried l
 
--- the same, unless a hop is refused
-unfoldable pub carriedBack : Hops → Hops
-carriedBack (refused n) = refused n
-carriedBack (these l) = these (carried l)
-
 -- ---- the header read
-
--- the path's refusal, or the header
-unfoldable pub withPath : Callsign → Callsign → PathRead → ℕ → HeaderRead
-withPath from to p body = unlessRefused (p .refusal) (headerAccepted from to (p .path) body)
 
 -- destination and hops, between commas, and the hops' stars
 unfoldable pub readRoute : Callsign → List ℕ → ℕ → HeaderRead
 readRoute from t body =
     let to = readText (firstOf (fields t)) in
     unlessRefused (to .refusal)
-    (withPath from (to .call) (pathRead (carriedBack (textHops 8 (othersOf (fields t))))) body)
+    (withHops (textHops 8 (othersOf (fields t))) (λ l. headerAccepted from (to .call) (pathOf (carried l)) body))
 
 -- what stands before `:`: source, `>`, and the route
 unfoldable pub readBefore : List ℕ → ℕ → HeaderRead

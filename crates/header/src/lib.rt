@@ -2,17 +2,17 @@
 // AX.25 frame, read and written.
 ghost use mathlib.Core.Path.{_≡_};
 ghost use mathlib.Core.Bool.{_||_};
-ghost use mathlib.Core.List.{_++_};
+ghost use mathlib.Core.List.{[], _++_};
 ghost use Prim.Native.Nat.{_≤_, max};
 ghost use lib.ListN.{length, take, drop};
 ghost use Rattle.laws.specs.Lists.{every};
 ghost use Rattle.buffer.specs.Wrote.{ends, wrote};
 ghost use Rattle.callsign.specs.Packed.{writeAddress};
-ghost use Rattle.header.specs.Header.{blankHop, blankHeader, headerRefused, pathRead, refused};
-ghost use Rattle.header.specs.Text.{fields, isQ, readHop, textHops, carried, carriedBack, withPath, readRoute, readBefore, readTextHeader, headerText};
+ghost use Rattle.header.specs.Header.{blankHop, pathOf, blankHeader, headerRefused, headerAccepted};
+ghost use Rattle.header.specs.Text.{fields, isQ, readHop, textHops, carried, readRoute, readBefore, readTextHeader, headerText};
 ghost use Rattle.header.specs.Frame.{frameHops, withPair, readSource, readFrameHeader, headerFrame};
 ghost use Rattle.header.specs.Range.{isBlank, textRefusal, frameRefusal};
-ghost use Rattle.header.specs.Private.{isTidy, building, plain, callPiece, addressPiece, withPiece, withPieces, heardUpTo, endPieces, hopPieces, textPieces, endAddressPieces, hopAddressPieces, framePieces};
+ghost use Rattle.header.specs.Private.{pathRefused, frameRead, textRead, isTidy, building, plain, callPiece, addressPiece, withPiece, withPieces, heardUpTo, endPieces, hopPieces, textPieces, endAddressPieces, hopAddressPieces, framePieces};
 use callsign::Callsign;
 use callsign::Field;
 
@@ -66,14 +66,21 @@ fn blank_hop() -> Hop
     Hop { call, heard: false }
 }
 
+// The path of no hops.
+fn no_path() -> Path
+    ensures { λ r. ⌜ r ≡ pathOf [] ⌝ }
+{
+    let hop = blank_hop();
+    let hops = [hop; 8];
+    Path { hops, count: 0 }
+}
+
 // The header with nothing in it.
 pub fn blank() -> Header
     ensures { λ r. ⌜ r ≡ blankHeader ⌝ }
 {
     let call = callsign::blank();
-    let hop = blank_hop();
-    let hops = [hop; 8];
-    let path = Path { hops, count: 0 };
+    let path = no_path();
     Header {
         from: call,
         to: call,
@@ -86,20 +93,28 @@ fn refused(n: u8) -> HeaderRead
 {
     let header = blank();
     HeaderRead {
-        refusal: n,
         header,
         body: 0,
+        refusal: n,
     }
 }
 
-// No hops, by a refusal (or by 0, where there are none).
-fn no_path(n: u8) -> PathRead
-    ensures { λ r. ⌜ r ≡ pathRead (refused n) ⌝ }
+fn accepted(from: Callsign, to: Callsign, path: Path, body: usize) -> HeaderRead
+    ensures { λ r. ⌜ r ≡ headerAccepted from to path body ⌝ }
 {
-    let hop = blank_hop();
-    let hops = [hop; 8];
-    let path = Path { hops, count: 0 };
-    PathRead { refusal: n, path }
+    let header = Header { from, to, path };
+    HeaderRead {
+        header,
+        body,
+        refusal: 0,
+    }
+}
+
+fn path_refused(n: u8) -> PathRead
+    ensures { λ r. ⌜ r ≡ pathRefused n ⌝ }
+{
+    let path = no_path();
+    PathRead { path, refusal: n }
 }
 
 // ---- a line of text read
@@ -161,7 +176,7 @@ fn carry(hops: [Hop; 8], n: usize) -> [Hop; 8]
 
 // The hops of a text, with commas between them.
 fn read_hops(s: &[u8]) -> PathRead
-    ensures { λ r. ⌜ r ≡ pathRead (carriedBack (textHops 8 (fields (now (s .entry))))) ⌝ }
+    ensures { λ r. ⌜ r ≡ textRead (textHops 8 (fields (now (s .entry)))) ⌝ }
 {
     let none = blank_hop();
     let mut hops = [none; 8];
@@ -169,12 +184,12 @@ fn read_hops(s: &[u8]) -> PathRead
     let mut t = s;
     loop {
         if n == 8 {
-            return no_path(5);
+            return path_refused(5);
         }
         let e = laws::find(t, b',');
         let h = read_hop(&t[..e]);
         if h.refusal != 0 {
-            return no_path(h.refusal);
+            return path_refused(h.refusal);
         }
         let hop = h.hop;
         hops[n] = hop;
@@ -185,24 +200,9 @@ fn read_hops(s: &[u8]) -> PathRead
                 hops: heard,
                 count: n,
             };
-            return PathRead { refusal: 0, path };
+            return PathRead { path, refusal: 0 };
         }
         t = &t[e + 1..];
-    }
-}
-
-fn with_path(from: Callsign, to: Callsign, p: PathRead, body: usize) -> HeaderRead
-    ensures { λ r. ⌜ r ≡ withPath from to p body ⌝ }
-{
-    if p.refusal != 0 {
-        return refused(p.refusal);
-    }
-    let path = p.path;
-    let header = Header { from, to, path };
-    HeaderRead {
-        refusal: 0,
-        header,
-        body,
     }
 }
 
@@ -217,9 +217,14 @@ fn read_route(from: Callsign, t: &[u8], body: usize) -> HeaderRead
     }
     let destination = to.call;
     if d == t.len() {
-        return with_path(from, destination, no_path(0), body);
+        return accepted(from, destination, no_path(), body);
     }
-    with_path(from, destination, read_hops(&t[d + 1..]), body)
+    let hops = read_hops(&t[d + 1..]);
+    if hops.refusal != 0 {
+        return refused(hops.refusal);
+    }
+    let path = hops.path;
+    accepted(from, destination, path, body)
 }
 
 // What stands before `:`.
@@ -256,7 +261,7 @@ pub fn read_text(s: &[u8]) -> HeaderRead
 
 // The hops' addresses at the front of s, up to the first whose low bit is set.
 fn walk(s: &[u8]) -> PathRead
-    ensures { λ r. ⌜ r ≡ pathRead (frameHops 8 (now (s .entry))) ⌝ }
+    ensures { λ r. ⌜ r ≡ frameRead (frameHops 8 (now (s .entry))) ⌝ }
 {
     let none = blank_hop();
     let mut hops = [none; 8];
@@ -312,21 +317,17 @@ fn walk(s: &[u8]) -> PathRead
         }
     }
     if refusal != 0 {
-        return no_path(refusal);
+        return path_refused(refusal);
     }
     let path = Path { hops, count };
-    PathRead { refusal: 0, path }
+    PathRead { path, refusal: 0 }
 }
 
 // The header of a source, a destination and a path, if the control and protocol bytes follow the addresses in s.
-fn with_pair(from: Callsign, to: Callsign, p: PathRead, s: &[u8]) -> HeaderRead
-    requires { ⌜ p .path .count ≤ 8 ⌝ }
-    ensures { λ r. ⌜ r ≡ withPair from to p (now (s .entry)) ⌝ }
+fn with_pair(from: Callsign, to: Callsign, path: Path, s: &[u8]) -> HeaderRead
+    requires { ⌜ path .count ≤ 8 ⌝ }
+    ensures { λ r. ⌜ r ≡ withPair from to path (now (s .entry)) ⌝ }
 {
-    if p.refusal != 0 {
-        return refused(p.refusal);
-    }
-    let path = p.path;
     let at = 14 + 7 * path.count;
     if s.len() < at + 2 {
         return refused(2);
@@ -338,12 +339,7 @@ fn with_pair(from: Callsign, to: Callsign, p: PathRead, s: &[u8]) -> HeaderRead
     if s[at + 1] != pair[1] {
         return refused(2);
     }
-    let header = Header { from, to, path };
-    HeaderRead {
-        refusal: 0,
-        header,
-        body: at + 2,
-    }
+    accepted(from, to, path, at + 2)
 }
 
 // Source and hops of a frame whose destination is read.
@@ -359,9 +355,14 @@ fn read_source(to: Callsign, s: &[u8]) -> HeaderRead
     }
     let source = from.call;
     if from.last {
-        return with_pair(source, to, no_path(0), s);
+        return with_pair(source, to, no_path(), s);
     }
-    with_pair(source, to, walk(&s[14..]), s)
+    let hops = walk(&s[14..]);
+    if hops.refusal != 0 {
+        return refused(hops.refusal);
+    }
+    let path = hops.path;
+    with_pair(source, to, path, s)
 }
 
 // Reads the header of a frame: refused with 1, 2, 3 or 5, as document 01 orders them; each hop's heard bit as it is.

@@ -1,6 +1,5 @@
 -- The blank header. Assumes nothing.
-use Rattle.header.specs.Header.{pathOf, headerOf, blankHeader}
-use Rattle.laws.specs.Lists.{padTo}
+use Rattle.header.specs.Header.{headerOf, blankHeader}
 use borrow.Author.Needs.{needs}
 use Rattle.header.proofs.blank.Statement.{statement}
 use Rattle.header.proofs.blank.Tie as tie
@@ -8,12 +7,12 @@ use Rattle.header.proofs.blank.Tie as tie
 blank-requires : tie.Need-blank-requires
 blank-requires c κs = search needs
 
-blank-hop-requires : tie.Need-blank-hop-requires
-blank-hop-requires c κs = search needs
+no-path-requires : tie.Need-no-path-requires
+no-path-requires c κs = search needs
 
 returns : tie.Need-returns
-unfolding blankHeader headerOf pathOf padTo
-returns c = rw (c .before .blank .ensures, c .blank-hop .ensures)
+unfolding blankHeader headerOf
+returns c = rw (c .before .blank .ensures, c .no-path .ensures)
 
 pub blank-spec : {M : Type 1} → statement M
-blank-spec = tie.close (tie.spec blank-requires blank-hop-requires returns)
+blank-spec = tie.close (tie.spec blank-requires no-path-requires returns)

@@ -1,7 +1,7 @@
 -- Destination up to the first comma, hops after it. Assumes nothing.
-use borrow.Author.Needs.{needs}
 use Rattle.laws.proofs.Places.{found-part, found-next, found-fits}
-use Rattle.header.proofs.Heads.{to-refused, to-alone, to-hops}
+use Rattle.header.proofs.Heads.{to-refused, to-alone, to-hops-refused, to-hops}
+use borrow.Author.Needs.{needs}
 use Rattle.header.proofs.read_route.Statement.{statement}
 use Rattle.header.proofs.read_route.Tie as tie
 
@@ -23,8 +23,8 @@ returns c = search to-refused
 no-path-requires : tie.Need-no-path-requires
 no-path-requires c κs = search needs
 
-with-path-requires : tie.Need-with-path-requires
-with-path-requires c κs = search needs
+accepted-requires : tie.Need-accepted-requires
+accepted-requires c κs = search needs
 
 returns-2 : tie.Need-returns-2
 returns-2 c = search to-alone
@@ -44,11 +44,17 @@ part-read-hops-end c = search needs
 read-hops-requires : tie.Need-read-hops-requires
 read-hops-requires c κs = search needs
 
-with-path-requires-2 : tie.Need-with-path-requires-2
-with-path-requires-2 c κs = search needs
+refused-requires-2 : tie.Need-refused-requires-2
+refused-requires-2 c κs = search needs
 
 returns-3 : tie.Need-returns-3
-returns-3 c = search to-hops
+returns-3 c = search to-hops-refused
+
+accepted-requires-2 : tie.Need-accepted-requires-2
+accepted-requires-2 c κs = search needs
+
+returns-4 : tie.Need-returns-4
+returns-4 c = search to-hops
 
 pub read-route-spec : {M : Type 1} → statement M
 read-route-spec =
@@ -60,12 +66,14 @@ read-route-spec =
     refused-requires
     returns
     no-path-requires
-    with-path-requires
+    accepted-requires
     returns-2
     add-read-hops
     sub-read-hops
     part-read-hops-start
     part-read-hops-end
     read-hops-requires
-    with-path-requires-2
-    returns-3)
+    refused-requires-2
+    returns-3
+    accepted-requires-2
+    returns-4)

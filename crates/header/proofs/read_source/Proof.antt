@@ -1,5 +1,5 @@
 -- Source, and hops where it is not the last. Assumes nothing.
-use Rattle.header.proofs.Frames.{walk-count, none-count, no-source, source-refused, source-alone, source-hops}
+use Rattle.header.proofs.Frames.{walk-count, none-count, no-source, source-refused, source-alone, source-hops-refused, source-hops}
 use borrow.Author.Needs.{needs}
 use Rattle.header.proofs.read_source.Statement.{statement}
 use Rattle.header.proofs.read_source.Tie as tie
@@ -49,11 +49,17 @@ part-walk-end c = search needs
 walk-requires : tie.Need-walk-requires
 walk-requires c κs = search needs
 
+refused-requires-3 : tie.Need-refused-requires-3
+refused-requires-3 c κs = search needs
+
+returns-4 : tie.Need-returns-4
+returns-4 c = search source-hops-refused
+
 with-pair-requires-2 : tie.Need-with-pair-requires-2
 with-pair-requires-2 c κs = search walk-count
 
-returns-4 : tie.Need-returns-4
-returns-4 c = search source-hops
+returns-5 : tie.Need-returns-5
+returns-5 c = search source-hops
 
 pub read-source-spec : {M : Type 1} → statement M
 read-source-spec =
@@ -74,5 +80,7 @@ read-source-spec =
     part-walk-start
     part-walk-end
     walk-requires
+    refused-requires-3
+    returns-4
     with-pair-requires-2
-    returns-4)
+    returns-5)
