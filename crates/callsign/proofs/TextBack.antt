@@ -23,7 +23,7 @@ use Rattle.callsign.proofs.Made.{made-range, made-written, blank-range}
 
 -- a refusal; no dash; `-0` dropped; call and SSID
 pub data Seen (t : List ℕ) (starred : Bool) : CallRead → Type 0 where
-  refused : (n : ℕ) → (n ≡ 0 → ⊥) → n ≤ 4 → Seen t starred (callRefused n)
+  refused : (n : ℕ) → 3 ≤ n → n ≤ 4 → Seen t starred (callRefused n)
   bare : length t ≤ 16 → utf8 t ≡ true → Seen t starred (callAccepted (made t []) starred false)
   zeroed : (a : List ℕ) → t ≡ a ++ dash ∷ digit0 ∷ [] → length t ≤ 16 → utf8 t ≡ true → Seen t starred (callAccepted (made a []) starred true)
   full : (a b : List ℕ) → t ≡ a ++ dash ∷ b → (length b ≡ 0 → ⊥) → isZero b ≡ false → length t ≤ 16 → utf8 t ≡ true → Seen t starred (callAccepted (made a b) starred false)
@@ -41,8 +41,8 @@ module _ (t : List ℕ) (starred : Bool) (h : length t ≤ 16) (v : utf8 t ≡ t
     where
       go : (p q z : Bool) → eqb (length b) 0 ≡ q → isZero b ≡ z
           → Seen t starred (cond p (callRefused 3) (cond q (callRefused 3) (cond z (callAccepted (made a []) starred true) (callAccepted (made a b) starred false))))
-      go true q z f g = refused 3 (λ o. omega arith) (omega arith)
-      go false true z f g = refused 3 (λ o. omega arith) (omega arith)
+      go true q z f g = refused 3 (omega arith) (omega arith)
+      go false true z f g = refused 3 (omega arith) (omega arith)
       go false false true f g = zeroed a (e ∙ ap (λ (l : List ℕ). a ++ dash ∷ l) (zero-is b g)) h v
       go false false false f g = full a b e (eqb-false (length b) 0 f) g h v
 
@@ -52,8 +52,8 @@ seen t starred = go (ltb 16 (length t)) (utf8 t) (eqb (indexOf dash t) (length t
   where
     go : (p q d : Bool) → ltb 16 (length t) ≡ p → utf8 t ≡ q → eqb (indexOf dash t) (length t) ≡ d
         → Seen t starred (cond p (callRefused 4) (cond (not q) (callRefused 3) (cond d (callAccepted (made t []) starred false) (parted (take (indexOf dash t) t) (drop (suc (indexOf dash t)) t) starred))))
-    go true q d e f g = refused 4 (λ o. omega arith) (omega arith)
-    go false false d e f g = refused 3 (λ o. omega arith) (omega arith)
+    go true q d e f g = refused 4 (omega arith) (omega arith)
+    go false false d e f g = refused 3 (omega arith) (omega arith)
     go false true true e f g = bare (ltb-false 16 (length t) e) f
     go false true false e f g =
         let n : indexOf dash t ≡ length t → ⊥ = eqb-false (indexOf dash t) (length t) g in
@@ -77,12 +77,12 @@ seen-range t starred r (full a b e k z h v) =
 
 -- ---- a refusal
 
-seen-low : (t : List ℕ) (starred : Bool) (r : CallRead) → Seen t starred r → r .refusal ≤ 4
+seen-refusal : (t : List ℕ) (starred : Bool) (r : CallRead) → Seen t starred r → (r .refusal ≡ 0 → ⊥) → (3 ≤ r .refusal) × (r .refusal ≤ 4)
 unfolding callRefused callAccepted
-seen-low t starred r (refused n h m) = m
-seen-low t starred r (bare h v) = omega arith
-seen-low t starred r (zeroed a e h v) = omega arith
-seen-low t starred r (full a b e k z h v) = omega arith
+seen-refusal t starred r (refused n h m) z = (h, m)
+seen-refusal t starred r (bare h v) z = absurd (z refl)
+seen-refusal t starred r (zeroed a e h v) z = absurd (z refl)
+seen-refusal t starred r (full a b e k z h v) y = absurd (y refl)
 
 -- ---- the text again
 
@@ -101,7 +101,7 @@ bare-written a = made-written a []
 
 seen-back : (t : List ℕ) (starred : Bool) (r : CallRead) → Seen t starred r → r .refusal ≡ 0 → asRead r ≡ withStar t starred
 unfolding callRefused callAccepted asRead withZero
-seen-back t starred r (refused n h m) q = absurd (h q)
+seen-back t starred r (refused n h m) q = absurd (omega arith)
 seen-back t starred r (bare h v) q = ap (λ (l : List ℕ). withStar l starred) (bare-written t)
 seen-back t starred r (zeroed a e h v) q = ap (λ (l : List ℕ). withStar l starred) (ap (λ (l : List ℕ). l ++ dash ∷ digit0 ∷ []) (bare-written a) ∙ sym e)
 seen-back t starred r (full a b e k z h v) q = ap (λ (l : List ℕ). withStar l starred) (made-written a b ∙ joined-full a b k ∙ sym e)
@@ -123,13 +123,15 @@ text-range s = go (eqb (getD s (length s - 1) 0) star)
     go true = seen-range _ true _ (seen (take (length s - 1) s) true)
     go false = seen-range _ false _ (seen s false)
 
-pub text-low : (s : List ℕ) → readText s .refusal ≤ 4
+-- a text is accepted, or refused with 3 or 4
+pub text-refusal : (s : List ℕ) → (readText s .refusal ≡ 0 → ⊥) → (3 ≤ readText s .refusal) × (readText s .refusal ≤ 4)
 unfolding readText
-text-low s = go (eqb (getD s (length s - 1) 0) star)
+text-refusal s = go (eqb (getD s (length s - 1) 0) star)
   where
-    go : (p : Bool) → cond p (readUnstarred (take (length s - 1) s) true) (readUnstarred s false) .refusal ≤ 4
-    go true = seen-low _ true _ (seen (take (length s - 1) s) true)
-    go false = seen-low _ false _ (seen s false)
+    go : (p : Bool) → (cond p (readUnstarred (take (length s - 1) s) true) (readUnstarred s false) .refusal ≡ 0 → ⊥)
+        → (3 ≤ cond p (readUnstarred (take (length s - 1) s) true) (readUnstarred s false) .refusal) × (cond p (readUnstarred (take (length s - 1) s) true) (readUnstarred s false) .refusal ≤ 4)
+    go true = seen-refusal _ true _ (seen (take (length s - 1) s) true)
+    go false = seen-refusal _ false _ (seen s false)
 
 pub text-back : (s : List ℕ) → readText s .refusal ≡ 0 → asRead (readText s) ≡ s
 unfolding readText withStar

@@ -23,12 +23,12 @@ use Rattle.callsign.proofs.Made.{blank-range}
 use Rattle.callsign.proofs.Theorems.{text-is-in-range, address-is-in-range}
 use Rattle.header.specs.declared.Hop.{Hop}
 use Rattle.header.specs.declared.HeaderRead.{HeaderRead}
-use Rattle.header.specs.Header.{Hops, blankHop, pathOf, hopsOf, headerOf, blankHeader, headerRefused, headerAccepted, unlessRefused, withHops}
-use Rattle.header.specs.Text.{fields, firstOf, othersOf, carried, readRoute, readBefore, readTextHeader}
+use Rattle.header.specs.Header.{mostBytes, Hops, blankHop, pathOf, hopsOf, headerOf, blankHeader, headerRefused, headerAccepted, unlessRefused, withHops}
+use Rattle.header.specs.Text.{fields, firstOf, othersOf, carried, readRoute, readBefore, readHeaderText, readTextHeader}
 use Rattle.header.specs.Frame.{startsWithPair, withPair, readSource, readFrameHeader}
 use Rattle.header.specs.Range.{hopInRange, isBlank, pathInRange, headerInRange}
 use Rattle.header.proofs.Going.{length-carried}
-use Rattle.header.proofs.Walks.{InText, InFrame, Sound, none, some, either-sound, call-in-text, text-sound, carried-range, address-in-frame, frame-sound}
+use Rattle.header.proofs.Walks.{InText, InLine, InFrame, Sound, none, some, either-sound, call-in-text, text-sound, carried-range, address-in-frame, frame-sound}
 
 pub data Answered (ok : ℕ → Type 0) (s : List ℕ) : HeaderRead → Type 0 where
   no : (n : ℕ) → ok n → Answered ok s (headerRefused n)
@@ -44,7 +44,7 @@ module _ (ok : ℕ → Type 0) (s : List ℕ) where
   unfolding unlessRefused
   unless n f g = either (eqb n 0) (λ e. g (eqb-true n 0 e)) (λ e. no n (f (eqb-false n 0 e)))
 
--- ---- a line
+-- ---- a text, and a line
 
 two-in-text : InText 2
 two-in-text = record { low = omega arith; high = omega arith }
@@ -70,14 +70,21 @@ module _ (s : List ℕ) where
       either InText s (eqb (indexOf greater t) (length t)) (λ e. no 2 two-in-text) (λ e.
       unless InText s (readText from .refusal) (call-in-text from) (λ z. route-answered (readText from .call) (drop (suc (indexOf greater t)) t) body (text-is-in-range from) m))
 
-  pub text-answered : Answered InText s (readTextHeader s)
-  unfolding readTextHeader
+  as-line : {r : HeaderRead} → Answered InText s r → Answered InLine s r
+  as-line (no n p) = let m = p .low in let k = p .high in no n (record { low = omega arith; high = k })
+  as-line (yes from to l body a b m q k) = yes from to l body a b m q k
+
+  pub text-answered : Answered InText s (readHeaderText s)
+  unfolding readHeaderText
   text-answered =
       let c = indexOf colon s in
-      either InText s (ltb 512 (length s)) (λ e. no 1 (record { low = omega arith; high = omega arith })) (λ e.
       either InText s (eqb c (length s)) (λ f. no 2 two-in-text) (λ f.
       let d = eqb-false c (length s) f in
-      before-answered (take c s) (c + 1) (omega (arith, index-le colon s))))
+      before-answered (take c s) (c + 1) (omega (arith, index-le colon s)))
+
+  pub line-answered : Answered InLine s (readTextHeader s)
+  unfolding readTextHeader
+  line-answered = either InLine s (ltb mostBytes (length s)) (λ e. no 1 (record { low = omega arith; high = omega arith })) (λ e. as-line text-answered)
 
 -- ---- a frame
 
@@ -115,7 +122,7 @@ module _ (s : List ℕ) where
   unfolding readFrameHeader
   frame-answered =
       let to = take 7 s in
-      either InFrame s (ltb 512 (length s)) (λ e. no 1 (record { low = omega arith; high = inl (omega arith) })) (λ e.
+      either InFrame s (ltb mostBytes (length s)) (λ e. no 1 (record { low = omega arith; high = inl (omega arith) })) (λ e.
       either InFrame s (ltb (length s) 7) (λ f. no 2 two-in-frame) (λ f.
       unless InFrame s (readAddress to .refusal) (address-in-frame to) (λ z.
       either InFrame s (readAddress to .last) (λ g. no 2 two-in-frame) (λ g. source-answered (readAddress to .call) (address-is-in-range to)))))

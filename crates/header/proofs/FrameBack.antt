@@ -21,7 +21,7 @@ use Rattle.callsign.proofs.AddressBack.{inAddress, address-seven}
 use Rattle.callsign.proofs.Theorems.{address-reads-back}
 use Rattle.header.specs.declared.Hop.{Hop}
 use Rattle.header.specs.declared.Header.{Header}
-use Rattle.header.specs.Header.{these, before, pathOf, hopsOf, headerAccepted, unlessRefused, withHops}
+use Rattle.header.specs.Header.{mostBytes, these, before, pathOf, hopsOf, headerAccepted, unlessRefused, withHops}
 use Rattle.header.specs.Frame.{pair, startsWithPair, addressHop, addressThen, frameHops, withPair, readSource, readFrameHeader, isNone, hopAddresses, addresses, firstRefusal, addressBytes, headerFrame}
 use Rattle.header.specs.Range.{headerInRange, frameRefusal}
 use Rattle.header.proofs.InRange.{route-count}
@@ -131,7 +131,7 @@ module _ (h : Header) (body : List ℕ) (full : length (h .path .hops) ≡ 8) (e
       )
       (pair-back (inAddress (h .from)) (inAddress (h .to)) (map inFrame hops) (headerFrame h ++ body) body p ∙ rw n)
 
-  back : length (headerFrame h ++ body) ≤ 512 → readFrameHeader (headerFrame h ++ body) ≡ headerAccepted (inAddress (h .from)) (inAddress (h .to)) (pathOf (map inFrame hops)) (16 + 7 * length hops)
+  back : length (headerFrame h ++ body) ≤ mostBytes → readFrameHeader (headerFrame h ++ body) ≡ headerAccepted (inAddress (h .from)) (inAddress (h .to)) (pathOf (map inFrame hops)) (16 + 7 * length hops)
   unfolding heardIn
   back short =
       let k = long in
@@ -153,7 +153,7 @@ module _ (h : Header) (body : List ℕ) (full : length (h .path .hops) ≡ 8) (e
       ) (omega arith)
 
 -- a header that can be written, and any body behind it
-pub frame-back : (h : Header) (body : List ℕ) → length (h .path .hops) ≡ 8 → frameRefusal h ≡ 0 → length (headerFrame h ++ body) ≤ 512
+pub frame-back : (h : Header) (body : List ℕ) → length (h .path .hops) ≡ 8 → frameRefusal h ≡ 0 → length (headerFrame h ++ body) ≤ mostBytes
     → readFrameHeader (headerFrame h ++ body) ≡ headerAccepted (inAddress (h .from)) (inAddress (h .to)) (pathOf (map inFrame (hopsOf (h .path)))) (length (headerFrame h))
 unfolding frameRefusal hopsOf
 frame-back h body full z short = go (headerInRange h) refl z

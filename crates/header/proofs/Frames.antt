@@ -16,7 +16,7 @@ use Rattle.header.specs.declared.Hop.{Hop}
 use Rattle.header.specs.declared.Path.{Path}
 use Rattle.header.specs.declared.PathRead.{PathRead}
 use Rattle.header.specs.declared.HeaderRead.{HeaderRead}
-use Rattle.header.specs.Header.{Hops, refused, these, pathOf, headerRefused, headerAccepted, unlessRefused, withHops}
+use Rattle.header.specs.Header.{mostBytes, Hops, refused, these, pathOf, headerRefused, headerAccepted, unlessRefused, withHops}
 use Rattle.header.specs.Frame.{control, protocol, startsWithPair, frameHops, withPair, readSource, readFrameHeader}
 use Rattle.header.specs.Private.{pathRefused, frameRead}
 use Rattle.header.proofs.Walks.{InFrame, Sound, none, some, frame-sound}
@@ -128,21 +128,21 @@ module _ (to : Callsign) (s : List ℕ) (r : HeaderRead) where
 
 -- ---- the frame
 
-module _ (s : List ℕ) (r : HeaderRead) (m : length s ≤ 512) where
+module _ (s : List ℕ) (r : HeaderRead) (m : length s ≤ mostBytes) where
   pub no-destination : length s < 7 → r ≡ headerRefused 2 → r ≡ readFrameHeader s
   unfolding readFrameHeader
-  no-destination h w = rw (le-ltb 512 (length s) m, lt-ltb (length s) 7 h) w
+  no-destination h w = rw (le-ltb mostBytes (length s) m, lt-ltb (length s) 7 h) w
 
   module _ (h : 7 ≤ length s) (to : AddressRead) (q : to ≡ readAddress (take 7 s)) where
     pub destination-refused : (to .refusal ≡ 0 → ⊥) → r ≡ headerRefused (to .refusal) → r ≡ readFrameHeader s
     unfolding readFrameHeader unlessRefused
-    destination-refused z w = rw (le-ltb 512 (length s) m, le-ltb (length s) 7 h, ← q, ne-eqb (to .refusal) 0 z) w
+    destination-refused z w = rw (le-ltb mostBytes (length s) m, le-ltb (length s) 7 h, ← q, ne-eqb (to .refusal) 0 z) w
 
     module _ (z : to .refusal ≡ 0) where
       pub destination-last : to .last ≡ true → r ≡ headerRefused 2 → r ≡ readFrameHeader s
       unfolding readFrameHeader unlessRefused
-      destination-last l w = rw (le-ltb 512 (length s) m, le-ltb (length s) 7 h, ← q, eq-eqb (to .refusal) 0 z, l) w
+      destination-last l w = rw (le-ltb mostBytes (length s) m, le-ltb (length s) 7 h, ← q, eq-eqb (to .refusal) 0 z, l) w
 
       pub destination-read : to .last ≡ false → r ≡ readSource (to .call) s → r ≡ readFrameHeader s
       unfolding readFrameHeader unlessRefused
-      destination-read l w = rw (le-ltb 512 (length s) m, le-ltb (length s) 7 h, ← q, eq-eqb (to .refusal) 0 z, l) w
+      destination-read l w = rw (le-ltb mostBytes (length s) m, le-ltb (length s) 7 h, ← q, eq-eqb (to .refusal) 0 z, l) w

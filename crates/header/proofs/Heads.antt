@@ -2,10 +2,10 @@
 -- Assumes nothing.
 use mathlib.Core.Path.{_≡_, refl, sym, ap, _∙_}
 use mathlib.Core.List.{List, []}
-use Prim.Native.Nat.{ℕ, suc, _+_, _-_, _<_, _≤_}
+use Prim.Native.Nat.{ℕ, suc, _+_, _-_, _<_}
 use native.Mathlib.Numerals.{add-one}
 use native.Mathlib.Omega.{arith}
-use borrow.Author.Tests.{eq-eqb, ne-eqb, le-ltb}
+use borrow.Author.Tests.{eq-eqb, ne-eqb}
 use borrow.Rule.Slice.PartAt.{part-to-end}
 use lib.ListN.{length, take, drop}
 use Rattle.laws.specs.Bytes.{comma, colon, greater}
@@ -19,7 +19,7 @@ use Rattle.header.specs.declared.Path.{Path}
 use Rattle.header.specs.declared.PathRead.{PathRead}
 use Rattle.header.specs.declared.HeaderRead.{HeaderRead}
 use Rattle.header.specs.Header.{Hops, refused, these, pathOf, headerRefused, headerAccepted, unlessRefused, withHops}
-use Rattle.header.specs.Text.{fields, firstOf, othersOf, textHops, carried, readRoute, readBefore, readTextHeader}
+use Rattle.header.specs.Text.{fields, firstOf, othersOf, textHops, carried, readRoute, readBefore, readHeaderText}
 use Rattle.header.specs.Private.{pathRefused, textRead}
 use Rattle.header.proofs.Walks.{InText, Sound, none, some, text-sound}
 use Rattle.header.proofs.TextHops.{fields-one, fields-two, fields-some, no-parts}
@@ -98,13 +98,13 @@ module _ (t : List ℕ) (body g : ℕ) (r : HeaderRead) (f : g ≡ indexOf great
     unfolding readBefore unlessRefused
     source-read z w = rw (← f, ← q, ne-eqb g (length t) l, eq-eqb (from .refusal) 0 z, ← rest-at t g) w
 
--- ---- the line
+-- ---- the text
 
-module _ (s : List ℕ) (c : ℕ) (r : HeaderRead) (m : length s ≤ 512) (f : c ≡ indexOf colon s) where
-  pub no-colon : c ≡ length s → r ≡ headerRefused 2 → r ≡ readTextHeader s
-  unfolding readTextHeader
-  no-colon l w = rw (le-ltb 512 (length s) m, ← f, eq-eqb c (length s) l) w
+module _ (s : List ℕ) (c : ℕ) (r : HeaderRead) (f : c ≡ indexOf colon s) where
+  pub no-colon : c ≡ length s → r ≡ headerRefused 2 → r ≡ readHeaderText s
+  unfolding readHeaderText
+  no-colon l w = rw (← f, eq-eqb c (length s) l) w
 
-  pub at-colon : (c ≡ length s → ⊥) → r ≡ readBefore (take c s) (c + 1) → r ≡ readTextHeader s
-  unfolding readTextHeader
-  at-colon l w = rw (le-ltb 512 (length s) m, ← f, ne-eqb c (length s) l) w
+  pub at-colon : (c ≡ length s → ⊥) → r ≡ readBefore (take c s) (c + 1) → r ≡ readHeaderText s
+  unfolding readHeaderText
+  at-colon l w = rw (← f, ne-eqb c (length s) l) w

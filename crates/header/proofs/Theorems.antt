@@ -15,46 +15,58 @@ use Rattle.callsign.specs.Range.{callPart, ssidPart, textOf, withStar}
 use Rattle.callsign.proofs.AddressBack.{inAddress}
 use Rattle.header.specs.declared.Hop.{Hop}
 use Rattle.header.specs.declared.Header.{Header}
-use Rattle.header.specs.Header.{these, before, pathOf, hopsOf, headerRefused, headerAccepted}
-use Rattle.header.specs.Text.{onFirst, fields, isQ, hopOf, readHop, hopThen, textHops, anyHeard, carried, readTextHeader, hopsText, headerText}
+use Rattle.header.specs.Header.{mostBytes, these, before, pathOf, hopsOf, headerRefused, headerAccepted}
+use Rattle.header.specs.Text.{onFirst, fields, isQ, hopOf, readHop, hopThen, textHops, anyHeard, carried, readHeaderText, readTextHeader, hopsText, headerText}
 use Rattle.header.specs.Frame.{readFrameHeader, headerFrame}
 use Rattle.header.specs.Range.{headerInRange, frameRefusal}
 use Rattle.header.proofs.Stars.{starredLast, eachText, written-stars, carried-starred, carried-twice}
 use Rattle.header.proofs.TextWritten as text
 use Rattle.header.proofs.FrameWritten as frame
-use Rattle.header.proofs.Walks.{InText, InFrame}
-use Rattle.header.proofs.Answers.{text-answered, frame-answered, answered-range, answered-body, answered-number, answered-blank}
+use Rattle.header.proofs.Walks.{InText, InLine, InFrame}
+use Rattle.header.proofs.Answers.{text-answered, line-answered, frame-answered, answered-range, answered-body, answered-number, answered-blank}
 use Rattle.header.proofs.FrameBack.{inFrame, frame-back}
 
--- ---- what is read
+-- ---- what is read: of any text, any line and any frame, accepted or not
 
--- of any line and any frame, accepted or not
+pub any-text-is-in-range : (s : List ℕ) → headerInRange (readHeaderText s .header) ≡ true
+any-text-is-in-range s = answered-range InText s (text-answered s)
+
 pub text-is-in-range : (s : List ℕ) → headerInRange (readTextHeader s .header) ≡ true
-text-is-in-range s = answered-range InText s (text-answered s)
+text-is-in-range s = answered-range InLine s (line-answered s)
 
 pub frame-is-in-range : (s : List ℕ) → headerInRange (readFrameHeader s .header) ≡ true
 frame-is-in-range s = answered-range InFrame s (frame-answered s)
 
 -- the body starts within the input, or just behind it
+pub any-text-body-within : (s : List ℕ) → readHeaderText s .body ≤ length s
+any-text-body-within s = answered-body InText s (text-answered s)
+
 pub text-body-within : (s : List ℕ) → readTextHeader s .body ≤ length s
-text-body-within s = answered-body InText s (text-answered s)
+text-body-within s = answered-body InLine s (line-answered s)
 
 pub frame-body-within : (s : List ℕ) → readFrameHeader s .body ≤ length s
 frame-body-within s = answered-body InFrame s (frame-answered s)
 
 -- ---- refusals
 
--- a line is refused with 1 to 6
-pub text-numbers : (s : List ℕ) → (readTextHeader s .refusal ≡ 0 → ⊥) → readTextHeader s .refusal ≤ 6
-text-numbers s z = answered-number InText s (text-answered s) z .high
+-- a text, however long, is refused with 2 to 6
+pub any-text-numbers : (s : List ℕ) → (readHeaderText s .refusal ≡ 0 → ⊥) → (2 ≤ readHeaderText s .refusal) × (readHeaderText s .refusal ≤ 6)
+any-text-numbers s z = let p = answered-number InText s (text-answered s) z in (p .low, p .high)
 
--- a frame is refused with 1, 2, 3 or 5
+-- a line with 1 to 6
+pub text-numbers : (s : List ℕ) → (readTextHeader s .refusal ≡ 0 → ⊥) → readTextHeader s .refusal ≤ 6
+text-numbers s z = answered-number InLine s (line-answered s) z .high
+
+-- a frame with 1, 2, 3 or 5
 pub frame-numbers : (s : List ℕ) → (readFrameHeader s .refusal ≡ 0 → ⊥) → (readFrameHeader s .refusal ≤ 3) ⊎ (readFrameHeader s .refusal ≡ 5)
 frame-numbers s z = answered-number InFrame s (frame-answered s) z .high
 
 -- "A refused decode returns the blank record"
+pub any-text-refused-blank : (s : List ℕ) → (readHeaderText s .refusal ≡ 0 → ⊥) → readHeaderText s ≡ headerRefused (readHeaderText s .refusal)
+any-text-refused-blank s = answered-blank InText s (text-answered s)
+
 pub text-refused-blank : (s : List ℕ) → (readTextHeader s .refusal ≡ 0 → ⊥) → readTextHeader s ≡ headerRefused (readTextHeader s .refusal)
-text-refused-blank s = answered-blank InText s (text-answered s)
+text-refused-blank s = answered-blank InLine s (line-answered s)
 
 pub frame-refused-blank : (s : List ℕ) → (readFrameHeader s .refusal ≡ 0 → ⊥) → readFrameHeader s ≡ headerRefused (readFrameHeader s .refusal)
 frame-refused-blank s = answered-blank InFrame s (frame-answered s)
@@ -76,7 +88,7 @@ stars-are-kept l = (written-stars (carried l), carried-starred (carried l) ∙ c
 -- ---- frames
 
 -- a header that was written reads back from any frame that starts with it: calls raised, SSIDs as numbers, each hop heard as it was
-pub frame-reads-back : (h : Header) (body : List ℕ) → length (h .path .hops) ≡ 8 → frameRefusal h ≡ 0 → length (headerFrame h ++ body) ≤ 512
+pub frame-reads-back : (h : Header) (body : List ℕ) → length (h .path .hops) ≡ 8 → frameRefusal h ≡ 0 → length (headerFrame h ++ body) ≤ mostBytes
     → readFrameHeader (headerFrame h ++ body) ≡ headerAccepted (inAddress (h .from)) (inAddress (h .to)) (pathOf (map inFrame (hopsOf (h .path)))) (length (headerFrame h))
 frame-reads-back = frame-back
 

@@ -10,12 +10,15 @@ use Rattle.buffer.proofs.Wrote.{one-end}
 use Rattle.header.specs.declared.Header.{Header}
 use Rattle.header.specs.declared.HeaderRead.{HeaderRead}
 use Rattle.header.specs.Header.{blankHeader}
-use Rattle.header.specs.Text.{readTextHeader, headerText}
+use Rattle.header.specs.Text.{readHeaderText, readTextHeader, headerText}
 use Rattle.header.specs.Frame.{readFrameHeader, headerFrame}
 use Rattle.header.specs.Range.{textRefusal, frameRefusal}
 
 pub unique-blank : (r r′ : Header) → r ≡ blankHeader → r′ ≡ blankHeader → r ≡ r′
 unique-blank r r′ = one-value r r′ blankHeader
+
+pub unique-read-any-length : (s : List ℕ) (r r′ : HeaderRead) → r ≡ readHeaderText s → r′ ≡ readHeaderText s → r ≡ r′
+unique-read-any-length s r r′ = one-value r r′ (readHeaderText s)
 
 pub unique-read-text : (s : List ℕ) (r r′ : HeaderRead) → r ≡ readTextHeader s → r′ ≡ readTextHeader s → r ≡ r′
 unique-read-text s r r′ = one-value r r′ (readTextHeader s)

@@ -15,7 +15,7 @@ use Rattle.callsign.specs.Address.{call, readAddress}
 use Rattle.callsign.specs.Range.{inRange}
 use Rattle.callsign.proofs.Theorems.{text-is-in-range, address-is-in-range}
 use Rattle.callsign.proofs.Made.{blank-range}
-use Rattle.callsign.proofs.TextBack.{text-low}
+use Rattle.callsign.proofs.TextBack.{text-refusal}
 use Rattle.callsign.proofs.AddressBack.{address-refusal}
 use Rattle.header.specs.declared.Hop.{Hop}
 use Rattle.header.specs.Header.{Hops, refused, these, before, blankHop}
@@ -25,8 +25,12 @@ use Rattle.header.specs.Range.{hopInRange}
 
 -- ---- the numbers
 
--- the refusals of a line, and of a frame
+-- the refusals of a text, however long, of a line, and of a frame
 pub record InText (n : ℕ) : Type 0 where
+  pub low : 2 ≤ n
+  pub high : n ≤ 6
+
+pub record InLine (n : ℕ) : Type 0 where
   pub low : 0 < n
   pub high : n ≤ 6
 
@@ -53,7 +57,7 @@ module _ (ok : ℕ → Type 0) where
 -- ---- a text's hops
 
 pub call-in-text : (s : List ℕ) → (readText s .refusal ≡ 0 → ⊥) → InText (readText s .refusal)
-call-in-text s z = let m = text-low s in record { low = omega arith; high = omega arith }
+call-in-text s z = let m = text-refusal s z in record { low = omega arith; high = omega arith }
 
 hop-in-text : (t : List ℕ) → (readHop t .refusal ≡ 0 → ⊥) → InText (readHop t .refusal)
 unfolding readHop hopRefused hopOf

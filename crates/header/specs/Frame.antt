@@ -17,7 +17,7 @@ use Rattle.header.specs.declared.Hop.{Hop}
 use Rattle.header.specs.declared.Header.{Header}
 use Rattle.header.specs.declared.Path.{Path}
 use Rattle.header.specs.declared.HeaderRead.{HeaderRead}
-use Rattle.header.specs.Header.{Hops, refused, these, before, pathOf, hopsOf, headerRefused, headerAccepted, unlessRefused, withHops}
+use Rattle.header.specs.Header.{mostBytes, Hops, refused, these, before, pathOf, hopsOf, headerRefused, headerAccepted, unlessRefused, withHops}
 
 -- ---- the control and protocol bytes
 
@@ -79,7 +79,7 @@ readSource to s =
 unfoldable pub readFrameHeader : List ℕ → HeaderRead
 readFrameHeader s =
     let to = readAddress (take 7 s) in
-    cond (ltb 512 (length s)) (headerRefused 1)
+    cond (ltb mostBytes (length s)) (headerRefused 1)
     (cond (ltb (length s) 7) (headerRefused 2)
     (unlessRefused (to .refusal)
     (cond (to .last) (headerRefused 2)

@@ -14,6 +14,10 @@ use Rattle.header.specs.declared.Path.{Path}
 use Rattle.header.specs.declared.Header.{Header}
 use Rattle.header.specs.declared.HeaderRead.{HeaderRead}
 
+-- "a line or frame is at most 512 bytes"
+abbrev pub mostBytes : ℕ
+mostBytes = 512
+
 -- ---- the record
 
 -- a blank callsign, not heard

@@ -16,7 +16,7 @@ use Rattle.header.specs.declared.Hop.{Hop}
 use Rattle.header.specs.declared.HopRead.{HopRead}
 use Rattle.header.specs.declared.Header.{Header}
 use Rattle.header.specs.declared.HeaderRead.{HeaderRead}
-use Rattle.header.specs.Header.{Hops, refused, these, before, blankHop, pathOf, hopsOf, headerRefused, headerAccepted, unlessRefused, withHops}
+use Rattle.header.specs.Header.{mostBytes, Hops, refused, these, before, blankHop, pathOf, hopsOf, headerRefused, headerAccepted, unlessRefused, withHops}
 
 -- ---- the parts between commas
 
@@ -97,13 +97,15 @@ readBefore t body =
     cond (eqb g (length t)) (headerRefused 2)
     (unlessRefused (from .refusal) (readRoute (from .call) (drop (suc g) t) body))
 
--- 1, and then `:`
-unfoldable pub readTextHeader : List ℕ → HeaderRead
-readTextHeader s =
+-- `:`, and what stands before it, however long the line is
+unfoldable pub readHeaderText : List ℕ → HeaderRead
+readHeaderText s =
     let c = indexOf colon s in
-    cond (ltb 512 (length s)) (headerRefused 1)
-    (cond (eqb c (length s)) (headerRefused 2)
-    (readBefore (take c s) (c + 1)))
+    cond (eqb c (length s)) (headerRefused 2) (readBefore (take c s) (c + 1))
+
+-- 1, and then the header
+unfoldable pub readTextHeader : List ℕ → HeaderRead
+readTextHeader s = cond (ltb mostBytes (length s)) (headerRefused 1) (readHeaderText s)
 
 -- ---- the header written
 

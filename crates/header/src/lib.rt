@@ -9,12 +9,15 @@ ghost use Rattle.laws.specs.Lists.{every};
 ghost use Rattle.buffer.specs.Wrote.{ends, wrote};
 ghost use Rattle.callsign.specs.Packed.{writeAddress};
 ghost use Rattle.header.specs.Header.{blankHop, pathOf, blankHeader, headerRefused, headerAccepted};
-ghost use Rattle.header.specs.Text.{fields, isQ, readHop, textHops, carried, readRoute, readBefore, readTextHeader, headerText};
+ghost use Rattle.header.specs.Text.{fields, isQ, readHop, textHops, carried, readRoute, readBefore, readHeaderText, readTextHeader, headerText};
 ghost use Rattle.header.specs.Frame.{frameHops, withPair, readSource, readFrameHeader, headerFrame};
 ghost use Rattle.header.specs.Range.{isBlank, textRefusal, frameRefusal};
 ghost use Rattle.header.specs.Private.{pathRefused, frameRead, textRead, isTidy, building, plain, callPiece, addressPiece, withPiece, withPieces, heardUpTo, endPieces, hopPieces, textPieces, endAddressPieces, hopAddressPieces, framePieces};
 use callsign::Callsign;
 use callsign::Field;
+
+// How long a line or a frame may be.
+const MOST_BYTES: usize = 512;
 
 // A hop that a packet goes through, and whether it was heard from there.
 #[repr(C)]
@@ -243,18 +246,26 @@ fn read_before(t: &[u8], body: usize) -> HeaderRead
     read_route(source, &t[g + 1..], body)
 }
 
-// Reads the header of a line: refused with 1 to 6, as document 01 orders them; hops before a starred one are heard.
-pub fn read_text(s: &[u8]) -> HeaderRead
-    ensures { λ r. ⌜ r ≡ readTextHeader (now (s .entry)) ⌝ }
+// Reads the header of a text, however long: refused with 2 to 6, as document 01 orders them; hops before a starred one are
+// heard.
+pub fn read_any_length(s: &[u8]) -> HeaderRead
+    ensures { λ r. ⌜ r ≡ readHeaderText (now (s .entry)) ⌝ }
 {
-    if 512 < s.len() {
-        return refused(1);
-    }
     let c = laws::find(s, b':');
     if c == s.len() {
         return refused(2);
     }
     read_before(&s[..c], c + 1)
+}
+
+// Reads the header of a line: refused with 1, and then as that of a text of any length.
+pub fn read_text(s: &[u8]) -> HeaderRead
+    ensures { λ r. ⌜ r ≡ readTextHeader (now (s .entry)) ⌝ }
+{
+    if MOST_BYTES < s.len() {
+        return refused(1);
+    }
+    read_any_length(s)
 }
 
 // ---- a frame read
@@ -369,7 +380,7 @@ fn read_source(to: Callsign, s: &[u8]) -> HeaderRead
 pub fn read_frame(s: &[u8]) -> HeaderRead
     ensures { λ r. ⌜ r ≡ readFrameHeader (now (s .entry)) ⌝ }
 {
-    if 512 < s.len() {
+    if MOST_BYTES < s.len() {
         return refused(1);
     }
     if s.len() < 7 {
