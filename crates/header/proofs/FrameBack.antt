@@ -64,7 +64,7 @@ all-hops [] n x e m z = rw (eq-eqb n 0 (sym e))
 all-hops (h ∷ l) n x e m z = rw (ne-eqb n 0 (λ q. omega arith)) (hops-back h l 8 x (omega arith) z)
 
 pair-back : (from to : Callsign) (l : List Hop) (s x : List ℕ) → drop (14 + 7 * length l) s ≡ pair ++ x
-    → withPair from to (pathOf l) s ≡ headerAccepted from to (pathOf l) (16 + 7 * length l)
+    → withPair from to (pathOf l) s ≡ headerAccepted from to (pathOf l) (16 + 7 * length l) 0
 unfolding withPair pathOf startsWithPair
 pair-back from to l s x e = let q : 14 + 7 * length l + 2 ≡ 16 + 7 * length l = omega arith in rw (e, q)
 
@@ -115,7 +115,7 @@ module _ (h : Header) (body : List ℕ) (full : length (h .path .hops) ≡ 8) (e
   long : 14 ≤ length (headerFrame h ++ body)
   long = rw (spelled, length-append (a .bytes) (b .bytes ++ rest), length-append (b .bytes) rest, a-seven, b-seven) (omega arith)
 
-  source-back : readSource (inAddress (h .to)) (headerFrame h ++ body) ≡ headerAccepted (inAddress (h .from)) (inAddress (h .to)) (pathOf (map inFrame hops)) (16 + 7 * length hops)
+  source-back : readSource (inAddress (h .to)) (headerFrame h ++ body) ≡ headerAccepted (inAddress (h .from)) (inAddress (h .to)) (pathOf (map inFrame hops)) (16 + 7 * length hops) 0
   unfolding readSource unlessRefused withHops heardIn
   source-back =
       let m = route-count h e in
@@ -131,13 +131,13 @@ module _ (h : Header) (body : List ℕ) (full : length (h .path .hops) ≡ 8) (e
       )
       (pair-back (inAddress (h .from)) (inAddress (h .to)) (map inFrame hops) (headerFrame h ++ body) body p ∙ rw n)
 
-  back : length (headerFrame h ++ body) ≤ mostBytes → readFrameHeader (headerFrame h ++ body) ≡ headerAccepted (inAddress (h .from)) (inAddress (h .to)) (pathOf (map inFrame hops)) (16 + 7 * length hops)
+  back : length (headerFrame h ++ body) ≤ mostBytes → readFrameHeader (headerFrame h ++ body) ≡ headerAccepted (inAddress (h .from)) (inAddress (h .to)) (pathOf (map inFrame hops)) (16 + 7 * length hops) 0
   unfolding heardIn
   back short =
       let k = long in
       let q : address-as (inAddress (h .to)) true false ≡ readAddress (take 7 (headerFrame h ++ body)) =
       rw (spelled, take-at (a .bytes) (b .bytes ++ rest) 7 a-seven) (sym (address-reads-back (h .to) Destination false (parts .0))) in
-      sym (destination-read (headerFrame h ++ body) (headerAccepted (inAddress (h .from)) (inAddress (h .to)) (pathOf (map inFrame hops)) (16 + 7 * length hops)) short (omega arith)
+      sym (destination-read (headerFrame h ++ body) (headerAccepted (inAddress (h .from)) (inAddress (h .to)) (pathOf (map inFrame hops)) (16 + 7 * length hops) 0) short (omega arith)
       (address-as (inAddress (h .to)) true false) q refl refl (sym source-back))
 
   size : length (headerFrame h) ≡ 16 + 7 * length hops
@@ -154,11 +154,11 @@ module _ (h : Header) (body : List ℕ) (full : length (h .path .hops) ≡ 8) (e
 
 -- a header that can be written, and any body behind it
 pub frame-back : (h : Header) (body : List ℕ) → length (h .path .hops) ≡ 8 → frameRefusal h ≡ 0 → length (headerFrame h ++ body) ≤ mostBytes
-    → readFrameHeader (headerFrame h ++ body) ≡ headerAccepted (inAddress (h .from)) (inAddress (h .to)) (pathOf (map inFrame (hopsOf (h .path)))) (length (headerFrame h))
+    → readFrameHeader (headerFrame h ++ body) ≡ headerAccepted (inAddress (h .from)) (inAddress (h .to)) (pathOf (map inFrame (hopsOf (h .path)))) (length (headerFrame h)) 0
 unfolding frameRefusal hopsOf
 frame-back h body full z short = go (headerInRange h) refl z
   where
     go : (k : Bool) → headerInRange h ≡ k → cond k (firstRefusal (addresses h)) 15 ≡ 0
-        → readFrameHeader (headerFrame h ++ body) ≡ headerAccepted (inAddress (h .from)) (inAddress (h .to)) (pathOf (map inFrame (take (h .path .count) (h .path .hops)))) (length (headerFrame h))
+        → readFrameHeader (headerFrame h ++ body) ≡ headerAccepted (inAddress (h .from)) (inAddress (h .to)) (pathOf (map inFrame (take (h .path .count) (h .path .hops)))) (length (headerFrame h)) 0
     go true e q = back h body full e q short ∙ rw (size h body full e q)
     go false e q = absurd (omega arith)

@@ -160,6 +160,6 @@ module _ (s : List ℕ) (hops : List Hop) (count refusal : ℕ) (o : Outcome s h
   unfolding Outcome frameRead
   walk-refused r z w = ⊎-elim (λ x. w ∙ sym (rw (x .1))) (λ x. absurd (z (x .0))) o
 
-  pub walk-done : refusal ≡ 0 → record { path = record { hops = hops; count = count }; refusal = 0 } ≡ frameRead (frameHops 8 s)
+  pub walk-done : refusal ≡ 0 → record { path = record { hops = hops; count = count }; stars = 0; refusal = 0 } ≡ frameRead (frameHops 8 s)
   unfolding Outcome
   walk-done z = ⊎-elim (λ x. absurd (x .0 z)) (λ x. going-done _ _ hops count (x .1 .going) refl) o

@@ -65,7 +65,7 @@ module _ (from to : Callsign) (p : Path) (s : List ℕ) (r : HeaderRead) where
       pub no-protocol : (getD s (14 + 7 * p .count + 1) 0 ≡ protocol → ⊥) → r ≡ headerRefused 2 → r ≡ withPair from to p s
       no-protocol e w = wrong (pair-second s (14 + 7 * p .count) h c e) w
 
-      pub pair-there : getD s (14 + 7 * p .count + 1) 0 ≡ protocol → r ≡ headerAccepted from to p (14 + 7 * p .count + 2) → r ≡ withPair from to p s
+      pub pair-there : getD s (14 + 7 * p .count + 1) 0 ≡ protocol → r ≡ headerAccepted from to p (14 + 7 * p .count + 2) 0 → r ≡ withPair from to p s
       unfolding withPair
       pair-there e w = rw (pair-both s (14 + 7 * p .count) h c e) w
 

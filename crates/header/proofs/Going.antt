@@ -11,7 +11,7 @@ use Rattle.laws.proofs.Lists.{pad-set}
 use Rattle.header.specs.declared.Hop.{Hop}
 use Rattle.header.specs.Header.{Hops, refused, these, before, blankHop, pathOf}
 use Rattle.header.specs.Text.{carried}
-use Rattle.header.specs.Private.{frameRead, textRead}
+use Rattle.header.specs.Private.{frameRead, textRead, starredRead}
 
 -- hops, and what follows them
 unfoldable pub after : List Hop → Hops → Hops
@@ -32,6 +32,10 @@ pub length-carried : (l : List Hop) → length (carried l) ≡ length l
 unfolding carried
 length-carried [] = refl
 length-carried (h ∷ l) = ap suc (length-carried l)
+
+padded-front : (l : List Hop) → take (length l) (padTo 8 blankHop l) ≡ l
+unfolding padTo
+padded-front l = take-at l (replicate (8 - length l) blankHop) (length l) refl
 
 padded-carried : (l : List Hop) → carried (take (length l) (padTo 8 blankHop l)) ++ drop (length l) (padTo 8 blankHop l) ≡ padTo 8 blankHop (carried l)
 unfolding padTo
@@ -71,10 +75,10 @@ module _ (whole rest : Hops) (hops : List Hop) (n : ℕ) (g : Going whole rest h
     all = g .agrees ∙ rw e (ap these (append-nil (g .done)))
 
     -- the array and the count are the path of the hops done
-    pub going-done : record { path = record { hops = hops; count = n }; refusal = 0 } ≡ frameRead whole
+    pub going-done : record { path = record { hops = hops; count = n }; stars = 0; refusal = 0 } ≡ frameRead whole
     unfolding frameRead pathOf
     going-done = rw (all, g .held, g .count)
 
-    pub going-carried : (out : List Hop) → out ≡ carried (take n hops) ++ drop n hops → record { path = record { hops = out; count = n }; refusal = 0 } ≡ textRead whole
+    pub going-carried : starredRead hops n ≡ textRead whole
     unfolding textRead pathOf
-    going-carried out q = rw (all, q, g .held, ← g .count, padded-carried (g .done), length-carried (g .done))
+    going-carried = rw (all, g .held, ← g .count, padded-carried (g .done), length-carried (g .done), padded-front (g .done))

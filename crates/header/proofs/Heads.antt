@@ -19,7 +19,7 @@ use Rattle.header.specs.declared.Path.{Path}
 use Rattle.header.specs.declared.PathRead.{PathRead}
 use Rattle.header.specs.declared.HeaderRead.{HeaderRead}
 use Rattle.header.specs.Header.{Hops, refused, these, pathOf, headerRefused, headerAccepted, unlessRefused, withHops}
-use Rattle.header.specs.Text.{fields, firstOf, othersOf, textHops, carried, readRoute, readBefore, readHeaderText}
+use Rattle.header.specs.Text.{fields, firstOf, othersOf, textHops, starsOf, carried, readRoute, readBefore, readHeaderText}
 use Rattle.header.specs.Private.{pathRefused, textRead}
 use Rattle.header.proofs.Walks.{InText, Sound, none, some, text-sound}
 use Rattle.header.proofs.TextHops.{fields-one, fields-two, fields-some, no-parts}
@@ -44,7 +44,7 @@ hops-refused (refused n) next z = refl
 hops-refused (these l) next z = absurd (z refl)
 
 hops-given : (from to : Callsign) (body : ℕ) {w : Hops} → Sound InText 8 w → textRead w .refusal ≡ 0
-    → headerAccepted from to (textRead w .path) body ≡ withHops w (λ l. headerAccepted from to (pathOf (carried l)) body)
+    → headerAccepted from to (textRead w .path) body (textRead w .stars) ≡ withHops w (λ l. headerAccepted from to (pathOf (carried l)) body (starsOf l))
 unfolding textRead pathRefused withHops
 hops-given from to body (none n p) z = let m = p .low in absurd (omega arith)
 hops-given from to body (some l m q) z = refl
@@ -58,8 +58,8 @@ module _ (from : Callsign) (t : List ℕ) (body d : ℕ) (to : CallRead) (r : He
   to-refused z w = rw (its-to, ne-eqb (to .refusal) 0 z) w
 
   module _ (z : to .refusal ≡ 0) where
-    pub to-alone : (p : Path) → d ≡ length t → p ≡ pathOf [] → r ≡ headerAccepted from (to .call) p body → r ≡ readRoute from t body
-    unfolding readRoute unlessRefused withHops carried
+    pub to-alone : (p : Path) → d ≡ length t → p ≡ pathOf [] → r ≡ headerAccepted from (to .call) p body 0 → r ≡ readRoute from t body
+    unfolding readRoute unlessRefused withHops carried starsOf
     to-alone p l e w = rw (its-to, eq-eqb (to .refusal) 0 z, none-after t (sym f ∙ l), ← e) w
 
     module _ (p : PathRead) (l : d ≡ length t → ⊥) (e : p ≡ textRead (textHops 8 (fields (take (length t - (d + 1)) (drop (d + 1) t))))) where
@@ -76,7 +76,7 @@ module _ (from : Callsign) (t : List ℕ) (body d : ℕ) (to : CallRead) (r : He
       unfolding readRoute unlessRefused
       to-hops-refused y w = rw (its-to, eq-eqb (to .refusal) 0 z) (w ∙ rw hops-are (hops-refused (textHops 8 (othersOf (fields t))) _ (λ x. y (ap (λ (q : PathRead). q .refusal) hops-are ∙ x))))
 
-      pub to-hops : p .refusal ≡ 0 → r ≡ headerAccepted from (to .call) (p .path) body → r ≡ readRoute from t body
+      pub to-hops : p .refusal ≡ 0 → r ≡ headerAccepted from (to .call) (p .path) body (p .stars) → r ≡ readRoute from t body
       unfolding readRoute unlessRefused
       to-hops y w =
           rw (its-to, eq-eqb (to .refusal) 0 z)

@@ -1,3 +1,4 @@
+pub mod Typed
 pub mod Stars
 pub mod Going
 pub mod Walks

@@ -3,29 +3,58 @@
 use mathlib.Core.Path.{_≡_, refl, sym, ap, _∙_}
 use mathlib.Core.Bool.{Bool, true, false, not, cond, _&&_, _||_, or-false, false≢true}
 use mathlib.Core.List.{List, [], _∷_, _++_}
-use Prim.Native.Nat.{ℕ, zero, suc, _+_, _-_, _<_, _≤_}
-use native.Mathlib.Nat.{not-suc-le-zero, le-of-suc-le-suc}
+use Prim.Native.Nat.{ℕ, zero, suc, _+_, _-_, _*_, _^_, _<_, _≤_}
+use native.Mathlib.Nat.{not-suc-le-zero, le-of-suc-le-suc, pow-le-pow-right}
 use native.Mathlib.Numerals.{add-one}
 use native.Mathlib.Omega.{arith}
 use lib.Dec.{eqb, eqb·suc-suc}
 use borrow.Author.Tests.{ne-eqb}
+use mir.Val.{Fits, boolByte}
+use mir.Syntax.{w8}
 use lib.ListN.{length, take, drop, getD, set, take-append-drop}
-use lib.Seq.{length-take-le, set-at, getD-at, append-snoc, take-suc, slice, slice-cons, slice-empty}
+use lib.Seq.{length-take-le, set-at, getD-at, append-snoc, take-suc, slice, slice-cons, slice-empty, length-slice}
 use Rattle.laws.specs.Bytes.{comma}
 use Rattle.laws.proofs.Tests.{or-neither}
 use Rattle.callsign.specs.Range.{textOf, withStar}
+use Rattle.callsign.specs.Packed.{bit}
 use Rattle.header.specs.declared.Hop.{Hop}
-use Rattle.header.specs.Text.{anyHeard, carried, hopsText}
-use Rattle.header.specs.Private.{heardUpTo}
+use Rattle.header.specs.Text.{starsOf, anyHeard, carried, hopsText}
+use Rattle.header.specs.Private.{starredRead, heardUpTo}
+use Rattle.header.proofs.Typed.{some-star, stars-below}
 
--- ---- reading: what the array holds with the hops from i to n done
+-- ---- reading: the hops from i to n are done
 
+-- what the array holds then
 unfoldable pub Back : List Hop → ℕ → ℕ → List Hop
 Back l n i = take i l ++ (carried (slice i n l) ++ drop n l)
 
--- whether one of the hops from i to n is starred
-unfoldable pub AnyFrom : List Hop → ℕ → ℕ → Bool
-AnyFrom l n i = anyHeard (slice i n l)
+pub record Carrying (l : List Hop) (n : ℕ) (out : List Hop) (stars i : ℕ) : Type 0 where
+  pub few : n ≤ 8
+  pub full : length l ≡ 8
+  pub up : i ≤ n
+  pub held : out ≡ Back l n i
+  pub typed : stars ≡ starsOf (slice i n l)
+
+pub carrying-start : (l : List Hop) (n : ℕ) → n ≤ 8 → length l ≡ 8 → Carrying l n l 0 n
+unfolding carried Back starsOf
+carrying-start l n k f = record { few = k; full = f; up = omega arith; held = rw slice-empty (sym (take-append-drop n l)); typed = rw slice-empty }
+
+-- the number has room for one star more
+module _ (l : List Hop) (n : ℕ) (out : List Hop) (stars i : ℕ) (g : Carrying l n out stars i) (p : 0 < i) where
+  room : stars ≤ 127
+  room =
+      let k = g .few in
+      let f = g .full in
+      let u : length (slice i n l) ≤ 7 = omega (arith, length-slice i n l (omega arith)) in
+      let b : 2 ^ length (slice i n l) ≤ 2 ^ 7 = pow-le-pow-right {n = 2} (omega arith) {i = length (slice i n l)} {j = 7} u in
+      omega (arith, g .typed, stars-below (slice i n l))
+
+  pub twice-fits : Fits w8 (2 * stars)
+  twice-fits = let r = room in record { fits = omega arith }
+
+  pub star-fits : (b : Bool) → Fits w8 (2 * stars + boolByte b)
+  star-fits true = let r = room in record { fits = omega arith }
+  star-fits false = let r = room in record { fits = omega arith }
 
 module _ (l : List Hop) (n j : ℕ) (d : Hop) (m : j < n) (h : n ≤ length l) where
   open-at : Back l n (suc j) ≡ take j l ++ getD l j d ∷ (carried (slice (suc j) n l) ++ drop n l)
@@ -38,45 +67,52 @@ module _ (l : List Hop) (n j : ℕ) (d : Hop) (m : j < n) (h : n ≤ length l) w
   back-get : getD (Back l n (suc j)) j d ≡ getD l j d
   back-get = rw open-at (getD-at (take j l) (getD l j d) _ d j long)
 
-  back-set : (v : Hop) → v ≡ record { call = getD l j d .call; heard = getD l j d .heard || AnyFrom l n (suc j) } → set (Back l n (suc j)) j v ≡ Back l n j
-  unfolding carried AnyFrom
+  back-set : (v : Hop) → v ≡ record { call = getD l j d .call; heard = getD l j d .heard || anyHeard (slice (suc j) n l) } → set (Back l n (suc j)) j v ≡ Back l n j
+  unfolding carried
   back-set v e = rw open-at (set-at (take j l) (getD l j d) _ v j long ∙ unfold Back in rw (slice-cons j n l d m h, e))
 
-  back-any : AnyFrom l n j ≡ (getD l j d .heard || AnyFrom l n (suc j))
-  unfolding anyHeard AnyFrom
+  back-stars : starsOf (slice j n l) ≡ bit (getD l j d .heard) + 2 * starsOf (slice (suc j) n l)
+  unfolding starsOf
+  back-stars = rw (slice-cons j n l d m h)
+
+  back-any : anyHeard (slice j n l) ≡ (getD l j d .heard || anyHeard (slice (suc j) n l))
+  unfolding anyHeard
   back-any = rw (slice-cons j n l d m h)
 
-turn : (l out : List Hop) (n j : ℕ) (d : Hop) (later later′ : Bool) → j < n → n ≤ length l
-    → out ≡ Back l n (suc j) → later ≡ AnyFrom l n (suc j)
-    → later′ ≡ (getD out j d .heard || later)
-    → (set out j (record { call = getD out j d .call; heard = later′ }) ≡ Back l n j) × (later′ ≡ AnyFrom l n j)
-turn l out n j d later later′ m h o e e′ =
-    let g : getD out j d ≡ getD l j d = rw o (back-get l n j d m h) in
-    let f : later′ ≡ (getD l j d .heard || AnyFrom l n (suc j)) = e′ ∙ rw (g, e) in
-    (rw o (back-set l n j d m h _ (rw (← o) (rw (g, f)))), f ∙ sym (back-any l n j d m h))
+flag-bit : (b : Bool) → boolByte b ≡ bit b
+unfolding bit
+flag-bit true = refl
+flag-bit false = refl
+
+turn : (l : List Hop) (n : ℕ) (out : List Hop) (stars j : ℕ) (d : Hop) → Carrying l n out stars (suc j) → (stars′ : ℕ) → stars′ ≡ 2 * stars + boolByte (getD out j d .heard)
+    → Carrying l n (set out j (record { call = getD out j d .call; heard = not (eqb stars′ 0) })) stars′ j
+turn l n out stars j d g stars′ e =
+    let k = g .few in
+    let f = g .full in
+    let u = g .up in
+    let t = g .typed in
+    let x : getD out j d ≡ getD l j d = rw (g .held) (back-get l n j d (omega arith) (omega arith)) in
+    let b : boolByte (getD out j d .heard) ≡ bit (getD l j d .heard) = rw x (flag-bit (getD l j d .heard)) in
+    let s : stars′ ≡ starsOf (slice j n l) = omega (arith, back-stars l n j d (omega arith) (omega arith)) in
+    let y : not (eqb stars′ 0) ≡ (getD l j d .heard || anyHeard (slice (suc j) n l)) = rw s (some-star (slice j n l) ∙ back-any l n j d (omega arith) (omega arith)) in
+    record {
+      few = k;
+      full = f;
+      up = omega arith;
+      held = ap (λ (o : List Hop). set o j (record { call = getD out j d .call; heard = not (eqb stars′ 0) })) (g .held) ∙ back-set l n j d (omega arith) (omega arith) _ (rw (x, y));
+      typed = s;
+    }
 
 -- a turn, at the code's i - 1
-pub back-turn : (l out : List Hop) (n i : ℕ) (d : Hop) (later later′ : Bool) → 0 < i → i ≤ n → n ≤ length l
-    → out ≡ Back l n i → later ≡ AnyFrom l n i
-    → later′ ≡ (getD out (i - 1) d .heard || later)
-    → (set out (i - 1) (record { call = getD out (i - 1) d .call; heard = later′ }) ≡ Back l n (i - 1)) × (later′ ≡ AnyFrom l n (i - 1))
-back-turn l out n zero d later later′ p m h o e e′ = absurd (omega arith)
-back-turn l out n (suc j) d later later′ p m h o e e′ =
-    let q : suc j - 1 ≡ j = omega arith in
-    rw q (turn l out n j d later later′ (omega arith) h o e (rw q at e′))
+pub carrying-more : (l : List Hop) (n : ℕ) (out : List Hop) (stars i : ℕ) (d : Hop) → Carrying l n out stars i → 0 < i
+    → Carrying l n (set out (i - 1) (record { call = getD out (i - 1) d .call; heard = not (eqb (2 * stars + boolByte (getD out (i - 1) d .heard)) 0) })) (2 * stars + boolByte (getD out (i - 1) d .heard)) (i - 1)
+carrying-more l n out stars zero d g p = absurd (omega arith)
+carrying-more l n out stars (suc j) d g p = let q : suc j - 1 ≡ j = omega arith in rw q (turn l n out stars j d g _ refl)
 
-pub back-start : (l : List Hop) (n : ℕ) → l ≡ Back l n n
-unfolding carried Back
-back-start l n = rw slice-empty (sym (take-append-drop n l))
-
-pub back-none : (l : List Hop) (n : ℕ) → false ≡ AnyFrom l n n
-unfolding anyHeard AnyFrom
-back-none l n = rw slice-empty
-
-pub back-done : (l out : List Hop) (n i : ℕ) → out ≡ Back l n i → i ≤ 0 → out ≡ carried (take n l) ++ drop n l
+pub carrying-done : (l : List Hop) (n : ℕ) (out : List Hop) (stars i : ℕ) → Carrying l n out stars i → i ≤ 0 → record { path = record { hops = out; count = n }; stars = stars; refusal = 0 } ≡ starredRead l n
 unfolding Back
-back-done l out n zero e h = e
-back-done l out n (suc i) e h = absurd (omega arith)
+carrying-done l n out stars zero g h = rw (g .held, g .typed)
+carrying-done l n out stars (suc i) g h = absurd (omega arith)
 
 -- ---- writing: the last heard hop
 

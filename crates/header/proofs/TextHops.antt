@@ -2,7 +2,7 @@
 -- Assumes nothing.
 use mathlib.Core.Path.{_≡_, refl, sym, _∙_}
 use mathlib.Core.Bool.{Bool, true, false, cond}
-use mathlib.Core.List.{List, [], _∷_, _++_}
+use mathlib.Core.List.{List, [], _∷_}
 use Prim.Native.Nat.{ℕ, zero, suc, _+_, _-_, _^_, _<_, _≤_}
 use native.Mathlib.Numerals.{add-one}
 use native.Mathlib.Omega.{arith}
@@ -20,8 +20,8 @@ use Rattle.header.specs.declared.Hop.{Hop}
 use Rattle.header.specs.declared.HopRead.{HopRead}
 use Rattle.header.specs.declared.PathRead.{PathRead}
 use Rattle.header.specs.Header.{refused, these, blankHop}
-use Rattle.header.specs.Text.{fields, onFirst, readHop, hopThen, textHops, carried}
-use Rattle.header.specs.Private.{pathRefused, textRead}
+use Rattle.header.specs.Text.{fields, onFirst, readHop, hopThen, textHops}
+use Rattle.header.specs.Private.{pathRefused, textRead, starredRead}
 use Rattle.header.proofs.Going.{Going, going-start, going-more, going-refused, going-carried}
 
 -- ---- the parts of a text, by the place of its first comma
@@ -126,6 +126,5 @@ module _ (s t : List ℕ) (hops : List Hop) (n : ℕ) (g : Reading s t hops n) w
         let p : fields t ≡ take e t ∷ fields (take (length t - (e + 1)) (drop (e + 1) t)) = fields-two t y ∙ rw (part-to-end t (e + 1), ← f, add-one) in
         record { going = goes _ p z; within = omega arith }
 
-pub hops-read : (s : List ℕ) (hops : List Hop) (n : ℕ) (out : List Hop) → Read s hops n → out ≡ carried (take n hops) ++ drop n hops
-    → record { path = record { hops = out; count = n }; refusal = 0 } ≡ textRead (textHops 8 (fields s))
-hops-read s hops n out g q = going-carried _ _ hops n (g .going) refl out q
+pub hops-read : (s : List ℕ) (hops : List Hop) (n : ℕ) (r : PathRead) → Read s hops n → r ≡ starredRead hops n → r ≡ textRead (textHops 8 (fields s))
+hops-read s hops n r g q = q ∙ going-carried _ _ hops n (g .going) refl

@@ -5,71 +5,73 @@ use mathlib.Core.Path.{_≡_, refl, _∙_}
 use mathlib.Core.Logic.{_⊎_}
 use mathlib.Core.Bool.{Bool, true, false}
 use mathlib.Core.List.{List, [], _∷_, _++_, map}
-use Prim.Native.Nat.{ℕ, _≤_}
-use lib.ListN.{length}
+use Prim.Native.Nat.{ℕ, _<_, _≤_}
+use lib.ListN.{length, getD}
 use Rattle.laws.specs.Bytes.{within, star, comma}
 use Rattle.laws.specs.Lists.{indexOf, padTo}
 use Rattle.callsign.specs.Utf8.{after, characters, utf8}
 use Rattle.callsign.specs.Text.{joined, made, isZero, callAccepted, parted, readUnstarred, readText}
+use Rattle.callsign.specs.Packed.{bit}
 use Rattle.callsign.specs.Range.{callPart, ssidPart, textOf, withStar}
 use Rattle.callsign.proofs.AddressBack.{inAddress}
 use Rattle.header.specs.declared.Hop.{Hop}
 use Rattle.header.specs.declared.Header.{Header}
-use Rattle.header.specs.Header.{mostBytes, these, before, pathOf, hopsOf, headerRefused, headerAccepted}
-use Rattle.header.specs.Text.{onFirst, fields, isQ, hopOf, readHop, hopThen, textHops, anyHeard, carried, readHeaderText, readTextHeader, hopsText, headerText}
+use Rattle.header.specs.Header.{mostBytes, blankHop, these, before, pathOf, hopsOf, headerRefused, headerAccepted}
+use Rattle.header.specs.Text.{onFirst, fields, isQ, hopOf, readHop, hopThen, textHops, starsOf, anyHeard, carried, readHeaderText, readTextHeader, hopsText, headerText}
 use Rattle.header.specs.Frame.{readFrameHeader, headerFrame}
 use Rattle.header.specs.Range.{headerInRange, frameRefusal}
+use Rattle.header.proofs.Typed.{isSet, star-bit}
 use Rattle.header.proofs.Stars.{starredLast, eachText, written-stars, carried-starred, carried-twice}
 use Rattle.header.proofs.TextWritten as text
 use Rattle.header.proofs.FrameWritten as frame
 use Rattle.header.proofs.Walks.{InText, InLine, InFrame}
-use Rattle.header.proofs.Answers.{text-answered, line-answered, frame-answered, answered-range, answered-body, answered-number, answered-blank}
+use Rattle.header.proofs.Answers.{text-answered, line-answered, frame-answered, answered-range, answered-body, answered-number, answered-blank, Starred, Starless, answered-heard, answered-set, answered-starless}
 use Rattle.header.proofs.FrameBack.{inFrame, frame-back}
 
 -- ---- what is read: of any text, any line and any frame, accepted or not
 
 pub any-text-is-in-range : (s : List ℕ) → headerInRange (readHeaderText s .header) ≡ true
-any-text-is-in-range s = answered-range InText s (text-answered s)
+any-text-is-in-range s = answered-range InText Starred s (text-answered s)
 
 pub text-is-in-range : (s : List ℕ) → headerInRange (readTextHeader s .header) ≡ true
-text-is-in-range s = answered-range InLine s (line-answered s)
+text-is-in-range s = answered-range InLine Starred s (line-answered s)
 
 pub frame-is-in-range : (s : List ℕ) → headerInRange (readFrameHeader s .header) ≡ true
-frame-is-in-range s = answered-range InFrame s (frame-answered s)
+frame-is-in-range s = answered-range InFrame Starless s (frame-answered s)
 
 -- the body starts within the input, or just behind it
 pub any-text-body-within : (s : List ℕ) → readHeaderText s .body ≤ length s
-any-text-body-within s = answered-body InText s (text-answered s)
+any-text-body-within s = answered-body InText Starred s (text-answered s)
 
 pub text-body-within : (s : List ℕ) → readTextHeader s .body ≤ length s
-text-body-within s = answered-body InLine s (line-answered s)
+text-body-within s = answered-body InLine Starred s (line-answered s)
 
 pub frame-body-within : (s : List ℕ) → readFrameHeader s .body ≤ length s
-frame-body-within s = answered-body InFrame s (frame-answered s)
+frame-body-within s = answered-body InFrame Starless s (frame-answered s)
 
 -- ---- refusals
 
 -- a text, however long, is refused with 2 to 6
 pub any-text-numbers : (s : List ℕ) → (readHeaderText s .refusal ≡ 0 → ⊥) → (2 ≤ readHeaderText s .refusal) × (readHeaderText s .refusal ≤ 6)
-any-text-numbers s z = let p = answered-number InText s (text-answered s) z in (p .low, p .high)
+any-text-numbers s z = let p = answered-number InText Starred s (text-answered s) z in (p .low, p .high)
 
 -- a line with 1 to 6
 pub text-numbers : (s : List ℕ) → (readTextHeader s .refusal ≡ 0 → ⊥) → readTextHeader s .refusal ≤ 6
-text-numbers s z = answered-number InLine s (line-answered s) z .high
+text-numbers s z = answered-number InLine Starred s (line-answered s) z .high
 
 -- a frame with 1, 2, 3 or 5
 pub frame-numbers : (s : List ℕ) → (readFrameHeader s .refusal ≡ 0 → ⊥) → (readFrameHeader s .refusal ≤ 3) ⊎ (readFrameHeader s .refusal ≡ 5)
-frame-numbers s z = answered-number InFrame s (frame-answered s) z .high
+frame-numbers s z = answered-number InFrame Starless s (frame-answered s) z .high
 
 -- "A refused decode returns the blank record"
 pub any-text-refused-blank : (s : List ℕ) → (readHeaderText s .refusal ≡ 0 → ⊥) → readHeaderText s ≡ headerRefused (readHeaderText s .refusal)
-any-text-refused-blank s = answered-blank InText s (text-answered s)
+any-text-refused-blank s = answered-blank InText Starred s (text-answered s)
 
 pub text-refused-blank : (s : List ℕ) → (readTextHeader s .refusal ≡ 0 → ⊥) → readTextHeader s ≡ headerRefused (readTextHeader s .refusal)
-text-refused-blank s = answered-blank InLine s (line-answered s)
+text-refused-blank s = answered-blank InLine Starred s (line-answered s)
 
 pub frame-refused-blank : (s : List ℕ) → (readFrameHeader s .refusal ≡ 0 → ⊥) → readFrameHeader s ≡ headerRefused (readFrameHeader s .refusal)
-frame-refused-blank s = answered-blank InFrame s (frame-answered s)
+frame-refused-blank s = answered-blank InFrame Starless s (frame-answered s)
 
 -- ---- how long a written header is
 
@@ -81,6 +83,26 @@ frame-at-most-72 = frame.frame-bound
 
 -- ---- stars
 
+-- bit j of the stars as typed is set exactly where hop j is starred
+pub star-by-bit : (l : List Hop) (j : ℕ) → isSet (starsOf l) j ≡ getD l j blankHop .heard
+star-by-bit = star-bit
+
+-- hop i of a text is heard exactly where a bit j ≥ i of the stars as typed is set
+pub heard-by-stars : (s : List ℕ) (i : ℕ) (d : Hop) → i < readHeaderText s .header .path .count
+    → (getD (readHeaderText s .header .path .hops) i d .heard ≡ true → (j : ℕ) × ((i ≤ j) × (isSet (readHeaderText s .stars) j ≡ true)))
+    × ((j : ℕ) → i ≤ j → isSet (readHeaderText s .stars) j ≡ true → getD (readHeaderText s .header .path .hops) i d .heard ≡ true)
+heard-by-stars s i d h = (answered-heard InText s i d (text-answered s) h, answered-set InText s i d (text-answered s) h)
+
+-- and so of a line
+pub line-heard-by-stars : (s : List ℕ) (i : ℕ) (d : Hop) → i < readTextHeader s .header .path .count
+    → (getD (readTextHeader s .header .path .hops) i d .heard ≡ true → (j : ℕ) × ((i ≤ j) × (isSet (readTextHeader s .stars) j ≡ true)))
+    × ((j : ℕ) → i ≤ j → isSet (readTextHeader s .stars) j ≡ true → getD (readTextHeader s .header .path .hops) i d .heard ≡ true)
+line-heard-by-stars s i d h = (answered-heard InLine s i d (line-answered s) h, answered-set InLine s i d (line-answered s) h)
+
+-- a frame has none
+pub frame-has-no-stars : (s : List ℕ) → readFrameHeader s .stars ≡ 0
+frame-has-no-stars s = answered-starless InFrame s (frame-answered s)
+
 -- a text's hops are written with one star, and carrying it back gives the same hops heard
 pub stars-are-kept : (l : List Hop) → (hopsText (carried l) ≡ eachText (starredLast (carried l))) × (carried (starredLast (carried l)) ≡ carried l)
 stars-are-kept l = (written-stars (carried l), carried-starred (carried l) ∙ carried-twice l)
@@ -89,7 +111,7 @@ stars-are-kept l = (written-stars (carried l), carried-starred (carried l) ∙ c
 
 -- a header that was written reads back from any frame that starts with it: calls raised, SSIDs as numbers, each hop heard as it was
 pub frame-reads-back : (h : Header) (body : List ℕ) → length (h .path .hops) ≡ 8 → frameRefusal h ≡ 0 → length (headerFrame h ++ body) ≤ mostBytes
-    → readFrameHeader (headerFrame h ++ body) ≡ headerAccepted (inAddress (h .from)) (inAddress (h .to)) (pathOf (map inFrame (hopsOf (h .path)))) (length (headerFrame h))
+    → readFrameHeader (headerFrame h ++ body) ≡ headerAccepted (inAddress (h .from)) (inAddress (h .to)) (pathOf (map inFrame (hopsOf (h .path)))) (length (headerFrame h)) 0
 frame-reads-back = frame-back
 
 -- ---- P11: hops A,B*,C: A and B heard, C not; written A,B*,C
@@ -106,9 +128,9 @@ P11-hops = hop 65 true ∷ hop 66 true ∷ hop 67 false ∷ []
 abbrev P11-typed : List Hop
 P11-typed = hop 65 false ∷ hop 66 true ∷ hop 67 false ∷ []
 
-pub P11-read : (textHops 8 (fields P11-text) ≡ these P11-typed) × (carried P11-typed ≡ P11-hops)
-unfolding fields onFirst textHops hopThen before readHop isQ hopOf readText readUnstarred parted callAccepted indexOf utf8 characters after within isZero made joined padTo carried anyHeard
-P11-read = (refl, refl)
+pub P11-read : (textHops 8 (fields P11-text) ≡ these P11-typed) × ((carried P11-typed ≡ P11-hops) × (starsOf P11-typed ≡ 2))
+unfolding fields onFirst textHops hopThen before readHop isQ hopOf readText readUnstarred parted callAccepted indexOf utf8 characters after within isZero made joined padTo carried anyHeard starsOf bit
+P11-read = (refl, (refl, refl))
 
 pub P11-written : hopsText P11-hops ≡ comma ∷ P11-text
 unfolding hopsText anyHeard textOf callPart ssidPart withStar made joined padTo

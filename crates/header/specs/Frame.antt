@@ -61,11 +61,11 @@ frameHops (suc k) s =
 
 -- ---- the header read
 
--- the addresses, seven bytes each, and behind them the pair
+-- the addresses, seven bytes each, and behind them the pair; a frame has no stars
 unfoldable pub withPair : Callsign → Callsign → Path → List ℕ → HeaderRead
 withPair from to path s =
     let at = 14 + 7 * path .count in
-    cond (startsWithPair (drop at s)) (headerAccepted from to path (at + 2)) (headerRefused 2)
+    cond (startsWithPair (drop at s)) (headerAccepted from to path (at + 2) 0) (headerRefused 2)
 
 -- source and hops of the frame s, after its destination
 unfoldable pub readSource : Callsign → List ℕ → HeaderRead

@@ -42,13 +42,13 @@ blankHeader = headerOf blankCall blankCall (pathOf [])
 
 -- ---- what reading gives
 
--- a refusal: the blank header, and no place
+-- a refusal: the blank header, no place, no stars
 unfoldable pub headerRefused : ℕ → HeaderRead
-headerRefused n = record { refusal = n; header = blankHeader; body = 0 }
+headerRefused n = record { header = blankHeader; body = 0; stars = 0; refusal = n }
 
--- a header that was read, and where its body starts
-unfoldable pub headerAccepted : Callsign → Callsign → Path → ℕ → HeaderRead
-headerAccepted from to path body = record { refusal = 0; header = headerOf from to path; body = body }
+-- a header that was read, where its body starts, and the stars as typed
+unfoldable pub headerAccepted : Callsign → Callsign → Path → ℕ → ℕ → HeaderRead
+headerAccepted from to path body stars = record { header = headerOf from to path; body = body; stars = stars; refusal = 0 }
 
 -- a part's refusal is the header's; without one, what follows
 unfoldable pub unlessRefused : ℕ → HeaderRead → HeaderRead

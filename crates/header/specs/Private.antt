@@ -4,7 +4,7 @@
 use Prim.Native.Nat.{ℕ, suc, _+_, max}
 use mathlib.Core.Bool.{Bool, false, not, cond, _&&_}
 use mathlib.Core.List.{List, [], _∷_, _++_, map}
-use lib.ListN.{length, drop}
+use lib.ListN.{length, take, drop}
 use lib.Dec.{eqb, leb}
 use Rattle.laws.specs.Bytes.{comma, colon, greater}
 use Rattle.laws.specs.Lists.{every}
@@ -19,7 +19,7 @@ use Rattle.header.specs.declared.Path.{Path}
 use Rattle.header.specs.declared.PathRead.{PathRead}
 use Rattle.header.specs.declared.Header.{Header}
 use Rattle.header.specs.Header.{Hops, refused, these, pathOf, hopsOf}
-use Rattle.header.specs.Text.{anyHeard, carried}
+use Rattle.header.specs.Text.{starsOf, anyHeard, carried}
 use Rattle.header.specs.Frame.{pair, hopAddresses, addresses}
 use Rattle.header.specs.Range.{isBlank}
 
@@ -27,17 +27,21 @@ use Rattle.header.specs.Range.{isBlank}
 
 -- a refusal: no hops
 unfoldable pub pathRefused : ℕ → PathRead
-pathRefused n = record { path = pathOf []; refusal = n }
+pathRefused n = record { path = pathOf []; stars = 0; refusal = n }
 
 -- a frame's hops, each heard as it is
 unfoldable pub frameRead : Hops → PathRead
 frameRead (refused n) = pathRefused n
-frameRead (these l) = record { path = pathOf l; refusal = 0 }
+frameRead (these l) = record { path = pathOf l; stars = 0; refusal = 0 }
 
--- a text's, their stars carried back
+-- a text's, their stars as typed and carried back
 unfoldable pub textRead : Hops → PathRead
 textRead (refused n) = pathRefused n
-textRead (these l) = record { path = pathOf (carried l); refusal = 0 }
+textRead (these l) = record { path = pathOf (carried l); stars = starsOf l; refusal = 0 }
+
+-- the same of the first n hops in the array
+abbrev pub starredRead : List Hop → ℕ → PathRead
+starredRead hops n = record { path = record { hops = carried (take n hops) ++ drop n hops; count = n }; stars = starsOf (take n hops); refusal = 0 }
 
 -- ---- a path to be written
 

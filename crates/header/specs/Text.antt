@@ -1,7 +1,7 @@
 -- The header of a line of text. Document 01, order: "1; `:`; `>`; source; destination; hops from the left; body. A hop: 5, 6,
 -- 4, 3." Modules, 5: "In text a hop is heard if it or a later hop is starred; writing stars the last heard one only."
 -- Assumes nothing.
-use Prim.Native.Nat.{ℕ, zero, suc, _+_}
+use Prim.Native.Nat.{ℕ, zero, suc, _+_, _*_}
 use mathlib.Core.Bool.{Bool, false, not, cond, _&&_, _||_}
 use mathlib.Core.List.{List, [], _∷_, _++_}
 use lib.ListN.{length, take, drop, getD}
@@ -12,6 +12,7 @@ use Rattle.callsign.specs.declared.Callsign.{Callsign}
 use Rattle.callsign.specs.declared.CallRead.{CallRead}
 use Rattle.callsign.specs.Text.{readText}
 use Rattle.callsign.specs.Range.{textOf, withStar}
+use Rattle.callsign.specs.Packed.{bit}
 use Rattle.header.specs.declared.Hop.{Hop}
 use Rattle.header.specs.declared.HopRead.{HopRead}
 use Rattle.header.specs.declared.Header.{Header}
@@ -70,6 +71,11 @@ textHops (suc k) (t ∷ ts) = hopThen (readHop t) (textHops k ts)
 
 -- ---- stars
 
+-- the stars as typed, of hops before these are carried back: a bit for each hop, that of the first hop the lowest
+unfoldable pub starsOf : List Hop → ℕ
+starsOf [] = 0
+starsOf (h ∷ l) = bit (h .heard) + 2 * starsOf l
+
 -- one of the hops is heard
 unfoldable pub anyHeard : List Hop → Bool
 anyHeard [] = false
@@ -87,7 +93,7 @@ unfoldable pub readRoute : Callsign → List ℕ → ℕ → HeaderRead
 readRoute from t body =
     let to = readText (firstOf (fields t)) in
     unlessRefused (to .refusal)
-    (withHops (textHops 8 (othersOf (fields t))) (λ l. headerAccepted from (to .call) (pathOf (carried l)) body))
+    (withHops (textHops 8 (othersOf (fields t))) (λ l. headerAccepted from (to .call) (pathOf (carried l)) body (starsOf l)))
 
 -- what stands before `:`: source, `>`, and the route
 unfoldable pub readBefore : List ℕ → ℕ → HeaderRead

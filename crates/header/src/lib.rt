@@ -1,18 +1,17 @@
 // The header of a packet: source, destination, up to eight hops, and where the body starts; of a line of text and of an
 // AX.25 frame, read and written.
 ghost use mathlib.Core.Path.{_≡_};
-ghost use mathlib.Core.Bool.{_||_};
-ghost use mathlib.Core.List.{[], _++_};
+ghost use mathlib.Core.List.{[]};
 ghost use Prim.Native.Nat.{_≤_, max};
 ghost use lib.ListN.{length, take, drop};
 ghost use Rattle.laws.specs.Lists.{every};
 ghost use Rattle.buffer.specs.Wrote.{ends, wrote};
 ghost use Rattle.callsign.specs.Packed.{writeAddress};
 ghost use Rattle.header.specs.Header.{blankHop, pathOf, blankHeader, headerRefused, headerAccepted};
-ghost use Rattle.header.specs.Text.{fields, isQ, readHop, textHops, carried, readRoute, readBefore, readHeaderText, readTextHeader, headerText};
+ghost use Rattle.header.specs.Text.{fields, isQ, readHop, textHops, readRoute, readBefore, readHeaderText, readTextHeader, headerText};
 ghost use Rattle.header.specs.Frame.{frameHops, withPair, readSource, readFrameHeader, headerFrame};
 ghost use Rattle.header.specs.Range.{isBlank, textRefusal, frameRefusal};
-ghost use Rattle.header.specs.Private.{pathRefused, frameRead, textRead, isTidy, building, plain, callPiece, addressPiece, withPiece, withPieces, heardUpTo, endPieces, hopPieces, textPieces, endAddressPieces, hopAddressPieces, framePieces};
+ghost use Rattle.header.specs.Private.{pathRefused, frameRead, textRead, starredRead, isTidy, building, plain, callPiece, addressPiece, withPiece, withPieces, heardUpTo, endPieces, hopPieces, textPieces, endAddressPieces, hopAddressPieces, framePieces};
 use callsign::Callsign;
 use callsign::Field;
 
@@ -40,11 +39,12 @@ pub struct Header {
     pub path: Path,
 }
 
-// What reading gives: the refusal's number or 0, the header, and the place of the first body byte. At a refusal the header is
-// blank and the place 0.
+// What reading gives: the refusal's number or 0, the header, the place of the first body byte, and the stars as typed, bit i for
+// hop i of a line (0 in a frame). At a refusal the header is blank, place and stars 0.
 pub struct HeaderRead {
     pub header: Header,
     pub body: usize,
+    pub stars: u8,
     pub refusal: u8,
 }
 
@@ -54,9 +54,10 @@ struct HopRead {
     refusal: u8,
 }
 
-// Hops read, or the refusal's number and no hops.
+// Hops read and their stars as typed, or the refusal's number and no hops.
 struct PathRead {
     path: Path,
+    stars: u8,
     refusal: u8,
 }
 
@@ -98,17 +99,19 @@ fn refused(n: u8) -> HeaderRead
     HeaderRead {
         header,
         body: 0,
+        stars: 0,
         refusal: n,
     }
 }
 
-fn accepted(from: Callsign, to: Callsign, path: Path, body: usize) -> HeaderRead
-    ensures { λ r. ⌜ r ≡ headerAccepted from to path body ⌝ }
+fn accepted(from: Callsign, to: Callsign, path: Path, body: usize, stars: u8) -> HeaderRead
+    ensures { λ r. ⌜ r ≡ headerAccepted from to path body stars ⌝ }
 {
     let header = Header { from, to, path };
     HeaderRead {
         header,
         body,
+        stars,
         refusal: 0,
     }
 }
@@ -117,7 +120,11 @@ fn path_refused(n: u8) -> PathRead
     ensures { λ r. ⌜ r ≡ pathRefused n ⌝ }
 {
     let path = no_path();
-    PathRead { path, refusal: n }
+    PathRead {
+        path,
+        stars: 0,
+        refusal: n,
+    }
 }
 
 // ---- a line of text read
@@ -153,28 +160,34 @@ fn read_hop(t: &[u8]) -> HopRead
     }
 }
 
-fn either(a: bool, b: bool) -> bool
-    ensures { λ r. ⌜ r ≡ (a || b) ⌝ }
-{
-    if a { true } else { b }
-}
-
-// The first n hops heard where they or a later one of them are starred.
-fn carry(hops: [Hop; 8], n: usize) -> [Hop; 8]
+// The path of the first n hops, each heard where it or a later one is starred, and the stars as typed: those from hop i on are
+// none exactly where the number made of them is 0.
+fn carry(hops: [Hop; 8], n: usize) -> PathRead
     requires { ⌜ n ≤ 8 ⌝ }
-    ensures { λ r. ⌜ r ≡ carried (take n hops) ++ drop n hops ⌝ }
+    ensures { λ r. ⌜ r ≡ starredRead hops n ⌝ }
 {
     let mut out = hops;
-    let mut later = false;
+    let mut stars: u8 = 0;
     let mut i = n;
     while 0 < i {
-        i = i - 1;
+        i -= 1;
         let h = out[i];
         let call = h.call;
-        later = either(h.heard, later);
-        out[i] = Hop { call, heard: later };
+        stars = 2 * stars + (h.heard as u8);
+        out[i] = Hop {
+            call,
+            heard: stars != 0,
+        };
     }
-    out
+    let path = Path {
+        hops: out,
+        count: n,
+    };
+    PathRead {
+        path,
+        stars,
+        refusal: 0,
+    }
 }
 
 // The hops of a text, with commas between them.
@@ -198,12 +211,7 @@ fn read_hops(s: &[u8]) -> PathRead
         hops[n] = hop;
         n += 1;
         if e == t.len() {
-            let heard = carry(hops, n);
-            let path = Path {
-                hops: heard,
-                count: n,
-            };
-            return PathRead { path, refusal: 0 };
+            return carry(hops, n);
         }
         t = &t[e + 1..];
     }
@@ -220,14 +228,14 @@ fn read_route(from: Callsign, t: &[u8], body: usize) -> HeaderRead
     }
     let destination = to.call;
     if d == t.len() {
-        return accepted(from, destination, no_path(), body);
+        return accepted(from, destination, no_path(), body, 0);
     }
     let hops = read_hops(&t[d + 1..]);
     if hops.refusal != 0 {
         return refused(hops.refusal);
     }
     let path = hops.path;
-    accepted(from, destination, path, body)
+    accepted(from, destination, path, body, hops.stars)
 }
 
 // What stands before `:`.
@@ -331,7 +339,11 @@ fn walk(s: &[u8]) -> PathRead
         return path_refused(refusal);
     }
     let path = Path { hops, count };
-    PathRead { path, refusal: 0 }
+    PathRead {
+        path,
+        stars: 0,
+        refusal: 0,
+    }
 }
 
 // The header of a source, a destination and a path, if the control and protocol bytes follow the addresses in s.
@@ -350,7 +362,7 @@ fn with_pair(from: Callsign, to: Callsign, path: Path, s: &[u8]) -> HeaderRead
     if s[at + 1] != pair[1] {
         return refused(2);
     }
-    accepted(from, to, path, at + 2)
+    accepted(from, to, path, at + 2, 0)
 }
 
 // Source and hops of a frame whose destination is read.
