@@ -1,27 +1,64 @@
-// Prints document 01's table: standard input, at most 65,536 bytes, one row a line.
+// Prints document 01's table: standard input, at most 65,536 bytes, one row a line. What fails is said on standard error, by a
+// word at the start of the line that ./tusselgro turns into a status: `refused`, `unread` or `unwritten`.
+mod input;
+
+use input::Input;
 use lines::Line;
 
-// Writes the first `used` bytes of out.
-fn flush(out: &[u8], used: usize) {
-    io::write_all(1, lines::cut(out, used));
+// What stands behind the bytes held: something only if they fill the buffer.
+fn beyond(held: usize) -> Input {
+    let mut one = [0u8; 1];
+    if held < 65536 {
+        return Input {
+            held: 0,
+            more: false,
+            failed: false,
+        };
+    }
+    input::gather(&mut one)
 }
 
-// Puts the row of a line behind the first `used` bytes of out; where it does not fit, those are written first. Answers
-// how many bytes are in use then.
-fn put_row(number: usize, line: &[u8], out: &mut [u8], used: usize) -> usize {
+// Writes the first `used` bytes of out; answers whether they could be written.
+fn flush(out: &[u8], used: usize) -> bool {
+    io::write_all(1, lines::cut(out, used))
+}
+
+// How many bytes of out are in use, and whether some could not be written.
+struct Rows {
+    used: usize,
+    lost: bool,
+}
+
+// Puts the row of a line behind the first `used` bytes of out; where it does not fit, those are written first.
+fn put_row(number: usize, line: &[u8], out: &mut [u8], used: usize) -> Rows {
     if out.len() < used {
-        return 0;
+        return Rows {
+            used: 0,
+            lost: false,
+        };
     }
     let w = row::write_row(number, line, &mut out[used..]);
     if w.refusal == 0 {
-        return used + w.reported;
+        return Rows {
+            used: used + w.reported,
+            lost: false,
+        };
     }
-    flush(out, used);
-    row::write_row(number, line, out).reported
+    if !flush(out, used) {
+        return Rows {
+            used: 0,
+            lost: true,
+        };
+    }
+    let w = row::write_row(number, line, out);
+    Rows {
+        used: w.reported,
+        lost: false,
+    }
 }
 
-// Writes the heading and the rows of all lines.
-fn list(s: &[u8], out: &mut [u8]) {
+// Writes the heading and the rows of all lines; answers whether all could be written.
+fn list(s: &[u8], out: &mut [u8]) -> bool {
     let mut used = buffer::write(&row::HEADING, out).reported;
     let mut from: usize = 0;
     let mut number: usize = 0;
@@ -31,27 +68,44 @@ fn list(s: &[u8], out: &mut [u8]) {
             break;
         };
         number += 1;
-        used = put_row(number, &s[start..end], out, used);
+        let rows = put_row(number, &s[start..end], out, used);
+        if rows.lost {
+            return false;
+        }
+        used = rows.used;
         from = next;
     }
-    flush(out, used);
+    flush(out, used)
 }
 
-// Whether standard input has a byte more.
-fn more() -> bool {
-    let mut one = [0u8; 1];
-    0 < libc::read(0, &mut one)
+// Says that there is too much input: document 01's words alone on standard output.
+fn refuse() {
+    if io::write_all(1, b"too much input\n") {
+        io::write_all(2, b"refused: the input is over 65,536 bytes\n");
+        return;
+    }
+    os::fail(b"unwritten");
+}
+
+// Lists an input that was read whole.
+fn answer(input: &[u8]) {
+    let mut out = io::large_buffer();
+    if !list(input, &mut out) {
+        os::fail(b"unwritten");
+    }
 }
 
 fn main() {
     let mut input = io::large_buffer();
-    let n = io::read_full(0, &mut input);
-    if n == 65536 {
-        if more() {
-            io::write_all(1, b"too much input\n");
-            return;
-        }
+    let read = input::gather(&mut input);
+    let rest = beyond(read.held);
+    if read.failed | rest.failed {
+        os::fail(b"unread");
+        return;
     }
-    let mut out = io::large_buffer();
-    list(&input[..n], &mut out);
+    if 0 < rest.held {
+        refuse();
+        return;
+    }
+    answer(lines::cut(&input, read.held));
 }

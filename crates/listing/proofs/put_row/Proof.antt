@@ -25,8 +25,8 @@ part-write-row-end c = search needs
 write-row-requires : tie.Need-write-row-requires
 write-row-requires c κs = search needs
 
-add-result : tie.Need-add-result
-add-result c =
+add-t12 : tie.Need-add-t12
+add-t12 c =
     let w = c .before .before .before .before .before in
     let a = w .before .before .before .before .before .args in
     omega (arith, within-buffer _ _ _ _ _ (w .write-row .ensures), ap length (part-to-end (now (a .out)) (a .used)), length-drop (a .used) (now (a .out)))
@@ -40,14 +40,20 @@ returns-2 c = search needs
 flush-requires : tie.Need-flush-requires
 flush-requires c κs = search needs
 
-write-row-requires-2 : tie.Need-write-row-requires-2
-write-row-requires-2 c κs = search needs
-
 same-length-2 : tie.Need-same-length-2
 same-length-2 c = search needs
 
 returns-3 : tie.Need-returns-3
 returns-3 c = search needs
+
+write-row-requires-2 : tie.Need-write-row-requires-2
+write-row-requires-2 c κs = search needs
+
+same-length-3 : tie.Need-same-length-3
+same-length-3 c = search needs
+
+returns-4 : tie.Need-returns-4
+returns-4 c = search needs
 
 pub put-row-spec : {M : Type 1} → statement M
 put-row-spec =
@@ -58,10 +64,12 @@ put-row-spec =
     part-write-row-start
     part-write-row-end
     write-row-requires
-    add-result
+    add-t12
     same-length
     returns-2
     flush-requires
-    write-row-requires-2
     same-length-2
-    returns-3)
+    returns-3
+    write-row-requires-2
+    same-length-3
+    returns-4)
