@@ -1,12 +1,17 @@
 // Prints the page that the bench uses: for each test setting all the fields that a unit may send. The settings are the
-// program's arguments, or where there are none its standard input; a comma or the end of a line ends one.
+// program's arguments, or where there are none its standard input; a comma or the end of a line ends one. What is wrong or
+// fails is said on standard error, by a word at the start of the line that ./tusselgro turns into a status.
 ghost use Prim.Native.Nat.{_≤_};
 ghost use lib.ListN.{length};
 
-mod help;
+mod input;
 mod page;
+mod sent;
 mod setting;
+mod tell;
 mod tidy;
+
+use input::Input;
 
 // Puts argument i and a space behind the first `at` bytes of input. Where it does not fit, all of input counts as used.
 fn add(i: usize, input: &mut [u8], at: usize) -> usize {
@@ -36,15 +41,17 @@ fn arguments(input: &mut [u8]) -> usize {
     at
 }
 
-// Puts the settings to the front of input; answers how many bytes they are. A terminal is not waited for.
-fn gather(input: &mut [u8]) -> usize {
+// Puts the settings to the front of input.
+fn gather(input: &mut [u8]) -> Input {
     if 1 < os::arg_count() {
-        return arguments(input);
+        let held = arguments(input);
+        return Input {
+            held,
+            more: false,
+            failed: false,
+        };
     }
-    if libc::isatty(0) == 1 {
-        return 0;
-    }
-    io::read_full(0, input)
+    input::gather(input)
 }
 
 // The place where the setting that starts at `from` ends.
@@ -69,78 +76,81 @@ fn filled(text: &[u8]) -> usize
     0
 }
 
-// Writes the first `used` bytes of out.
-fn flush(out: &[u8], used: usize) {
-    io::write_all(1, lines::cut(out, used));
+// How many bytes of out are in use, and whether some could not be written.
+struct Output {
+    used: usize,
+    lost: bool,
 }
 
-// Writes what is in use where little room is left; answers how many bytes are in use then.
-fn with_room(out: &[u8], used: usize) -> usize {
+// Writes the first `used` bytes of out, which are none then.
+fn flush(out: &[u8], used: usize) -> Output {
+    let done = io::write_all(1, lines::cut(out, used));
+    Output {
+        used: 0,
+        lost: !done,
+    }
+}
+
+// Writes what is in use where little room is left.
+fn with_room(out: &[u8], used: usize) -> Output {
     if used < out.len() {
         if 8192 < out.len() - used {
-            return used;
+            return Output { used, lost: false };
         }
     }
-    flush(out, used);
-    0
+    flush(out, used)
 }
 
-// Writes what is left of the page, or the help where there was no setting.
-fn finish(number: usize, out: &[u8], used: usize) {
+// Writes what is left of the page, or says that there was no setting; answers whether all could be written.
+fn finish(number: usize, out: &[u8], used: usize) -> bool {
     if number == 0 {
-        help::print();
-        return;
+        io::write_all(2, b"usage: there is no setting\n");
+        return true;
     }
-    flush(out, used);
+    let left = flush(out, used);
+    !left.lost
 }
 
-// Writes the page of all settings.
-fn print(s: &[u8], out: &mut [u8]) {
+// Writes the page of all settings; answers whether all could be written.
+fn print(s: &[u8], out: &mut [u8]) -> bool {
     let mut used: usize = 0;
     let mut number: usize = 0;
+    let mut shown = false;
     let mut from: usize = 0;
     while from < s.len() {
         let end = end_of(s, from);
         let text = tidy::bare(&s[from..end]);
         number += filled(text);
-        used = with_room(out, used);
-        used = page::part(number, text, out, used);
+        let left = with_room(out, used);
+        if left.lost {
+            return false;
+        }
+        used = page::part(number, shown, text, out, left.used);
+        shown = shown | (left.used < used);
         from = end + 1;
     }
-    finish(number, out, used);
+    finish(number, out, used)
 }
 
-// Whether the help is asked for.
-fn asks_help(word: &[u8]) -> bool {
-    if check::same(word, b"-h") {
-        return true;
-    }
-    if check::same(word, b"--help") {
-        return true;
-    }
-    check::same(word, b"help")
-}
-
-// Answers settings that are tidied.
-fn serve(s: &[u8]) {
-    if s.len() == 65536 {
-        io::write_all(
-            1,
-            b"too much input: the settings are at most 65,535 bytes\n",
-        );
-        return;
-    }
-    if asks_help(tidy::bare(s)) {
-        help::print();
-        return;
-    }
+// Prints the page of settings that are tidied.
+fn answer(s: &[u8]) {
     let mut out = io::large_buffer();
-    print(s, &mut out);
+    if !print(s, &mut out) {
+        os::fail(b"unwritten");
+    }
 }
 
 fn main() {
     let mut input = io::large_buffer();
-    let n = gather(&mut input);
+    let read = gather(&mut input);
+    if read.failed {
+        os::fail(b"unread");
+        return;
+    }
+    if read.held == 65536 {
+        io::write_all(2, b"refused: the settings are over 65,535 bytes\n");
+        return;
+    }
     tidy::tidy(&mut input);
-    serve(lines::cut(&input, n));
+    answer(lines::cut(&input, read.held));
 }

@@ -1,72 +1,23 @@
-// The page: for each setting a heading, a table of its fields and their number; or what is wrong with it.
+// The page: for each setting a heading, a table of its fields and their number.
 ghost use Prim.Native.Nat.{_≤_};
+use crate::sent;
+use crate::sent::Way;
 use crate::setting;
 use crate::setting::Setting;
+use crate::tell;
 use lonlat::Longitude;
 use mic_e::Course;
 use mic_e::Speed;
 
 // What stands once, at the top.
-const NOTE: [u8; 257] =
+const NOTE: [u8; 318] =
     *b"Every field of three bytes that a unit may send for a setting, in ascending order.
 Behind the type byte of a Mic-E body, bytes 1 to 3 are longitude, 4 to 6 motion.
 Between bars stand the characters; a dot there is a byte that does not print, or a dot (2e).
+A star marks the field that the standard's own writer sends.
 ";
 
-// A byte as the character that it is, or a dot.
-fn character(b: u8) -> u8 {
-    if b < 0x20 {
-        return b'.';
-    }
-    if 0x7e < b {
-        return b'.';
-    }
-    b
-}
-
-// The first 64 bytes of s, as characters.
-fn characters(s: &[u8], out: &mut [u8], at: usize) -> usize {
-    let s = lines::cut(s, 64);
-    let mut end = at;
-    let mut i: usize = 0;
-    while i < s.len() {
-        end = buffer::put_byte(character(s[i]), out, end);
-        i += 1;
-    }
-    end
-}
-
-// Begins the line for a wrong setting: its number and its text.
-fn wrong(number: usize, text: &[u8], out: &mut [u8], at: usize) -> usize {
-    let end = buffer::put(b"Setting ", out, at);
-    let end = numbers::put_count(number, out, end);
-    let end = buffer::put(b", \"", out, end);
-    let end = characters(text, out, end);
-    buffer::put(b"\": ", out, end)
-}
-
-// A setting that a lister refuses.
-fn refused(
-    number: usize,
-    text: &[u8],
-    refusal: u8,
-    range: &[u8],
-    out: &mut [u8],
-    at: usize,
-) -> usize {
-    let end = wrong(number, text, out, at);
-    let end = buffer::put(b"refused with ", out, end);
-    let end = numbers::put_count(refusal as usize, out, end);
-    let end = buffer::put(b", out of range\n  ", out, end);
-    buffer::put(range, out, end)
-}
-
-// A setting whose words are not understood.
-fn unread(number: usize, text: &[u8], expected: &[u8], out: &mut [u8], at: usize) -> usize {
-    let end = wrong(number, text, out, at);
-    let end = buffer::put(b"not understood\n  expected ", out, end);
-    buffer::put(expected, out, end)
-}
+// ---- the table
 
 // The hundreds and the tens of a byte's decimal, or blanks.
 fn hundreds(b: u8) -> u8 {
@@ -89,22 +40,31 @@ fn cell(b: u8, k: usize, row: &mut [u8])
 {
     buffer::put(&[hundreds(b), tens(b), b'0' + b % 10], row, 4 * k + 2);
     numbers::put_hex(b, row, 3 * k + 16);
-    buffer::put_byte(character(b), row, k + 28);
+    buffer::put_byte(tell::character(b), row, k + 28);
 }
 
 // A row before its bytes: the three columns stand under their headings.
 const ROW: [u8; 33] = *b"                           |   |\n";
 
-fn row(a: u8, b: u8, c: u8, out: &mut [u8], at: usize) -> usize {
+// A star for the field that is sent, else a blank.
+fn star(field: [u8; 3], sent: [u8; 3]) -> u8 {
+    if check::same(&field, &sent) {
+        return b'*';
+    }
+    b' '
+}
+
+fn row(field: [u8; 3], sent: [u8; 3], out: &mut [u8], at: usize) -> usize {
     let mut text = ROW;
-    cell(a, 0, &mut text);
-    cell(b, 1, &mut text);
-    cell(c, 2, &mut text);
+    buffer::put_byte(star(field, sent), &mut text, 0);
+    cell(field[0], 0, &mut text);
+    cell(field[1], 1, &mut text);
+    cell(field[2], 2, &mut text);
     buffer::put(&text, out, at)
 }
 
 // The rows of the first `count` fields of found.
-fn rows(found: &[u8], count: usize, out: &mut [u8], at: usize) -> usize {
+fn rows(found: &[u8], count: usize, sent: [u8; 3], out: &mut [u8], at: usize) -> usize {
     if found.len() / 3 < count {
         return at;
     }
@@ -112,7 +72,8 @@ fn rows(found: &[u8], count: usize, out: &mut [u8], at: usize) -> usize {
     let mut i: usize = 0;
     while i < count {
         let j = 3 * i;
-        end = row(found[j], found[j + 1], found[j + 2], out, end);
+        let field = [found[j], found[j + 1], found[j + 2]];
+        end = row(field, sent, out, end);
         i += 1;
     }
     end
@@ -128,14 +89,16 @@ fn total(count: usize, out: &mut [u8], at: usize) -> usize {
 }
 
 // The table, and the number of fields below it.
-fn table(found: &[u8], count: usize, out: &mut [u8], at: usize) -> usize {
+fn table(found: &[u8], count: usize, sent: [u8; 3], out: &mut [u8], at: usize) -> usize {
     if count == 0 {
         return buffer::put(b"no field: no unit can send this setting\n", out, at);
     }
     let end = buffer::put(b"  decimal       hex        characters\n", out, at);
-    let end = rows(found, count, out, end);
+    let end = rows(found, count, sent, out, end);
     total(count, out, end)
 }
+
+// ---- a motion
 
 fn unit(knots: u32, out: &mut [u8], at: usize) -> usize {
     if knots == 1 {
@@ -144,7 +107,6 @@ fn unit(knots: u32, out: &mut [u8], at: usize) -> usize {
     buffer::put(b" knots", out, at)
 }
 
-// The heading of a motion.
 fn motion_heading(knots: u32, course: u32, out: &mut [u8], at: usize) -> usize {
     let end = buffer::put(b"Motion: ", out, at);
     let end = numbers::put_count(knots as usize, out, end);
@@ -154,7 +116,6 @@ fn motion_heading(knots: u32, course: u32, out: &mut [u8], at: usize) -> usize {
     buffer::put_byte(b'\n', out, end)
 }
 
-// A motion.
 fn motion(
     number: usize,
     text: &[u8],
@@ -166,18 +127,25 @@ fn motion(
     let mut found = [0u8; 108];
     let answer = fields::list_motion(speed, course, &mut found);
     if answer.refusal != 0 {
-        return refused(
+        tell::refused(
             number,
             text,
             answer.refusal,
             b"speed is 0 to 799 knots, course 0 to 360\n",
-            out,
-            at,
         );
+        return at;
     }
     let end = motion_heading(speed.0, course.0, out, at);
-    table(&found, answer.reported, out, end)
+    table(
+        &found,
+        answer.reported,
+        sent::motion(speed, course),
+        out,
+        end,
+    )
 }
+
+// ---- a longitude
 
 // Degrees and minutes of a text `dddmm.hh`.
 fn degrees(text: &[u8], out: &mut [u8], at: usize) -> usize {
@@ -198,18 +166,27 @@ fn angle(longitude: Longitude, out: &mut [u8], at: usize) -> usize {
     buffer::put(lines::tail(&text, 8), out, end)
 }
 
-fn offset(hundred: bool) -> usize {
-    if hundred { 100 } else { 0 }
+fn offset(hundred: bool, out: &mut [u8], at: usize) -> usize {
+    if hundred {
+        return buffer::put(b"offset 100", out, at);
+    }
+    buffer::put(b"offset 0", out, at)
 }
 
 fn direction(west: bool, out: &mut [u8], at: usize) -> usize {
     if west {
-        return buffer::put(b", west\n", out, at);
+        return buffer::put(b"west", out, at);
     }
-    buffer::put(b", east\n", out, at)
+    buffer::put(b"east", out, at)
 }
 
-// The heading of a longitude.
+// `offset 100, west`
+fn way(hundred: bool, west: bool, out: &mut [u8], at: usize) -> usize {
+    let end = offset(hundred, out, at);
+    let end = buffer::put(b", ", out, end);
+    direction(west, out, end)
+}
+
 fn longitude_heading(
     longitude: Longitude,
     hundred: bool,
@@ -221,28 +198,111 @@ fn longitude_heading(
     let end = angle(longitude, out, end);
     let end = buffer::put(b" (", out, end);
     let end = numbers::put_number(longitude.0, out, end);
-    let end = buffer::put(b" hundredths), offset ", out, end);
-    let end = numbers::put_count(offset(hundred), out, end);
-    direction(west, out, end)
+    let end = buffer::put(b" hundredths), ", out, end);
+    let end = way(hundred, west, out, end);
+    buffer::put_byte(b'\n', out, end)
+}
+
+// The characters of a destination that mean 1 or 0 at one of its last three places.
+fn flagged(flag: bool, out: &mut [u8], at: usize) -> usize {
+    if flag {
+        return buffer::put(b"P to Z", out, at);
+    }
+    buffer::put(b"0 to 9 or L", out, at)
+}
+
+// The fifth character of a destination, and what it means.
+fn fifth(hundred: bool, out: &mut [u8], at: usize) -> usize {
+    let end = flagged(hundred, out, at);
+    let end = buffer::put(b" (", out, end);
+    let end = offset(hundred, out, end);
+    buffer::put_byte(b')', out, end)
+}
+
+// The sixth character, and what it means.
+fn sixth(west: bool, out: &mut [u8], at: usize) -> usize {
+    let end = flagged(west, out, at);
+    let end = buffer::put(b" (", out, end);
+    let end = direction(west, out, end);
+    buffer::put_byte(b')', out, end)
+}
+
+// What the offset and the direction are in the destination.
+fn destination(hundred: bool, west: bool, out: &mut [u8], at: usize) -> usize {
+    let end = buffer::put(b"In the destination the fifth character is ", out, at);
+    let end = fifth(hundred, out, end);
+    let end = buffer::put(b", the sixth ", out, end);
+    let end = sixth(west, out, end);
+    buffer::put(b".\n", out, end)
 }
 
 // Says where a longitude lies on the other side than the direction.
 fn sides(angle: i32, west: bool, out: &mut [u8], at: usize) -> usize {
     if west {
         if 0 < angle {
-            return buffer::put(b"the longitude lies east, the direction is west\n", out, at);
+            return buffer::put(
+                b"The longitude lies east, the direction is west.\n",
+                out,
+                at,
+            );
         }
         return at;
     }
     if angle < 0 {
-        return buffer::put(b"the longitude lies west, the direction is east\n", out, at);
+        return buffer::put(
+            b"The longitude lies west, the direction is east.\n",
+            out,
+            at,
+        );
     }
     at
 }
 
+// Says how the standard's own writer sends the longitude, where that is another setting.
+fn elsewhere(longitude: Longitude, hundred: bool, west: bool, out: &mut [u8], at: usize) -> usize {
+    let other = sent::under(longitude);
+    match other {
+        Way::Sent(with_hundred, to_west) => {
+            if with_hundred == hundred {
+                if to_west == west {
+                    return at;
+                }
+            }
+            let end = buffer::put(
+                b"The standard's own writer sends this longitude with ",
+                out,
+                at,
+            );
+            let end = way(with_hundred, to_west, out, end);
+            buffer::put(b".\n", out, end)
+        }
+        Way::NotSent => buffer::put(
+            b"The standard's own writer sends no longitude of 180 degrees.\n",
+            out,
+            at,
+        ),
+    }
+}
+
+// The field that the standard's own writer sends for this setting; zeros, which are no field, where it sends another.
+fn starred(longitude: Longitude, hundred: bool, west: bool) -> [u8; 3] {
+    let other = sent::under(longitude);
+    match other {
+        Way::Sent(with_hundred, to_west) => {
+            if with_hundred != hundred {
+                return [0; 3];
+            }
+            if to_west != west {
+                return [0; 3];
+            }
+            sent::longitude(longitude)
+        }
+        Way::NotSent => [0; 3],
+    }
+}
+
 const FARTHEST: [u8; 67] = *b"a longitude is at most 180 degrees, 18000.00 or 1080000 hundredths\n";
 
-// A longitude.
 fn longitude(
     number: usize,
     text: &[u8],
@@ -255,51 +315,61 @@ fn longitude(
     let mut found = [0u8; 108];
     let answer = fields::list_longitude(target, hundred, west, &mut found);
     if answer.refusal != 0 {
-        return refused(number, text, answer.refusal, &FARTHEST, out, at);
+        tell::refused(number, text, answer.refusal, &FARTHEST);
+        return at;
     }
     let end = longitude_heading(target, hundred, west, out, at);
+    let end = destination(hundred, west, out, end);
     let end = sides(target.0, west, out, end);
-    table(&found, answer.reported, out, end)
+    let star = starred(target, hundred, west);
+    let end = table(&found, answer.reported, star, out, end);
+    elsewhere(target, hundred, west, out, end)
 }
+
+// ---- a setting
 
 const MOTION: [u8; 39] = *b"motion KNOTS COURSE, two whole numbers\n";
 
-const LONGITUDE: [u8; 75] =
-    *b"longitude ANGLE offset 0|100 east|west, ANGLE as dddmm.hh or in hundredths\n";
+const LONGITUDE: [u8; 112] =
+    *b"longitude ANGLE offset 0|100 east|west, ANGLE as dddmm.hh or in hundredths, or dddmm.hh with E or W and no more\n";
 
 const EITHER: [u8; 63] = *b"motion KNOTS COURSE, or longitude ANGLE offset 0|100 east|west\n";
 
-// What a setting gets.
+// What a setting gets; nothing is put, and the place stays, where it is wrong.
 fn answer(number: usize, text: &[u8], out: &mut [u8], at: usize) -> usize {
     let asked = setting::read(text);
     match asked {
-        Setting::Moving(speed, course) => motion(number, text, speed, course, out, at),
-        Setting::Lying(angle, hundred, west) => longitude(
-            number,
-            text,
-            angle,
-            hundred,
-            west,
-            out,
-            at,
-        ),
-        Setting::BadMotion => unread(number, text, &MOTION, out, at),
-        Setting::BadLongitude => unread(number, text, &LONGITUDE, out, at),
-        Setting::Bad => unread(number, text, &EITHER, out, at),
+        Setting::Moving(speed, course) => {
+            return motion(number, text, speed, course, out, at);
+        }
+        Setting::Lying(angle, hundred, west) => {
+            return longitude(number, text, angle, hundred, west, out, at);
+        }
+        Setting::BadMotion => tell::unclear(number, text, &MOTION),
+        Setting::BadLongitude => tell::unclear(number, text, &LONGITUDE),
+        Setting::Bad => tell::unclear(number, text, &EITHER),
     }
+    at
 }
 
-// The part of the page for a setting, behind the first `at` bytes of out: a blank line comes before it, and before the
-// first the note. An empty setting gets nothing.
-pub fn part(number: usize, text: &[u8], out: &mut [u8], at: usize) -> usize {
+// A blank line between two parts; before the first the note.
+fn opening(shown: bool, out: &mut [u8], at: usize) -> usize {
+    if shown {
+        return buffer::put_byte(b'\n', out, at);
+    }
+    let end = buffer::put(&NOTE, out, at);
+    buffer::put_byte(b'\n', out, end)
+}
+
+// The part of the page for a setting, behind the first `at` bytes of out. An empty or a wrong setting gets none.
+pub fn part(number: usize, shown: bool, text: &[u8], out: &mut [u8], at: usize) -> usize {
     if text.len() == 0 {
         return at;
     }
-    if number == 1 {
-        let end = buffer::put(&NOTE, out, at);
-        let end = buffer::put_byte(b'\n', out, end);
-        return answer(number, text, out, end);
+    let start = opening(shown, out, at);
+    let end = answer(number, text, out, start);
+    if end == start {
+        return at;
     }
-    let end = buffer::put_byte(b'\n', out, at);
-    answer(number, text, out, end)
+    end
 }

@@ -40,8 +40,38 @@ fn motion(s: &[u8]) -> Setting {
     Setting::Moving(Speed(knots), Course(course))
 }
 
-// `0 DIRECTION` or `100 DIRECTION`
-fn offset(angle: Longitude, s: &[u8]) -> Setting {
+// The direction of a longitude, or that none is told.
+enum Side {
+    East,
+    West,
+    Untold,
+}
+
+// The direction that a letter behind an angle means.
+fn side_of(letter: u8) -> Side {
+    match letter {
+        b'E' => Side::East,
+        b'W' => Side::West,
+        _ => Side::Untold,
+    }
+}
+
+// The direction that a word means; where there is none, that of the angle's letter.
+fn told(word: &[u8], letter: u8) -> Side {
+    if word.len() == 0 {
+        return side_of(letter);
+    }
+    if check::same(word, b"west") {
+        return Side::West;
+    }
+    if check::same(word, b"east") {
+        return Side::East;
+    }
+    Side::Untold
+}
+
+// `0 DIRECTION` or `100 DIRECTION` behind an angle and its letter; an angle that has one may stand without the direction.
+fn offset(angle: Longitude, letter: u8, s: &[u8]) -> Setting {
     let word = lines::first(s);
     let hundred = check::same(word, b"100");
     if !hundred {
@@ -49,14 +79,12 @@ fn offset(angle: Longitude, s: &[u8]) -> Setting {
             return Setting::BadLongitude;
         }
     }
-    let direction = tidy::rest(s);
-    if check::same(direction, b"west") {
-        return Setting::Lying(angle, hundred, true);
+    let side = told(tidy::rest(s), letter);
+    match side {
+        Side::East => Setting::Lying(angle, hundred, false),
+        Side::West => Setting::Lying(angle, hundred, true),
+        Side::Untold => Setting::BadLongitude,
     }
-    if check::same(direction, b"east") {
-        return Setting::Lying(angle, hundred, false);
-    }
-    Setting::BadLongitude
 }
 
 // The longitude of that size, west or east; in place of one past 180 degrees the first that is.
@@ -111,19 +139,50 @@ fn is_minus(s: &[u8]) -> bool {
     s[0] == b'-'
 }
 
-// `ANGLE offset OFFSET DIRECTION`
-fn longitude(s: &[u8]) -> Setting {
-    let word = lines::first(s);
+// `OFFSET DIRECTION` behind an angle with a dash before it or none.
+fn signed(word: &[u8], s: &[u8]) -> Setting {
     let minus = is_minus(word);
     let read = size(lines::tail(word, minus as usize));
     let Count::Is(size) = read else {
         return Setting::BadLongitude;
     };
-    let s = tidy::rest(s);
-    if check::same(lines::first(s), b"offset") {
-        return offset(angle(size, minus), tidy::rest(s));
+    offset(angle(size, minus), 0, s)
+}
+
+// `OFFSET` or `OFFSET DIRECTION` behind an angle as APRS has it, `dddmm.hh` and a letter.
+fn lettered(word: &[u8], letter: u8, s: &[u8]) -> Setting {
+    let read = dotted(word);
+    let Count::Is(size) = read else {
+        return Setting::BadLongitude;
+    };
+    offset(angle(size, letter == b'W'), letter, s)
+}
+
+// The letter behind `dddmm.hh`, or 0.
+fn letter_of(word: &[u8]) -> u8 {
+    if word.len() != 9 {
+        return 0;
     }
-    Setting::BadLongitude
+    match word[8] {
+        b'E' => b'E',
+        b'W' => b'W',
+        _ => 0,
+    }
+}
+
+// `ANGLE offset OFFSET DIRECTION`
+fn longitude(s: &[u8]) -> Setting {
+    let word = lines::first(s);
+    let letter = letter_of(word);
+    let s = tidy::rest(s);
+    if !check::same(lines::first(s), b"offset") {
+        return Setting::BadLongitude;
+    }
+    let s = tidy::rest(s);
+    if letter == 0 {
+        return signed(word, s);
+    }
+    lettered(lines::cut(word, 8), letter, s)
 }
 
 pub fn read(s: &[u8]) -> Setting {

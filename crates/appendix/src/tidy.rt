@@ -1,7 +1,19 @@
-// Settings tidied: a comma ends a setting as the end of a line does, tabs and carriage returns are spaces, and the spaces
-// at either end of a setting count for nothing.
+// Settings tidied: a comma ends a setting as the end of a line does, tabs and carriage returns are spaces, as is all from
+// a # to the end of its line, and the spaces at either end of a setting count for nothing.
 
-fn tidied(b: u8) -> u8 {
+// Whether a byte belongs to a comment, as the one before it does or not.
+fn in_comment(before: bool, b: u8) -> bool {
+    match b {
+        b'\n' => false,
+        b'#' => true,
+        _ => before,
+    }
+}
+
+fn tidied(comment: bool, b: u8) -> u8 {
+    if comment {
+        return b' ';
+    }
     match b {
         b',' => b'\n',
         b'\t' | b'\r' => b' ',
@@ -10,9 +22,11 @@ fn tidied(b: u8) -> u8 {
 }
 
 pub fn tidy(s: &mut [u8]) {
+    let mut comment = false;
     let mut i: usize = 0;
     while i < s.len() {
-        s[i] = tidied(s[i]);
+        comment = in_comment(comment, s[i]);
+        s[i] = tidied(comment, s[i]);
         i += 1;
     }
 }

@@ -8,10 +8,10 @@ use Rattle.appendix.proofs.print.Statement.{statement}
 use Rattle.appendix.proofs.print.Tie as tie
 
 abbrev Inv-loop : tie.InvT-loop
-Inv-loop s out₀ used₀ number₀ from₀ out used number from = (number ≤ from) × ((from ≤ length s + 1) × (length out ≡ length out₀))
+Inv-loop s out₀ used₀ number₀ shown₀ from₀ out used number shown from = (number ≤ from) × ((from ≤ length s + 1) × (length out ≡ length out₀))
 
 abbrev μ-loop : tie.MeasureT-loop
-μ-loop s out₀ used₀ number₀ from₀ out used number from = length s + 1 - from
+μ-loop s out₀ used₀ number₀ shown₀ from₀ out used number shown from = length s + 1 - from
 
 loop-holds : tie.Need-loop-holds Inv-loop μ-loop
 loop-holds c = search needs
@@ -40,6 +40,12 @@ add-number c = search needs
 with-room-requires : tie.Need-with-room-requires Inv-loop μ-loop
 with-room-requires c κs = search needs
 
+same-length : tie.Need-same-length Inv-loop μ-loop
+same-length c = search needs
+
+returns : tie.Need-returns Inv-loop μ-loop
+returns c = search needs
+
 part-requires : tie.Need-part-requires Inv-loop μ-loop
 part-requires c κs = search needs
 
@@ -55,11 +61,11 @@ loop-again c = search needs
 finish-requires : tie.Need-finish-requires Inv-loop μ-loop
 finish-requires c κs = search needs
 
-same-length : tie.Need-same-length Inv-loop μ-loop
-same-length c = search needs
+same-length-2 : tie.Need-same-length-2 Inv-loop μ-loop
+same-length-2 c = search needs
 
-returns : tie.Need-returns Inv-loop μ-loop
-returns c = search needs
+returns-2 : tie.Need-returns-2 Inv-loop μ-loop
+returns-2 c = search needs
 
 pub print-spec : {M : Type 1} → statement M
 print-spec =
@@ -76,10 +82,12 @@ print-spec =
     filled-requires
     add-number
     with-room-requires
+    same-length
+    returns
     part-requires
     add-from
     loop-less
     loop-again
     finish-requires
-    same-length
-    returns)
+    same-length-2
+    returns-2)

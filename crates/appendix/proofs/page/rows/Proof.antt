@@ -8,10 +8,10 @@ use Rattle.appendix.proofs.page.rows.Statement.{statement}
 use Rattle.appendix.proofs.page.rows.Tie as tie
 
 abbrev Inv-loop : tie.InvT-loop
-Inv-loop found count out₀ at end₀ i₀ out end i = (i ≤ count) × (length out ≡ length out₀)
+Inv-loop found count sent out₀ at end₀ i₀ out end i = (i ≤ count) × (length out ≡ length out₀)
 
 abbrev μ-loop : tie.MeasureT-loop
-μ-loop found count out₀ at end₀ i₀ out end i = count - i
+μ-loop found count sent out₀ at end₀ i₀ out end i = count - i
 
 returns : tie.Need-returns Inv-loop μ-loop
 returns c = search needs
@@ -22,20 +22,20 @@ loop-holds c = search needs
 mul-j : tie.Need-mul-j Inv-loop μ-loop
 mul-j c = search needs
 
-shared-slice-read-row : tie.Need-shared-slice-read-row Inv-loop μ-loop
-shared-slice-read-row c = search needs
+shared-slice-read-t15 : tie.Need-shared-slice-read-t15 Inv-loop μ-loop
+shared-slice-read-t15 c = search needs
 
-add-row : tie.Need-add-row Inv-loop μ-loop
-add-row c = search needs
+add-t16 : tie.Need-add-t16 Inv-loop μ-loop
+add-t16 c = search needs
 
-shared-slice-read-row-2 : tie.Need-shared-slice-read-row-2 Inv-loop μ-loop
-shared-slice-read-row-2 c = search needs
+shared-slice-read-t18 : tie.Need-shared-slice-read-t18 Inv-loop μ-loop
+shared-slice-read-t18 c = search needs
 
-add-row-2 : tie.Need-add-row-2 Inv-loop μ-loop
-add-row-2 c = search needs
+add-t19 : tie.Need-add-t19 Inv-loop μ-loop
+add-t19 c = search needs
 
-shared-slice-read-row-3 : tie.Need-shared-slice-read-row-3 Inv-loop μ-loop
-shared-slice-read-row-3 c = search needs
+shared-slice-read-t21 : tie.Need-shared-slice-read-t21 Inv-loop μ-loop
+shared-slice-read-t21 c = search needs
 
 row-requires : tie.Need-row-requires Inv-loop μ-loop
 row-requires c κs = search needs
@@ -64,11 +64,11 @@ rows-spec =
     returns
     loop-holds
     mul-j
-    shared-slice-read-row
-    add-row
-    shared-slice-read-row-2
-    add-row-2
-    shared-slice-read-row-3
+    shared-slice-read-t15
+    add-t16
+    shared-slice-read-t18
+    add-t19
+    shared-slice-read-t21
     row-requires
     add-i
     loop-less

@@ -8,13 +8,19 @@ use Rattle.appendix.proofs.tidy.tidy.Statement.{statement}
 use Rattle.appendix.proofs.tidy.tidy.Tie as tie
 
 abbrev Inv-loop : tie.InvT-loop
-Inv-loop s₀ i₀ s i = (i ≤ length s₀) × (length s ≡ length s₀)
+Inv-loop s₀ comment₀ i₀ s comment i = (i ≤ length s₀) × (length s ≡ length s₀)
 
 abbrev μ-loop : tie.MeasureT-loop
-μ-loop s₀ i₀ s i = length s₀ - i
+μ-loop s₀ comment₀ i₀ s comment i = length s₀ - i
 
 loop-holds : tie.Need-loop-holds Inv-loop μ-loop
 loop-holds c = search needs
+
+slice-read-in-comment : tie.Need-slice-read-in-comment Inv-loop μ-loop
+slice-read-in-comment c = search needs
+
+in-comment-requires : tie.Need-in-comment-requires Inv-loop μ-loop
+in-comment-requires c κs = search needs
 
 slice-read-tidied : tie.Need-slice-read-tidied Inv-loop μ-loop
 slice-read-tidied c = search needs
@@ -47,6 +53,8 @@ tidy-spec =
     Inv-loop
     μ-loop
     loop-holds
+    slice-read-in-comment
+    in-comment-requires
     slice-read-tidied
     tidied-requires
     slice-write-s

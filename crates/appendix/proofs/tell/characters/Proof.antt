@@ -4,8 +4,8 @@ use mathlib.Core.Path.{_≡_}
 use Prim.Native.Nat.{_-_, _≤_}
 use lib.ListN.{length}
 use borrow.Author.Needs.{needs}
-use Rattle.appendix.proofs.page.characters.Statement.{statement}
-use Rattle.appendix.proofs.page.characters.Tie as tie
+use Rattle.appendix.proofs.tell.characters.Statement.{statement}
+use Rattle.appendix.proofs.tell.characters.Tie as tie
 
 abbrev Inv-loop : tie.InvT-loop
 Inv-loop s out₀ at s' end₀ i₀ out end i = (i ≤ length s') × (length out ≡ length out₀)
