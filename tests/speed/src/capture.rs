@@ -1,4 +1,4 @@
-// The bench's lines in memory, what each is meant to be, and whether both sides take them so.
+// The lines in memory, what each is meant to be, and whether both sides take them so.
 
 use crate::{ours, rust, ROOM};
 

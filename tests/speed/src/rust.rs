@@ -1,4 +1,4 @@
-// The Rust crate aprs-parser's side of the bench.
+// The Rust crate aprs-parser's side of the comparison.
 
 use crate::capture::Class;
 use crate::keep::keep;

@@ -1,4 +1,4 @@
-// Times the reading, and the reading and writing, of the bench's lines by the Rust crate aprs-parser and by this
+// Times the reading, and the reading and writing, of lines by the Rust crate aprs-parser and by this
 // library, in turns, in one run. Both are x86-64 and see the same lines in memory.
 #![allow(unknown_lints, unexpected_cfgs)]
 

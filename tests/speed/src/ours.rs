@@ -1,4 +1,4 @@
-// This library's side of the bench, and the only file that calls it. Built with `--cfg ours` it needs the static
+// This library's side of the comparison, and the only file that calls it. Built with `--cfg ours` it needs the static
 // library; without, it says that it is absent.
 
 #[cfg(ours)]
@@ -8,7 +8,7 @@ pub use linked::*;
 pub use absent::*;
 
 #[cfg(ours)]
-#[path = "../../bindings/rust/src/ffi.rs"]
+#[path = "../../../bindings/rust/src/ffi.rs"]
 #[allow(dead_code)]
 mod ffi;
 

@@ -1,4 +1,4 @@
-// Writes the bench's made-up capture: a file of lines, and beside it a file that says of each line what it is.
+// Writes a made-up capture: a file of lines, and beside it a file that says of each line what it is.
 // The same seed gives the same bytes on every machine.
 
 mod lines;
