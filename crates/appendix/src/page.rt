@@ -203,37 +203,28 @@ fn longitude_heading(
     buffer::put_byte(b'\n', out, end)
 }
 
-// The characters of a destination that mean 1 or 0 at one of its last three places.
-fn flagged(flag: bool, out: &mut [u8], at: usize) -> usize {
-    if flag {
-        return buffer::put(b"P to Z", out, at);
-    }
-    buffer::put(b"0 to 9 or L", out, at)
-}
-
-// The fifth character of a destination, and what it means.
+// What the offset is in the destination.
 fn fifth(hundred: bool, out: &mut [u8], at: usize) -> usize {
-    let end = flagged(hundred, out, at);
-    let end = buffer::put(b" (", out, end);
-    let end = offset(hundred, out, end);
-    buffer::put_byte(b')', out, end)
+    if hundred {
+        return buffer::put(
+            b"In the destination the fifth character is P to Z (offset 100), ",
+            out,
+            at,
+        );
+    }
+    buffer::put(
+        b"In the destination the fifth character is 0 to 9 or L (offset 0), ",
+        out,
+        at,
+    )
 }
 
-// The sixth character, and what it means.
+// What the direction is in the destination.
 fn sixth(west: bool, out: &mut [u8], at: usize) -> usize {
-    let end = flagged(west, out, at);
-    let end = buffer::put(b" (", out, end);
-    let end = direction(west, out, end);
-    buffer::put_byte(b')', out, end)
-}
-
-// What the offset and the direction are in the destination.
-fn destination(hundred: bool, west: bool, out: &mut [u8], at: usize) -> usize {
-    let end = buffer::put(b"In the destination the fifth character is ", out, at);
-    let end = fifth(hundred, out, end);
-    let end = buffer::put(b", the sixth ", out, end);
-    let end = sixth(west, out, end);
-    buffer::put(b".\n", out, end)
+    if west {
+        return buffer::put(b"the sixth P to Z (west).\n", out, at);
+    }
+    buffer::put(b"the sixth 0 to 9 or L (east).\n", out, at)
 }
 
 // Says where a longitude lies on the other side than the direction.
@@ -319,7 +310,8 @@ fn longitude(
         return at;
     }
     let end = longitude_heading(target, hundred, west, out, at);
-    let end = destination(hundred, west, out, end);
+    let end = fifth(hundred, out, end);
+    let end = sixth(west, out, end);
     let end = sides(target.0, west, out, end);
     let star = starred(target, hundred, west);
     let end = table(&found, answer.reported, star, out, end);
