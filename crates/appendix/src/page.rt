@@ -187,6 +187,13 @@ fn way(hundred: bool, west: bool, out: &mut [u8], at: usize) -> usize {
     direction(west, out, end)
 }
 
+// ` (270000 hundredths), `
+fn hundredths(longitude: Longitude, out: &mut [u8], at: usize) -> usize {
+    let end = buffer::put(b" (", out, at);
+    let end = numbers::put_number(longitude.0, out, end);
+    buffer::put(b" hundredths), ", out, end)
+}
+
 fn longitude_heading(
     longitude: Longitude,
     hundred: bool,
@@ -196,9 +203,7 @@ fn longitude_heading(
 ) -> usize {
     let end = buffer::put(b"Longitude: ", out, at);
     let end = angle(longitude, out, end);
-    let end = buffer::put(b" (", out, end);
-    let end = numbers::put_number(longitude.0, out, end);
-    let end = buffer::put(b" hundredths), ", out, end);
+    let end = hundredths(longitude, out, end);
     let end = way(hundred, west, out, end);
     buffer::put_byte(b'\n', out, end)
 }
@@ -292,6 +297,14 @@ fn starred(longitude: Longitude, hundred: bool, west: bool) -> [u8; 3] {
     }
 }
 
+// What stands above the table of a longitude.
+fn above(target: Longitude, hundred: bool, west: bool, out: &mut [u8], at: usize) -> usize {
+    let end = longitude_heading(target, hundred, west, out, at);
+    let end = fifth(hundred, out, end);
+    let end = sixth(west, out, end);
+    sides(target.0, west, out, end)
+}
+
 const FARTHEST: [u8; 67] = *b"a longitude is at most 180 degrees, 18000.00 or 1080000 hundredths\n";
 
 fn longitude(
@@ -309,10 +322,7 @@ fn longitude(
         tell::refused(number, text, answer.refusal, &FARTHEST);
         return at;
     }
-    let end = longitude_heading(target, hundred, west, out, at);
-    let end = fifth(hundred, out, end);
-    let end = sixth(west, out, end);
-    let end = sides(target.0, west, out, end);
+    let end = above(target, hundred, west, out, at);
     let star = starred(target, hundred, west);
     let end = table(&found, answer.reported, star, out, end);
     elsewhere(target, hundred, west, out, end)
