@@ -1,0 +1,121 @@
+-- What reading a body gives: the blank body at a refusal, a body in range but for two cases, and a comment within the input.
+-- Assumes nothing.
+use mathlib.Core.Path.{_≡_, refl}
+use mathlib.Core.Bool.{Bool, true, false, not, cond, and-true, Bool·not-not}
+use mathlib.Core.List.{List}
+use Prim.Native.Nat.{ℕ, _+_, _≤_}
+use native.Mathlib.Omega.{arith}
+use borrow.Author.Tests.{le-leb, ltb-true, eqb-true}
+use lib.Dec.{eqb, ltb}
+use lib.IntN.{natAbs}
+use lib.ListN.{length, drop, getD, length-drop}
+use Rattle.callsign.specs.declared.Callsign.{Callsign}
+use Rattle.callsign.specs.Range.{callPart, isBlankCall}
+use Rattle.lonlat.specs.Angle.{mostLatitude, mostLongitude}
+use Rattle.position.specs.Reach.{inReach}
+use Rattle.position.specs.Position.{fixedBytes, readPosition, placeInRange, symbolsInRange}
+use Rattle.position.proofs.Theorems.{read-position-answered}
+use Rattle.mic_e.specs.declared.Destination.{Destination}
+use Rattle.mic_e.specs.declared.DestinationRead.{DestinationRead}
+use Rattle.mic_e.specs.declared.DestinationRead.the-variants as destination
+use Rattle.mic_e.specs.declared.InformationRead.{InformationRead}
+use Rattle.mic_e.specs.declared.InformationRead.the-variants as information
+use Rattle.mic_e.specs.Message.{messageNumber}
+use Rattle.mic_e.specs.Motion.{mostSpeed, mostCourse}
+use Rattle.mic_e.specs.Destination.{readDestination}
+use Rattle.mic_e.specs.Information.{readInformation}
+use Rattle.mic_e.proofs.Theorems.{read-destination-found, read-information-found}
+use Rattle.body.specs.declared.Kind.the-variants.{Position, MicE}
+use Rattle.body.specs.declared.Opening.{Opening}
+use Rattle.body.specs.declared.Opening.the-variants.{Unported, Untimed, Mic, Other}
+use Rattle.body.specs.declared.BodyRead.{BodyRead}
+use Rattle.body.specs.Body.{noReport, noComment, blankBody, bodyAccepted, bodyRefused, openingOf, commentFrom, positionBody, reportBody, micEBody, bodyAfter, readBody}
+use Rattle.body.specs.Range.{isNoPlace, isNoReport, isShort, motionInRange, unknownInRange, positionInRange, micEInRange, inRangeAs, bodyInRange, exceptedAs, isExcepted}
+use Rattle.body.proofs.Longer.{position-long, information-long}
+
+no-report : isNoReport noReport ≡ true
+unfolding isNoReport noReport messageNumber
+no-report = refl
+
+-- ---- what a body read from an input of so many bytes comes to, beside a destination that its record may have
+
+pub record Found (size : ℕ) (r : BodyRead) : Type 0 where
+  pub blank : (r .refusal ≡ 0 → ⊥) → r ≡ bodyRefused (r .refusal)
+  pub range : (to : Callsign) → (r .body .kind ≡ MicE → isBlankCall to ≡ true) → bodyInRange (r .body) to ≡ not (isExcepted (r .body))
+  pub within : r .body .comment .at + r .body .comment .len ≤ size
+
+blank-found : (n size : ℕ) → Found size (record { refusal = n; body = blankBody })
+unfolding blankBody noComment noReport bodyInRange inRangeAs isExcepted exceptedAs unknownInRange isNoPlace isNoReport messageNumber
+blank-found n size = record { blank = λ z. refl; range = λ to h. refl; within = omega arith }
+
+module _ (s : List ℕ) (at : ℕ) (start : at ≤ length s) where
+  comment-within : (n : ℕ) → n ≤ length (drop at s) → commentFrom s (at + n) .at + commentFrom s (at + n) .len ≤ length s
+  unfolding commentFrom
+  comment-within n h = omega (arith, length-drop at s)
+
+  -- ---- a position
+
+  module _ (messaging : Bool) where
+    position-found : Found (length s) (positionBody (readPosition (drop at s)) messaging (commentFrom s (at + fixedBytes)))
+    unfolding positionBody bodyInRange inRangeAs isExcepted exceptedAs positionInRange
+    position-found = go (eqb (readPosition (drop at s) .refusal) 0) refl
+      where
+        go : (t : Bool) → eqb (readPosition (drop at s) .refusal) 0 ≡ t
+            → Found (length s)
+            (cond t
+            (bodyAccepted (record { kind = Position; place = readPosition (drop at s) .place; messaging = messaging; report = noReport; comment = commentFrom s (at + fixedBytes) }))
+            (bodyRefused (readPosition (drop at s) .refusal)))
+        go true e =
+            let z = eqb-true (readPosition (drop at s) .refusal) 0 e in
+            record {
+              blank = λ n. absurd (n refl);
+              range = λ to h. rw (no-report, read-position-answered (drop at s) .near z, Bool·not-not (symbolsInRange (readPosition (drop at s) .place)));
+              within = comment-within fixedBytes (position-long (drop at s) z);
+            }
+        go false e = blank-found _ (length s)
+
+  -- ---- a Mic-E report
+
+  module _ (current : Bool) (call : List ℕ) (d : Destination) (q : readDestination call ≡ destination.Read d) where
+    report-found : (x : InformationRead) → readInformation (drop at s) (d .hundred) (d .west) ≡ x → Found (length s) (reportBody d x current (commentFrom s (at + 8)))
+    unfolding reportBody bodyInRange inRangeAs isExcepted exceptedAs micEInRange placeInRange inReach motionInRange isShort
+    report-found (information.Read i) e =
+        let a = read-destination-found call d q in
+        let b = read-information-found (drop at s) (d .hundred) (d .west) i e in
+        record {
+          blank = λ n. absurd (n refl);
+          range = λ to h. rw (
+            h refl,
+            le-leb (natAbs (d .latitude .0)) mostLatitude (a .0),
+            le-leb (d .blanks) 5 (a .1),
+            le-leb (natAbs (i .longitude .0)) mostLongitude (b .near),
+            le-leb (i .speed .0) mostSpeed (b .slow),
+            le-leb (i .course .0) mostCourse (b .turned),
+            and-true,
+            Bool·not-not,
+          );
+          within = comment-within 8 (information-long (drop at s) (d .hundred) (d .west) i e);
+        }
+    report-found information.Refused e = blank-found _ (length s)
+
+  mic-e-found : (current : Bool) (call : List ℕ) (x : DestinationRead) → readDestination call ≡ x → Found (length s) (micEBody x (drop at s) current (commentFrom s (at + 8)))
+  unfolding micEBody
+  mic-e-found current call (destination.Read d) e = report-found current call d e (readInformation (drop at s) (d .hundred) (d .west)) refl
+  mic-e-found current call destination.Refused e = blank-found _ (length s)
+
+  -- ---- any body
+
+  after-found : (o : Opening) (to : Callsign) → Found (length s) (bodyAfter o to s at)
+  unfolding bodyAfter
+  after-found Unported to = blank-found _ (length s)
+  after-found (Untimed messaging) to = position-found messaging
+  after-found (Mic current) to = mic-e-found current (callPart to) (readDestination (callPart to)) refl
+  after-found Other to = blank-found _ (length s)
+
+pub body-found : (to : Callsign) (s : List ℕ) (from : ℕ) → Found (length s) (readBody to s from)
+unfolding readBody
+body-found to s from = go (ltb from (length s)) refl
+  where
+    go : (t : Bool) → ltb from (length s) ≡ t → Found (length s) (cond t (bodyAfter (openingOf (getD s from 0)) to s (from + 1)) (bodyAccepted blankBody))
+    go true e = after-found s (from + 1) (omega (arith, ltb-true from (length s) e)) (openingOf (getD s from 0)) to
+    go false e = blank-found _ (length s)

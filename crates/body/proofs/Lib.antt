@@ -1,0 +1,10 @@
+pub mod Longer
+pub mod Tests
+pub mod Reading
+pub mod Judged
+pub mod Writing
+pub mod Built
+pub mod Found
+pub mod ReadsBack
+pub mod Theorems
+pub mod Unique

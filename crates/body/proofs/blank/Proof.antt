@@ -1,0 +1,15 @@
+-- The body of blank parts. Assumes nothing.
+use Rattle.body.specs.Body.{noComment, blankBody}
+use borrow.Author.Needs.{needs}
+use Rattle.body.proofs.blank.Statement.{statement}
+use Rattle.body.proofs.blank.Tie as tie
+
+no-report-requires : tie.Need-no-report-requires
+no-report-requires c κs = search needs
+
+returns : tie.Need-returns
+unfolding noComment blankBody
+returns c = cc
+
+pub blank-spec : {M : Type 1} → statement M
+blank-spec = tie.close (tie.spec no-report-requires returns)

@@ -1,0 +1,118 @@
+-- The body of a packet, by its first byte (document 01, 'Modules in port order', 5, and 'Numbers a refusal carries').
+-- It stands in the input from a place on, since its comment is a place in the whole input.
+-- Assumes nothing.
+use Prim.Native.Nat.{ℕ, _+_, _-_}
+use mathlib.Core.Bool.{Bool, true, false, cond, _||_}
+use mathlib.Core.List.{List}
+use lib.Dec.{eqb, ltb}
+use lib.ListN.{length, drop, getD}
+use Rattle.laws.specs.Bytes.{colon, greater, slash, at-sign, bang, equals, backquote, apostrophe}
+use Rattle.callsign.specs.declared.Callsign.{Callsign}
+use Rattle.callsign.specs.Range.{callPart}
+use Rattle.position.specs.declared.PositionRead.{PositionRead}
+use Rattle.position.specs.Position.{noPlace, fixedBytes, readPosition}
+use Rattle.mic_e.specs.declared.Destination.{Destination}
+use Rattle.mic_e.specs.declared.DestinationRead.{DestinationRead}
+use Rattle.mic_e.specs.declared.DestinationRead.the-variants as destination
+use Rattle.mic_e.specs.declared.InformationRead.{InformationRead}
+use Rattle.mic_e.specs.declared.InformationRead.the-variants as information
+use Rattle.mic_e.specs.declared.Message.the-variants.{M0}
+use Rattle.mic_e.specs.Destination.{readDestination, destinationNumber}
+use Rattle.mic_e.specs.Information.{readInformation, informationNumber}
+use Rattle.body.specs.declared.Kind.the-variants.{Unknown, Position, MicE}
+use Rattle.body.specs.declared.Opening.{Opening}
+use Rattle.body.specs.declared.Opening.the-variants.{Unported, Untimed, Mic, Other}
+use Rattle.body.specs.declared.Report.{Report}
+use Rattle.body.specs.declared.Comment.{Comment}
+use Rattle.body.specs.declared.Body.{Body}
+use Rattle.body.specs.declared.BodyRead.{BodyRead}
+
+-- ---- nothing: "Unknown kind, all lengths and numbers 0"
+
+-- no Mic-E report: the message of number 0, no speed, no course, not current
+unfoldable pub noReport : Report
+noReport = record { message = M0; speed = record { 0 = 0 }; course = record { 0 = 0 }; current = false }
+
+-- no comment: no place, no length
+unfoldable pub noComment : Comment
+noComment = record { at = 0; len = 0 }
+
+-- of Unknown kind nothing but the header is kept
+unfoldable pub blankBody : Body
+blankBody = record { kind = Unknown; place = noPlace; messaging = false; report = noReport; comment = noComment }
+
+-- ---- what reading gives
+
+-- a body
+abbrev pub bodyAccepted : Body → BodyRead
+bodyAccepted b = record { refusal = 0; body = b }
+
+-- a refusal: "A refused decode returns the blank record"
+abbrev pub bodyRefused : ℕ → BodyRead
+bodyRefused n = record { refusal = n; body = blankBody }
+
+-- ---- the first byte
+
+-- 1c, as the document numbers it
+abbrev pub fileSeparator : ℕ
+fileSeparator = 0x1c
+
+-- 1d
+abbrev pub groupSeparator : ℕ
+groupSeparator = 0x1d
+
+-- "7: body starts `:` `>` `/` `@`"; "bodies starting `!` or `=`"; "Body 1c or backquote is current Mic-E, 1d or
+-- apostrophe old"
+unfoldable pub openingOf : ℕ → Opening
+openingOf b =
+    cond (eqb b colon || (eqb b greater || (eqb b slash || eqb b at-sign))) Unported
+    (cond (eqb b bang) (Untimed false)
+    (cond (eqb b equals) (Untimed true)
+    (cond (eqb b fileSeparator || eqb b backquote) (Mic true)
+    (cond (eqb b groupSeparator || eqb b apostrophe) (Mic false)
+    Other))))
+
+-- ---- what follows it
+
+-- a comment from a place on: it goes to the end of the input
+unfoldable pub commentFrom : List ℕ → ℕ → Comment
+commentFrom s at = record { at = at; len = length s - at }
+
+-- a position that was read, and the comment behind it; "Parts a kind lacks are 0"
+unfoldable pub positionBody : PositionRead → Bool → Comment → BodyRead
+positionBody p messaging comment =
+    cond (eqb (p .refusal) 0)
+    (bodyAccepted (record { kind = Position; place = p .place; messaging = messaging; report = noReport; comment = comment }))
+    (bodyRefused (p .refusal))
+
+-- a Mic-E report, of a destination and of information that was read
+unfoldable pub reportBody : Destination → InformationRead → Bool → Comment → BodyRead
+reportBody d (information.Read i) current comment =
+    bodyAccepted (record {
+      kind = MicE;
+      place = record { latitude = d .latitude; longitude = i .longitude; blanks = d .blanks; table = i .table; code = i .code };
+      messaging = false;
+      report = record { message = d .message; speed = i .speed; course = i .course; current = current };
+      comment = comment;
+    })
+reportBody d information.Refused current comment = bodyRefused (informationNumber information.Refused)
+
+-- "Mic-E: 11, then 12"
+unfoldable pub micEBody : DestinationRead → List ℕ → Bool → Comment → BodyRead
+micEBody (destination.Read d) info current comment = reportBody d (readInformation info (d .hundred) (d .west)) current comment
+micEBody destination.Refused info current comment = bodyRefused (destinationNumber destination.Refused)
+
+-- what the first byte makes of the input from the place behind it on: a position and its 19 bytes, a report and its 8; of a
+-- Mic-E destination "6 call characters, SSID ignored"
+unfoldable pub bodyAfter : Opening → Callsign → List ℕ → ℕ → BodyRead
+bodyAfter Unported to s at = bodyRefused 7
+bodyAfter (Untimed messaging) to s at = positionBody (readPosition (drop at s)) messaging (commentFrom s (at + fixedBytes))
+bodyAfter (Mic current) to s at = micEBody (readDestination (callPart to)) (drop at s) current (commentFrom s (at + 8))
+bodyAfter Other to s at = bodyAccepted blankBody
+
+-- "An empty body is Unknown."
+unfoldable pub readBody : Callsign → List ℕ → ℕ → BodyRead
+readBody to s from =
+    cond (ltb from (length s))
+    (bodyAfter (openingOf (getD s from 0)) to s (from + 1))
+    (bodyAccepted blankBody)

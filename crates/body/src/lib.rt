@@ -1,0 +1,430 @@
+// The body of a packet, by its type byte: read from a place of the input on, and written with the destination that goes
+// with it.
+ghost use mathlib.Core.Path.{_≡_};
+ghost use mathlib.Core.Bool.{cond};
+ghost use mathlib.Core.List.{[]};
+ghost use Prim.Native.Nat.{_+_, _≤_};
+ghost use lib.ListN.{length, drop};
+ghost use Rattle.laws.specs.Bytes.{bang, equals, backquote, apostrophe};
+ghost use Rattle.callsign.specs.Range.{callPart};
+ghost use Rattle.position.specs.Position.{fixedBytes, readPosition};
+ghost use Rattle.mic_e.specs.Destination.{readDestination, destinationBytes};
+ghost use Rattle.mic_e.specs.Information.{readInformation, informationOut};
+ghost use Rattle.body.specs.Body.{noReport, blankBody, bodyAccepted, bodyRefused, openingOf, commentFrom, positionBody, reportBody, micEBody, readBody};
+ghost use Rattle.body.specs.Range.{isNoPlace, isNoReport, unknownInRange, positionInRange, micEInRange};
+ghost use Rattle.body.specs.Written.{micECall, informationOf, positionBytes, micEBytes, unwritten, writtenAs, writeBody};
+use callsign::Callsign;
+use lonlat::Latitude;
+use lonlat::Longitude;
+use mic_e::Course;
+use mic_e::Destination;
+use mic_e::DestinationRead;
+use mic_e::Information;
+use mic_e::InformationRead;
+use mic_e::Message;
+use mic_e::Speed;
+use position::Place;
+
+// What a body is.
+pub enum Kind {
+    Unknown,
+    Position,
+    MicE,
+}
+
+// What a Mic-E report adds to a place.
+pub struct Report {
+    pub speed: Speed,
+    pub course: Course,
+    pub message: Message,
+    pub current: bool,
+}
+
+// Where a comment stands in the input that was read, and its length. Writers ignore both.
+pub struct Comment {
+    pub at: usize,
+    pub len: usize,
+}
+
+// A body by its parts. A part that the kind lacks is zero.
+pub struct Body {
+    pub place: Place,
+    pub report: Report,
+    pub comment: Comment,
+    pub messaging: bool,
+    pub kind: Kind,
+}
+
+// What reading gives: the refusal's number and the blank body, or 0 and the body.
+pub struct BodyRead {
+    pub body: Body,
+    pub refusal: u8,
+}
+
+// What writing gives: the destination that goes with the body, and its first `len` bytes, from the type byte on; the other
+// bytes are zero. At 14 there are no bytes and the destination is kept, at 15 there is neither.
+pub struct BodyWritten {
+    pub to: Callsign,
+    pub bytes: [u8; 20],
+    pub len: usize,
+    pub refusal: u8,
+}
+
+// What a body's first byte says: a type that is not read, a position (messaging or not), a Mic-E report (current or
+// old), or none of these.
+enum Opening {
+    Unported,
+    Untimed(bool),
+    Mic(bool),
+    Other,
+}
+
+// ---- nothing
+
+fn no_report() -> Report
+    ensures { λ r. ⌜ r ≡ noReport ⌝ }
+{
+    Report {
+        speed: Speed(0),
+        course: Course(0),
+        message: Message::M0,
+        current: false,
+    }
+}
+
+// The body with nothing in it, of Unknown kind.
+pub fn blank() -> Body
+    ensures { λ r. ⌜ r ≡ blankBody ⌝ }
+{
+    let place = Place {
+        latitude: Latitude(0),
+        longitude: Longitude(0),
+        blanks: 0,
+        table: 0,
+        code: 0,
+    };
+    let report = no_report();
+    let comment = Comment { at: 0, len: 0 };
+    Body {
+        place,
+        report,
+        comment,
+        messaging: false,
+        kind: Kind::Unknown,
+    }
+}
+
+fn accepted(body: Body) -> BodyRead
+    ensures { λ r. ⌜ r ≡ bodyAccepted body ⌝ }
+{
+    BodyRead { body, refusal: 0 }
+}
+
+fn refused(n: u8) -> BodyRead
+    ensures { λ r. ⌜ r ≡ bodyRefused n ⌝ }
+{
+    let body = blank();
+    BodyRead { body, refusal: n }
+}
+
+// ---- read
+
+fn opening_of(b: u8) -> Opening
+    ensures { λ r. ⌜ r ≡ openingOf b ⌝ }
+{
+    match b {
+        b':' | b'>' | b'/' | b'@' => Opening::Unported,
+        b'!' => Opening::Untimed(false),
+        b'=' => Opening::Untimed(true),
+        0x1c | b'`' => Opening::Mic(true),
+        0x1d | b'\'' => Opening::Mic(false),
+        _ => Opening::Other,
+    }
+}
+
+// A position whose bytes behind the type byte start at the place `at`.
+fn read_position(s: &[u8], at: usize, messaging: bool) -> BodyRead
+    requires { ⌜ at ≤ length (now s) ⌝ }
+    ensures { λ r. ⌜ r ≡ positionBody (readPosition (drop at (now (s .entry)))) messaging (commentFrom (now (s .entry)) (at + fixedBytes)) ⌝ }
+{
+    let p = position::read_position(&s[at..]);
+    if p.refusal != 0 {
+        return refused(p.refusal);
+    }
+    let place = p.place;
+    let report = no_report();
+    let behind = at + 19;
+    let comment = Comment {
+        at: behind,
+        len: s.len() - behind,
+    };
+    accepted(Body {
+        place,
+        report,
+        comment,
+        messaging,
+        kind: Kind::Position,
+    })
+}
+
+// What a destination's call says of a Mic-E report; its SSID is ignored.
+fn destination_of(to: Callsign) -> DestinationRead
+    ensures { λ r. ⌜ r ≡ readDestination (callPart to) ⌝ }
+{
+    let n = to.call_len;
+    if n != 6 {
+        return DestinationRead::Refused;
+    }
+    let text = to.text;
+    mic_e::read_destination(&text[..6])
+}
+
+// A Mic-E report whose destination was read, and whose information starts at the place `at`.
+fn read_report(d: Destination, s: &[u8], at: usize, current: bool) -> BodyRead
+    requires { ⌜ at ≤ length (now s) ⌝ }
+    ensures { λ r. ⌜ r ≡ reportBody d (readInformation (drop at (now (s .entry))) (d .hundred) (d .west)) current (commentFrom (now (s .entry)) (at + 8)) ⌝ }
+{
+    let read = mic_e::read_information(&s[at..], d.hundred, d.west);
+    match read {
+        InformationRead::Refused => refused(12),
+        InformationRead::Read(i) => {
+            let latitude = d.latitude;
+            let longitude = i.longitude;
+            let place = Place {
+                latitude,
+                longitude,
+                blanks: d.blanks,
+                table: i.table,
+                code: i.code,
+            };
+            let message = d.message;
+            let speed = i.speed;
+            let course = i.course;
+            let report = Report {
+                speed,
+                course,
+                message,
+                current,
+            };
+            let behind = at + 8;
+            let comment = Comment {
+                at: behind,
+                len: s.len() - behind,
+            };
+            accepted(Body {
+                place,
+                report,
+                comment,
+                messaging: false,
+                kind: Kind::MicE,
+            })
+        }
+    }
+}
+
+// A Mic-E report: its destination, and then its information from the place `at` on.
+fn read_mic_e(to: Callsign, s: &[u8], at: usize, current: bool) -> BodyRead
+    requires { ⌜ at ≤ length (now s) ⌝ }
+    ensures { λ r. ⌜ r ≡ micEBody (readDestination (callPart to)) (drop at (now (s .entry))) current (commentFrom (now (s .entry)) (at + 8)) ⌝ }
+{
+    let read = destination_of(to);
+    match read {
+        DestinationRead::Refused => refused(11),
+        DestinationRead::Read(d) => read_report(d, s, at, current),
+    }
+}
+
+// Reads the body of a packet to that destination, which stands in s from the place `from` to the end. Where nothing stands
+// there, it is of Unknown kind.
+pub fn read(to: Callsign, s: &[u8], from: usize) -> BodyRead
+    ensures { λ r. ⌜ r ≡ readBody to (now (s .entry)) from ⌝ }
+{
+    if s.len() <= from {
+        return accepted(blank());
+    }
+    let opening = opening_of(s[from]);
+    match opening {
+        Opening::Unported => refused(7),
+        Opening::Untimed(messaging) => read_position(s, from + 1, messaging),
+        Opening::Mic(current) => read_mic_e(to, s, from + 1, current),
+        Opening::Other => accepted(blank()),
+    }
+}
+
+// ---- parts that a kind lacks
+
+fn is_no_place(p: Place) -> bool
+    ensures { λ r. ⌜ r ≡ isNoPlace p ⌝ }
+{
+    let latitude = p.latitude;
+    let north = numbers::parts(latitude.0);
+    if north.size != 0 {
+        return false;
+    }
+    let longitude = p.longitude;
+    let east = numbers::parts(longitude.0);
+    if east.size != 0 {
+        return false;
+    }
+    if p.blanks != 0 {
+        return false;
+    }
+    if p.table != 0 {
+        return false;
+    }
+    p.code == 0
+}
+
+fn is_no_report(m: Report) -> bool
+    ensures { λ r. ⌜ r ≡ isNoReport m ⌝ }
+{
+    let message = m.message;
+    if mic_e::message_number(message) != 0 {
+        return false;
+    }
+    let speed = m.speed;
+    if speed.0 != 0 {
+        return false;
+    }
+    let course = m.course;
+    if course.0 != 0 {
+        return false;
+    }
+    !m.current
+}
+
+// ---- written: each part is judged by what writes it
+
+fn unwritten() -> BodyWritten
+    ensures { λ r. ⌜ r ≡ unwritten ⌝ }
+{
+    let to = callsign::blank();
+    BodyWritten {
+        to,
+        bytes: [0; 20],
+        len: 0,
+        refusal: 15,
+    }
+}
+
+fn write_unknown(b: Body, to: Callsign) -> BodyWritten
+    ensures { λ r. ⌜ r ≡ cond (unknownInRange b) (writtenAs 14 to []) unwritten ⌝ }
+{
+    if !is_no_place(b.place) {
+        return unwritten();
+    }
+    if b.messaging {
+        return unwritten();
+    }
+    if !is_no_report(b.report) {
+        return unwritten();
+    }
+    BodyWritten {
+        to,
+        bytes: [0; 20],
+        len: 0,
+        refusal: 14,
+    }
+}
+
+fn position_type(messaging: bool) -> u8
+    ensures { λ r. ⌜ r ≡ cond messaging equals bang ⌝ }
+{
+    if messaging {
+        return b'=';
+    }
+    b'!'
+}
+
+fn write_position(b: Body, to: Callsign) -> BodyWritten
+    ensures { λ r. ⌜ r ≡ cond (positionInRange b) (writtenAs 0 to (positionBytes (b .place) (b .messaging))) unwritten ⌝ }
+{
+    if !is_no_report(b.report) {
+        return unwritten();
+    }
+    let mut bytes = [position_type(b.messaging); 20];
+    let p = position::write_position(b.place, &mut bytes[1..]);
+    if p.refusal != 0 {
+        return unwritten();
+    }
+    BodyWritten {
+        to,
+        bytes,
+        len: 20,
+        refusal: 0,
+    }
+}
+
+fn report_type(current: bool) -> u8
+    ensures { λ r. ⌜ r ≡ cond current backquote apostrophe ⌝ }
+{
+    if current {
+        return b'`';
+    }
+    b'\''
+}
+
+// The information of a Mic-E report behind its type byte, with the characters of its destination.
+fn write_report(place: Place, report: Report, call: [u8; 6]) -> BodyWritten
+    requires { ⌜ call ≡ destinationBytes (place .latitude .0) (place .blanks) (report .message) (place .longitude .0) ⌝ }
+    ensures { λ r. ⌜ r ≡ cond (informationOut (informationOf place report)) unwritten (writtenAs 0 (micECall place report) (micEBytes place report)) ⌝ }
+{
+    let longitude = place.longitude;
+    let speed = report.speed;
+    let course = report.course;
+    let i = Information {
+        longitude,
+        speed,
+        course,
+        code: place.code,
+        table: place.table,
+    };
+    let mut bytes = [0u8; 20];
+    let w = mic_e::write_information(i, &mut bytes[1..]);
+    if w.refusal != 0 {
+        return unwritten();
+    }
+    bytes[0] = report_type(report.current);
+    let to = callsign::address_call(call, 6, 0);
+    BodyWritten {
+        to,
+        bytes,
+        len: 9,
+        refusal: 0,
+    }
+}
+
+fn write_mic_e(b: Body, to: Callsign) -> BodyWritten
+    ensures { λ r. ⌜ r ≡ cond (micEInRange b to) (writtenAs 0 (micECall (b .place) (b .report)) (micEBytes (b .place) (b .report))) unwritten ⌝ }
+{
+    if !callsign::is_blank(to) {
+        return unwritten();
+    }
+    if b.messaging {
+        return unwritten();
+    }
+    let place = b.place;
+    let report = b.report;
+    let latitude = place.latitude;
+    let longitude = place.longitude;
+    let message = report.message;
+    let d = mic_e::write_destination(latitude, place.blanks, message, longitude);
+    if d.refusal != 0 {
+        return unwritten();
+    }
+    let call = d.bytes;
+    write_report(place, report, call)
+}
+
+// Writes the body of a record with the destination `to`: the destination that goes with it, and its fixed bytes; or 15, or 14
+// for an Unknown kind. A Mic-E body has its destination built, and its record has none.
+pub fn write(b: Body, to: Callsign) -> BodyWritten
+    ensures { λ r. ⌜ r ≡ writeBody b to ⌝ }
+{
+    let kind = b.kind;
+    match kind {
+        Kind::Unknown => write_unknown(b, to),
+        Kind::Position => write_position(b, to),
+        Kind::MicE => write_mic_e(b, to),
+    }
+}
