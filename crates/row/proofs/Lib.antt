@@ -1,6 +1,6 @@
 pub mod Rows
 pub mod Calls
 pub mod Hops
-pub mod Pieces
+pub mod Fits
 pub mod Theorems
 pub mod Unique

@@ -1,90 +1,130 @@
--- Laws of a row built piece by piece: a piece that fits, two pieces together, and a piece with a byte behind it.
+-- Laws of a row: its fields put one behind the other, by their kind, and that a row of 142 bytes holds them all.
 -- Assumes nothing.
-use mathlib.Core.Path.{_≡_, ap, _∙_}
-use mathlib.Core.List.{List, [], _∷_, _++_, append-assoc}
-use Prim.Native.Nat.{ℕ, _+_, _<_, _≤_}
+use mathlib.Core.Path.{_≡_, refl, sym, ap, _∙_}
+use mathlib.Core.Bool.{Bool, true, false, cond}
+use mathlib.Core.List.{List, [], _∷_, _++_}
+use Prim.Native.Nat.{ℕ, _+_, _^_, _<_, _≤_}
 use native.Mathlib.Omega.{arith}
-use lib.ListN.{length, take, drop, length-append, length-drop}
-use lib.Seq.{length-take-le, take-at}
+use borrow.Author.Tests.{eq-eqb, ne-eqb, eqb-true}
+use lib.Dec.{eqb}
 use lib.IntN.{ℤ}
-use mir.Syntax.{w32, w64}
-use mir.Val.{Fits, SFits, toZ, ofZ}
-use Rattle.numbers.proofs.Sign.{back}
+use lib.ListN.{length, take, length-append}
+use mir.Syntax.{w32}
+use mir.Val.{SFits, toZ, ofZ}
+use Rattle.laws.specs.Bytes.{space, dash, lineFeed, digit0}
+use Rattle.laws.specs.Lists.{together}
+use Rattle.buffer.specs.declared.Answer.{Answer}
+use Rattle.buffer.specs.Wrote.{ends, wrote}
+use Rattle.buffer.specs.Filled.{Filled, filled, frontOf, added, addedAll}
+use Rattle.buffer.proofs.Filled.{two-added, all-then, all-front}
 use Rattle.numbers.specs.Numbers.{digits, decimal}
-use Rattle.buffer.specs.Placed.{Left, leaves, placed}
+use Rattle.numbers.proofs.Sign.{back}
 use Rattle.numbers.proofs.Digits.{count-width, number-width}
-use Rattle.buffer.proofs.Placed.{placed-fits}
-use Rattle.row.specs.Row.{Added}
+use Rattle.callsign.specs.declared.Callsign.{Callsign}
+use Rattle.position.specs.declared.Place.{Place}
+use Rattle.header.specs.declared.Path.{Path}
+use Rattle.body.specs.declared.Kind.{Kind}
+use Rattle.body.specs.declared.Kind.the-variants.{Unknown, Position, MicE}
+use Rattle.packet.specs.declared.Record.{Record}
+use Rattle.packet.specs.declared.PacketRead.{PacketRead}
+use Rattle.packet.specs.Packet.{readText}
+use Rattle.row.specs.Row.{callField, toField, heardAmong, heardHops, angleFields, placeFields, recordFields, refusedFields, rowFields, spaced, rowOf, row}
 
--- ---- a piece that fits
+-- ---- one field
 
-module _ (row piece row′ : List ℕ) (at end : ℕ) (room : at + length piece ≤ length row) (put : leaves end row′ ≡ placed piece row at) where
-  is : leaves end row′ ≡ leaves (at + length piece) (take at row ++ piece ++ drop (at + length piece) row)
-  is = put ∙ placed-fits piece row at room
+-- a field by another name
+pub same-field : (f g : Filled) (field other : List ℕ) (after : ℕ) → field ≡ other → g ≡ addedAll f (field ∷ (after ∷ []) ∷ []) → g ≡ addedAll f (other ∷ (after ∷ []) ∷ [])
+same-field f g field other after e p = p ∙ ap (λ (l : List ℕ). addedAll f (l ∷ (after ∷ []) ∷ [])) e
 
-  pub end-is : end ≡ at + length piece
-  end-is = ap (λ (x : Left). x .answer) is
+-- a signed number is put as the machine hands it on
+pub number-put : (f g h : Filled) (z : ℤ) (after : ℕ) → SFits w32 z → g ≡ added f (decimal (toZ w32 (ofZ w32 z))) → h ≡ added g (after ∷ []) → h ≡ addedAll f (decimal z ∷ (after ∷ []) ∷ [])
+number-put f g h z after s e k = two-added f g h (decimal z) (after ∷ []) (e ∙ ap (λ (y : ℤ). added f (decimal y)) (back z s)) k
 
-  row-is : row′ ≡ take at row ++ piece ++ drop (at + length piece) row
-  row-is = ap (λ (x : Left). x .buffer) is
+module _ (kind : Kind) (to : Callsign) where
+  pub to-unknown : kind ≡ Unknown → callField to ≡ toField kind to
+  unfolding toField
+  to-unknown e = rw e
 
-  head-length : length (take at row ++ piece) ≡ at + length piece
-  head-length = omega (arith, length-append (take at row) piece, length-take-le at row (omega arith))
+  pub to-position : kind ≡ Position → callField to ≡ toField kind to
+  unfolding toField
+  to-position e = rw e
 
-  pub row-length : length row′ ≡ length row
-  row-length = omega (arith, ap length row-is, length-append (take at row ++ piece) (drop (at + length piece) row), head-length, length-drop (at + length piece) row)
+  pub to-none : kind ≡ MicE → dash ∷ [] ≡ toField kind to
+  unfolding toField
+  to-none e = rw e
 
-  pub piece-added : Added row at piece row′ end
-  piece-added =
-      record {
-        after = end-is;
-        holds = ap (λ (l : List ℕ). take end l) row-is ∙ ap (λ (k : ℕ). take k (take at row ++ piece ++ drop (at + length piece) row)) end-is
-            ∙ take-at (take at row ++ piece) (drop (at + length piece) row) (at + length piece) head-length;
-      }
+-- ---- several
 
--- ---- two pieces, one behind the other
+-- n is the number of heard hops
+pub hops-put : (f g h : Filled) (path : Path) (n : ℕ) → n ≡ heardAmong (take (path .count) (path .hops))
+    → g ≡ addedAll f (digits (path .count) ∷ (space ∷ []) ∷ [])
+    → h ≡ addedAll g (digits n ∷ (space ∷ []) ∷ [])
+    → h ≡ addedAll f (digits (path .count) ∷ (space ∷ []) ∷ digits (heardHops path) ∷ (space ∷ []) ∷ [])
+unfolding heardHops
+hops-put f g h path n e p q =
+    all-then f g h (digits (path .count) ∷ (space ∷ []) ∷ []) (digits n ∷ (space ∷ []) ∷ []) _
+    (ap (λ (k : ℕ). digits (path .count) ∷ (space ∷ []) ∷ digits k ∷ (space ∷ []) ∷ []) e) p q
 
-pub both : (row row₁ row₂ a b : List ℕ) (at m r : ℕ) → Added row at a row₁ m → Added row₁ m b row₂ r → Added row at (a ++ b) row₂ r
-both row row₁ row₂ a b at m r p q =
-    record {
-      after = omega (arith, p .after, q .after, length-append a b);
-      holds = q .holds ∙ ap (λ (l : List ℕ). l ++ b) (p .holds) ∙ append-assoc (take at row) a b;
-    }
+pub angles-put : (f g h : Filled) (place : Place) (y z : ℤ) → y ≡ place .latitude .0 → z ≡ place .longitude .0
+    → g ≡ addedAll f (decimal y ∷ (space ∷ []) ∷ [])
+    → h ≡ addedAll g (decimal z ∷ (lineFeed ∷ []) ∷ [])
+    → h ≡ addedAll f (spaced (angleFields place))
+unfolding spaced angleFields
+angles-put f g h place y z d e p q =
+    all-then f g h (decimal y ∷ (space ∷ []) ∷ []) (decimal z ∷ (lineFeed ∷ []) ∷ []) _
+    (ap (λ (u : ℤ). decimal u ∷ (space ∷ []) ∷ decimal z ∷ (lineFeed ∷ []) ∷ []) d
+    ∙ ap (λ (u : ℤ). decimal (place .latitude .0) ∷ (space ∷ []) ∷ decimal u ∷ (lineFeed ∷ []) ∷ []) e) p q
 
--- ---- a piece with a byte behind it
+module _ (f g : Filled) (kind : Kind) (place : Place) where
+  pub place-unknown : kind ≡ Unknown → g ≡ addedAll f ((dash ∷ space ∷ dash ∷ []) ∷ (lineFeed ∷ []) ∷ []) → g ≡ addedAll f (spaced (placeFields kind place))
+  unfolding spaced placeFields
+  place-unknown e p = rw e p
 
-module _ (row piece row₁ row₂ : List ℕ) (at after m r : ℕ) (room : at + length piece < length row)
-    (put : leaves m row₁ ≡ placed piece row at) (then : leaves r row₂ ≡ placed (after ∷ []) row₁ m) where
-  pub added : Added row at (piece ++ after ∷ []) row₂ r
-  added =
-      both row row₁ row₂ piece (after ∷ []) at m r (piece-added row piece row₁ at m (omega arith) put)
-      (piece-added row₁ (after ∷ []) row₂ m r (omega (arith, end-is row piece row₁ at m (omega arith) put, row-length row piece row₁ at m (omega arith) put)) then)
+  pub place-position : kind ≡ Position → g ≡ addedAll f (spaced (angleFields place)) → g ≡ addedAll f (spaced (placeFields kind place))
+  unfolding placeFields
+  place-position e p = rw e p
 
-  pub added-length : r ≡ at + length piece + 1
-  added-length = omega (arith, added .after, length-append piece (after ∷ []))
+  pub place-mic-e : kind ≡ MicE → g ≡ addedAll f (spaced (angleFields place)) → g ≡ addedAll f (spaced (placeFields kind place))
+  unfolding placeFields
+  place-mic-e e p = rw e p
 
--- ---- a number with a byte behind it; a signed one is put as the machine hands it on
+-- a field and a space in front of others
+before-place : (kind : Kind) (place : Place) (field : List ℕ) → field ∷ (space ∷ []) ∷ spaced (placeFields kind place) ≡ spaced (field ∷ placeFields kind place)
+unfolding spaced placeFields angleFields
+before-place Unknown place field = refl
+before-place Position place field = refl
+before-place MicE place field = refl
 
-module _ (row row₁ row₂ : List ℕ) (at after m r : ℕ) (then : leaves r row₂ ≡ placed (after ∷ []) row₁ m) where
-  module _ (n : ℕ) (fits : Fits w64 n) (room : at + 21 ≤ length row) (put : leaves m row₁ ≡ placed (digits n) row at) where
-    width : length (digits n) ≤ 20
-    width = count-width n (fits .fits)
+pub record-put : (r : Record) (f g h k l : Filled)
+    → g ≡ addedAll f (callField (r .header .from) ∷ (space ∷ []) ∷ [])
+    → h ≡ addedAll g (toField (r .body .kind) (r .header .to) ∷ (space ∷ []) ∷ [])
+    → k ≡ addedAll h (digits (r .header .path .count) ∷ (space ∷ []) ∷ digits (heardHops (r .header .path)) ∷ (space ∷ []) ∷ [])
+    → l ≡ addedAll k (spaced (placeFields (r .body .kind) (r .body .place)))
+    → l ≡ addedAll f (spaced (recordFields r))
+unfolding spaced recordFields
+record-put r f g h k l p q s t =
+    let from = callField (r .header .from) in
+    let to = toField (r .body .kind) (r .header .to) in
+    let count = digits (r .header .path .count) in
+    let heard = digits (heardHops (r .header .path)) in
+    let place = spaced (placeFields (r .body .kind) (r .body .place)) in
+    let e : count ∷ (space ∷ []) ∷ heard ∷ (space ∷ []) ∷ place ≡ count ∷ (space ∷ []) ∷ spaced (heard ∷ placeFields (r .body .kind) (r .body .place)) =
+    ap (λ (x : List (List ℕ)). count ∷ (space ∷ []) ∷ x) (before-place (r .body .kind) (r .body .place) heard) in
+    let behind = all-then h k l (count ∷ (space ∷ []) ∷ heard ∷ (space ∷ []) ∷ []) place _ e s t in
+    let second = all-then g h l (to ∷ (space ∷ []) ∷ []) (count ∷ (space ∷ []) ∷ spaced (heard ∷ placeFields (r .body .kind) (r .body .place))) _ refl q behind in
+    all-then f g l (from ∷ (space ∷ []) ∷ []) _ _ refl p second
 
-    pub count-added : Added row at (digits n ++ after ∷ []) row₂ r
-    count-added = added row (digits n) row₁ row₂ at after m r (omega (arith, width)) put then
+-- ---- the row
 
-    pub count-short : r ≤ at + 21
-    count-short = omega (arith, width, added-length row (digits n) row₁ row₂ at after m r (omega (arith, width)) put then)
+module _ (number : ℕ) (read : PacketRead) (f g h k : Filled) (p : g ≡ addedAll f (digits number ∷ (space ∷ []) ∷ [])) (q : h ≡ addedAll g (digits (read .refusal) ∷ (space ∷ []) ∷ [])) where
+  front : h ≡ addedAll f (digits number ∷ (space ∷ []) ∷ digits (read .refusal) ∷ (space ∷ []) ∷ [])
+  front = all-then f g h (digits number ∷ (space ∷ []) ∷ []) (digits (read .refusal) ∷ (space ∷ []) ∷ []) _ refl p q
 
-  module _ (z : ℤ) (fits : SFits w32 z) (room : at + 12 ≤ length row) (put : leaves m row₁ ≡ placed (decimal (toZ w32 (ofZ w32 z))) row at) where
-    as-given : leaves m row₁ ≡ placed (decimal z) row at
-    as-given = put ∙ ap (λ (x : ℤ). placed (decimal x) row at) (back z fits)
+  pub row-refused : (read .refusal ≡ 0 → ⊥) → k ≡ addedAll h ((dash ∷ space ∷ dash ∷ space ∷ digit0 ∷ space ∷ digit0 ∷ space ∷ dash ∷ space ∷ dash ∷ []) ∷ (lineFeed ∷ []) ∷ [])
+      → k ≡ addedAll f (spaced (rowFields number read))
+  unfolding rowFields spaced refusedFields
+  row-refused z e = all-then f h k _ _ _ (sym (rw (ne-eqb (read .refusal) 0 z))) front e
 
-    wide : length (decimal z) ≤ 11
-    wide = number-width z fits
-
-    pub number-added : Added row at (decimal z ++ after ∷ []) row₂ r
-    number-added = added row (decimal z) row₁ row₂ at after m r (omega (arith, wide)) as-given then
-
-    pub number-short : r ≤ at + 12
-    number-short = omega (arith, wide, added-length row (decimal z) row₁ row₂ at after m r (omega (arith, wide)) as-given then)
+  pub row-accepted : read .refusal ≡ 0 → k ≡ addedAll h (spaced (recordFields (read .«record»))) → k ≡ addedAll f (spaced (rowFields number read))
+  unfolding rowFields spaced recordFields
+  row-accepted z e = all-then f h k _ _ _ (sym (rw (eq-eqb (read .refusal) 0 z))) front e

@@ -2,17 +2,11 @@
 -- Assumes nothing.
 use mathlib.Core.Path.{_≡_}
 use mathlib.Core.List.{List}
-use Prim.Native.Nat.{ℕ, min}
+use Prim.Native.Nat.{ℕ}
 use Rattle.buffer.specs.declared.Answer.{Answer}
 use Rattle.buffer.specs.Wrote.{ends, wrote}
-use Rattle.laws.proofs.Unique.{one-value}
 use Rattle.buffer.proofs.Wrote.{one-end}
-use Rattle.callsign.specs.declared.Callsign.{Callsign}
-use Rattle.callsign.specs.Range.{textLen}
 use Rattle.row.specs.Row.{row}
-
-pub unique-text-len : (c : Callsign) (r r′ : ℕ) → r ≡ min (textLen c) 16 → r′ ≡ min (textLen c) 16 → r ≡ r′
-unique-text-len c r r′ = one-value r r′ (min (textLen c) 16)
 
 module _ (r r′ : Answer) (o o′ out : List ℕ) where
   pub unique-write-row : (number : ℕ) (line : List ℕ) → ends r o ≡ wrote 0 (row number line) out → ends r′ o′ ≡ wrote 0 (row number line) out → (r ≡ r′) × (o ≡ o′)

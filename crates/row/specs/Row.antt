@@ -2,24 +2,26 @@
 -- heard hops, latitude, longitude." "`-` is absent; an accepted empty callsign prints `.`." A refused line has no hops; a
 -- Mic-E record has no destination; the Unknown kind has no place.
 -- Assumes nothing.
-use Prim.Native.Nat.{ℕ, zero, suc, _+_}
-use mathlib.Core.Path.{_≡_}
+use Prim.Native.Nat.{ℕ, zero, suc}
 use mathlib.Core.Bool.{cond}
-use mathlib.Core.List.{List, [], _∷_, _++_}
+use mathlib.Core.List.{List, [], _∷_}
 use lib.Dec.{eqb}
-use lib.ListN.{length, take}
-use Rattle.laws.specs.Bytes.{space, dash, point, lineFeed}
+use lib.ListN.{take}
+use Rattle.laws.specs.Bytes.{space, dash, point, digit0, lineFeed}
+use Rattle.laws.specs.Lists.{together}
+use Rattle.numbers.specs.Numbers.{digits, decimal}
 use Rattle.callsign.specs.declared.Callsign.{Callsign}
 use Rattle.callsign.specs.Range.{textLen}
 use Rattle.position.specs.declared.Place.{Place}
 use Rattle.header.specs.declared.Hop.{Hop}
 use Rattle.header.specs.declared.Path.{Path}
-use Rattle.packet.specs.declared.Kind.{Kind}
-use Rattle.packet.specs.declared.Kind.the-variants.{Unknown, Position, MicE}
+use Rattle.body.specs.declared.Kind.{Kind}
+use Rattle.body.specs.declared.Kind.the-variants.{Unknown, Position, MicE}
 use Rattle.packet.specs.declared.Record.{Record}
 use Rattle.packet.specs.declared.PacketRead.{PacketRead}
 use Rattle.packet.specs.Packet.{readText}
-use Rattle.numbers.specs.Numbers.{digits, decimal}
+
+-- ---- fields
 
 -- "`-` is absent"
 abbrev pub absent : List ℕ
@@ -52,38 +54,39 @@ heardHops p = heardAmong (take (p .count) (p .hops))
 unfoldable pub angleFields : Place → List (List ℕ)
 angleFields p = decimal (p .latitude .0) ∷ decimal (p .longitude .0) ∷ []
 
--- the Unknown kind has no place
+-- as document 01 prints it, `- -`: the Unknown kind has no place
 unfoldable pub placeFields : Kind → Place → List (List ℕ)
-placeFields Unknown p = absent ∷ absent ∷ []
+placeFields Unknown p = (dash ∷ space ∷ dash ∷ []) ∷ []
 placeFields Position p = angleFields p
 placeFields MicE p = angleFields p
 
 -- "source, destination, hops, heard hops, latitude, longitude" of an accepted line
 unfoldable pub recordFields : Record → List (List ℕ)
 recordFields r =
-    callField (r .from) ∷ toField (r .kind) (r .to) ∷ digits (r .path .count) ∷ digits (heardHops (r .path))
-    ∷ placeFields (r .kind) (r .place)
+    callField (r .header .from) ∷ toField (r .body .kind) (r .header .to)
+    ∷ digits (r .header .path .count) ∷ digits (heardHops (r .header .path))
+    ∷ placeFields (r .body .kind) (r .body .place)
 
+-- of a refused one, as document 01 prints them: `- - 0 0 - -`
 unfoldable pub refusedFields : List (List ℕ)
-refusedFields = absent ∷ absent ∷ digits 0 ∷ digits 0 ∷ absent ∷ absent ∷ []
+refusedFields = (dash ∷ space ∷ dash ∷ space ∷ digit0 ∷ space ∷ digit0 ∷ space ∷ dash ∷ space ∷ dash ∷ []) ∷ []
+
+-- line and answer, and the rest by the answer
+unfoldable pub rowFields : ℕ → PacketRead → List (List ℕ)
+rowFields number read =
+    digits number ∷ digits (read .refusal) ∷ cond (eqb (read .refusal) 0) (recordFields (read .«record»)) refusedFields
+
+-- ---- the row
 
 -- fields with a space between them and an LF at the end
-unfoldable pub joined : List (List ℕ) → List ℕ
-joined [] = lineFeed ∷ []
-joined (f ∷ []) = f ++ lineFeed ∷ []
-joined (f ∷ g ∷ fs) = f ++ space ∷ joined (g ∷ fs)
+unfoldable pub spaced : List (List ℕ) → List (List ℕ)
+spaced [] = []
+spaced (f ∷ []) = f ∷ (lineFeed ∷ []) ∷ []
+spaced (f ∷ g ∷ fs) = f ∷ (space ∷ []) ∷ spaced (g ∷ fs)
 
 -- the row of a line's number and answer
 unfoldable pub rowOf : ℕ → PacketRead → List ℕ
-rowOf number read =
-    joined (digits number ∷ digits (read .refusal) ∷ cond (eqb (read .refusal) 0) (recordFields (read .«record»)) refusedFields)
+rowOf number read = together (spaced (rowFields number read))
 
 unfoldable pub row : ℕ → List ℕ → List ℕ
 row number line = rowOf number (readText line)
-
--- ---- for the contracts of private functions
-
--- text stands behind the first `at` bytes of a row, and `end` is the place after it
-pub record Added (row : List ℕ) (at : ℕ) (text row′ : List ℕ) (end : ℕ) : Type 0 where
-  pub after : end ≡ at + length text
-  pub holds : take end row′ ≡ take at row ++ text

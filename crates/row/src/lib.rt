@@ -1,17 +1,16 @@
-// The listing's row of a line, as bytes.
+// The listing's row of a line, as bytes: its fields are put one behind the other into a buffer of its own.
 ghost use mathlib.Core.Path.{_≡_};
-ghost use mathlib.Core.List.{[], _∷_, _++_};
-ghost use Prim.Native.Nat.{_+_, _<_, _≤_, min};
+ghost use mathlib.Core.List.{[], _∷_};
 ghost use lib.ListN.{length, take};
 ghost use Rattle.laws.specs.Bytes.{space};
 ghost use Rattle.buffer.specs.Wrote.{ends, wrote};
+ghost use Rattle.buffer.specs.Filled.{filled, addedAll};
 ghost use Rattle.numbers.specs.Numbers.{digits, decimal};
-ghost use Rattle.callsign.specs.Range.{textLen};
-ghost use Rattle.row.specs.Row.{callField, toField, heardAmong, heardHops, angleFields, placeFields, recordFields, joined, rowOf, row, Added};
+ghost use Rattle.row.specs.Row.{callField, toField, heardAmong, heardHops, angleFields, placeFields, recordFields, spaced, rowFields, rowOf, row};
+use body::Kind;
 use callsign::Callsign;
 use header::Hop;
 use header::Path;
-use packet::Kind;
 use packet::PacketRead;
 use packet::Record;
 use position::Place;
@@ -19,66 +18,52 @@ use position::Place;
 // The first line of the listing.
 pub const HEADING: [u8; 39] = *b"line answer from to hops heard lat lon\n";
 
-// Puts a count behind the first `at` bytes of row, and the byte `after` behind it; answers the place after both.
-fn add_count(n: usize, after: u8, row: &mut [u8], at: usize) -> usize
-    requires { ⌜ at + 21 ≤ length (now row) ⌝ }
-    ensures { λ r. ⌜ Added (now (row .entry)) at (digits n ++ after ∷ []) (now (row .exit)) r ⌝ }
-    ensures { λ r. ⌜ r ≤ at + 21 ⌝ }
-{
-    let end = numbers::put_count(n, row, at);
-    buffer::put_byte(after, row, end)
-}
+// ---- fields, each put behind the first `at` bytes of row with a byte behind it; the place after both is answered
 
-// Puts a signed number behind the first `at` bytes of row, and the byte `after` behind it.
-fn add_number(n: i32, after: u8, row: &mut [u8], at: usize) -> usize
-    requires { ⌜ at + 12 ≤ length (now row) ⌝ }
-    ensures { λ r. ⌜ Added (now (row .entry)) at (decimal n ++ after ∷ []) (now (row .exit)) r ⌝ }
-    ensures { λ r. ⌜ r ≤ at + 12 ⌝ }
-{
-    let end = numbers::put_number(n, row, at);
-    buffer::put_byte(after, row, end)
-}
-
-// Puts a text behind the first `at` bytes of row, and the byte `after` behind it.
-fn add_text(text: &[u8], after: u8, row: &mut [u8], at: usize) -> usize
-    requires { ⌜ at + length (now text) < length (now row) ⌝ }
-    ensures { λ r. ⌜ Added (now (row .entry)) at (now (text .entry) ++ after ∷ []) (now (row .exit)) r ⌝ }
+fn put_text(text: &[u8], after: u8, row: &mut [u8], at: usize) -> usize
+    ensures { λ r. ⌜ filled (now (row .exit)) r ≡ addedAll (filled (now (row .entry)) at) (now (text .entry) ∷ (after ∷ []) ∷ []) ⌝ }
 {
     let end = buffer::put(text, row, at);
     buffer::put_byte(after, row, end)
 }
 
-// How many bytes of a callsign's text are shown: never more than the 16 that it has.
-pub fn text_len(c: Callsign) -> usize
-    ensures { λ r. ⌜ r ≡ min (textLen c) 16 ⌝ }
+fn put_count(n: usize, after: u8, row: &mut [u8], at: usize) -> usize
+    ensures { λ r. ⌜ filled (now (row .exit)) r ≡ addedAll (filled (now (row .entry)) at) (digits n ∷ (after ∷ []) ∷ []) ⌝ }
 {
-    let n = c.call_len;
-    let k = c.ssid_len;
-    if 16 < n {
-        return 16;
-    }
-    if k == 0 {
-        return n;
-    }
-    if 16 - n <= k {
-        return 16;
-    }
-    n + 1 + k
+    let end = numbers::put_count(n, row, at);
+    buffer::put_byte(after, row, end)
 }
 
-// Puts a callsign behind the first `at` bytes of row, and a space behind it.
-fn add_call(c: Callsign, row: &mut [u8], at: usize) -> usize
-    requires { ⌜ at + 17 ≤ length (now row) ⌝ }
-    ensures { λ r. ⌜ Added (now (row .entry)) at (callField c ++ space ∷ []) (now (row .exit)) r ⌝ }
-    ensures { λ r. ⌜ r ≤ at + 17 ⌝ }
+fn put_number(n: i32, after: u8, row: &mut [u8], at: usize) -> usize
+    ensures { λ r. ⌜ filled (now (row .exit)) r ≡ addedAll (filled (now (row .entry)) at) (decimal n ∷ (after ∷ []) ∷ []) ⌝ }
 {
-    let n = text_len(c);
+    let end = numbers::put_number(n, row, at);
+    buffer::put_byte(after, row, end)
+}
+
+fn put_call(c: Callsign, row: &mut [u8], at: usize) -> usize
+    ensures { λ r. ⌜ filled (now (row .exit)) r ≡ addedAll (filled (now (row .entry)) at) (callField c ∷ (space ∷ []) ∷ []) ⌝ }
+{
+    let n = callsign::text_len(c);
     if n == 0 {
-        return add_text(b".", b' ', row, at);
+        return put_text(b".", b' ', row, at);
     }
     let text = c.text;
-    add_text(&text[..n], b' ', row, at)
+    put_text(&text[..n], b' ', row, at)
 }
+
+// A Mic-E record has no destination.
+fn put_to(kind: Kind, to: Callsign, row: &mut [u8], at: usize) -> usize
+    ensures { λ r. ⌜ filled (now (row .exit)) r ≡ addedAll (filled (now (row .entry)) at) (toField kind to ∷ (space ∷ []) ∷ []) ⌝ }
+{
+    match kind {
+        Kind::Unknown => put_call(to, row, at),
+        Kind::Position => put_call(to, row, at),
+        Kind::MicE => put_text(b"-", b' ', row, at),
+    }
+}
+
+// ---- several fields
 
 // How many of the first hops, `count` of them, are heard.
 fn heard(hops: [Hop; 8], count: usize) -> usize
@@ -100,83 +85,68 @@ fn heard(hops: [Hop; 8], count: usize) -> usize
     n
 }
 
-// Puts the destination behind the first `at` bytes of row, and a space behind it; a Mic-E record has none.
-fn add_to(kind: Kind, to: Callsign, row: &mut [u8], at: usize) -> usize
-    requires { ⌜ at + 17 ≤ length (now row) ⌝ }
-    ensures { λ r. ⌜ Added (now (row .entry)) at (toField kind to ++ space ∷ []) (now (row .exit)) r ⌝ }
-    ensures { λ r. ⌜ r ≤ at + 17 ⌝ }
-{
-    match kind {
-        Kind::Unknown => add_call(to, row, at),
-        Kind::Position => add_call(to, row, at),
-        Kind::MicE => add_text(b"-", b' ', row, at),
-    }
-}
-
-// Puts latitude and longitude behind the first `at` bytes of row, and an LF behind them.
-fn add_angles(place: Place, row: &mut [u8], at: usize) -> usize
-    requires { ⌜ at + 24 ≤ length (now row) ⌝ }
-    ensures { λ r. ⌜ Added (now (row .entry)) at (joined (angleFields place)) (now (row .exit)) r ⌝ }
-    ensures { λ r. ⌜ r ≤ at + 24 ⌝ }
-{
-    let end = add_number(place.latitude.0, b' ', row, at);
-    add_number(place.longitude.0, b'\n', row, end)
-}
-
-// The same, where the kind has a place; the Unknown kind has none.
-fn add_place(kind: Kind, place: Place, row: &mut [u8], at: usize) -> usize
-    requires { ⌜ at + 24 ≤ length (now row) ⌝ }
-    ensures { λ r. ⌜ Added (now (row .entry)) at (joined (placeFields kind place)) (now (row .exit)) r ⌝ }
-    ensures { λ r. ⌜ r ≤ at + 24 ⌝ }
-{
-    match kind {
-        Kind::Unknown => add_text(b"- -", b'\n', row, at),
-        Kind::Position => add_angles(place, row, at),
-        Kind::MicE => add_angles(place, row, at),
-    }
-}
-
-// Puts the number of hops and of heard ones behind the first `at` bytes of row, and a space behind each.
-fn add_hops(path: Path, row: &mut [u8], at: usize) -> usize
-    requires { ⌜ at + 42 ≤ length (now row) ⌝ }
-    ensures { λ r. ⌜ Added (now (row .entry)) at (digits (path .count) ++ space ∷ (digits (heardHops path) ++ space ∷ [])) (now (row .exit)) r ⌝ }
-    ensures { λ r. ⌜ r ≤ at + 42 ⌝ }
+// The number of hops, and of heard ones.
+fn put_hops(path: Path, row: &mut [u8], at: usize) -> usize
+    ensures { λ r. ⌜ filled (now (row .exit)) r ≡ addedAll (filled (now (row .entry)) at) (digits (path .count) ∷ (space ∷ []) ∷ digits (heardHops path) ∷ (space ∷ []) ∷ []) ⌝ }
 {
     let hops = path.hops;
     let count = path.count;
-    let end = add_count(count, b' ', row, at);
-    add_count(heard(hops, count), b' ', row, end)
+    let end = put_count(count, b' ', row, at);
+    put_count(heard(hops, count), b' ', row, end)
 }
 
-// Puts the fields of a record behind the first `at` bytes of row, and an LF behind them.
-fn add_record(r: Record, row: &mut [u8], at: usize) -> usize
-    requires { ⌜ at + 100 ≤ length (now row) ⌝ }
-    ensures { λ end. ⌜ Added (now (row .entry)) at (joined (recordFields r)) (now (row .exit)) end ⌝ }
-    ensures { λ end. ⌜ end ≤ at + 100 ⌝ }
+// Latitude and longitude, the last fields of a row.
+fn put_angles(place: Place, row: &mut [u8], at: usize) -> usize
+    ensures { λ r. ⌜ filled (now (row .exit)) r ≡ addedAll (filled (now (row .entry)) at) (spaced (angleFields place)) ⌝ }
 {
-    let kind = r.kind;
-    let from = r.from;
-    let to = r.to;
-    let path = r.path;
-    let place = r.place;
-    let mut end = add_call(from, row, at);
-    end = add_to(kind, to, row, end);
-    end = add_hops(path, row, end);
-    add_place(kind, place, row, end)
+    let end = put_number(place.latitude.0, b' ', row, at);
+    put_number(place.longitude.0, b'\n', row, end)
 }
 
-// Builds the row of a line's number and answer at the front of row; answers its length.
-fn build(number: usize, read: PacketRead, row: &mut [u8]) -> usize
-    requires { ⌜ 142 ≤ length (now row) ⌝ }
-    ensures { λ r. ⌜ (r ≤ 142) × (take r (now (row .exit)) ≡ rowOf number read) ⌝ }
+// The same, where the kind has a place; the Unknown kind has none.
+fn put_place(kind: Kind, place: Place, row: &mut [u8], at: usize) -> usize
+    ensures { λ r. ⌜ filled (now (row .exit)) r ≡ addedAll (filled (now (row .entry)) at) (spaced (placeFields kind place)) ⌝ }
 {
-    let mut end = add_count(number, b' ', row, 0);
-    end = add_count(read.refusal as usize, b' ', row, end);
-    if read.refusal != 0 {
-        return add_text(b"- - 0 0 - -", b'\n', row, end);
+    match kind {
+        Kind::Unknown => put_text(b"- -", b'\n', row, at),
+        Kind::Position => put_angles(place, row, at),
+        Kind::MicE => put_angles(place, row, at),
     }
-    let record = read.record;
-    add_record(record, row, end)
+}
+
+// Source and destination, hops, and place.
+fn put_record(r: Record, row: &mut [u8], at: usize) -> usize
+    ensures { λ end. ⌜ filled (now (row .exit)) end ≡ addedAll (filled (now (row .entry)) at) (spaced (recordFields r)) ⌝ }
+{
+    let header = r.header;
+    let body = r.body;
+    let kind = body.kind;
+    let mut end = put_call(header.from, row, at);
+    end = put_to(kind, header.to, row, end);
+    end = put_hops(header.path, row, end);
+    put_place(kind, body.place, row, end)
+}
+
+// ---- the row
+
+// The fields of a line's number and answer, at the front of row.
+fn put_fields(number: usize, read: PacketRead, row: &mut [u8]) -> usize
+    ensures { λ r. ⌜ filled (now (row .exit)) r ≡ addedAll (filled (now (row .entry)) 0) (spaced (rowFields number read)) ⌝ }
+{
+    let mut end = put_count(number, b' ', row, 0);
+    end = put_count(read.refusal as usize, b' ', row, end);
+    if read.refusal != 0 {
+        return put_text(b"- - 0 0 - -", b'\n', row, end);
+    }
+    put_record(read.record, row, end)
+}
+
+// The same: 142 bytes hold any row.
+fn build(number: usize, read: PacketRead, row: &mut [u8]) -> usize
+    requires { ⌜ length (now row) ≡ 142 ⌝ }
+    ensures { λ r. ⌜ take r (now (row .exit)) ≡ rowOf number read ⌝ }
+{
+    put_fields(number, read, row)
 }
 
 // Writes the row of the listing for a line and its number, or answers 16.
@@ -185,5 +155,5 @@ pub fn write_row(number: usize, line: &[u8], out: &mut [u8]) -> buffer::Answer
 {
     let mut text = [0u8; 142];
     let n = build(number, packet::read_text(line), &mut text);
-    buffer::write(&text[..n], out)
+    buffer::write(lines::cut(&text, n), out)
 }
