@@ -1,11 +1,12 @@
 -- Laws of numbers read: one digit more at a time, a number that grows past the most, and a dash before it.
 -- Assumes nothing.
 use mathlib.Core.Path.{_≡_, refl, sym, _∙_}
-use mathlib.Core.Bool.{Bool, true, false}
+use mathlib.Core.Bool.{Bool, true, false, cond}
 use mathlib.Core.List.{List, [], _∷_, _++_}
 use Prim.Native.Nat.{ℕ, _+_, _-_, _*_, _<_, _≤_}
 use native.Mathlib.Omega.{arith}
-use borrow.Author.Tests.{le-leb, lt-leb, eq-eqb, ne-eqb}
+use lib.Dec.{leb, eqb}
+use borrow.Author.Tests.{le-leb, lt-leb, leb-true, eq-eqb, ne-eqb}
 use lib.ListN.{length, drop, getD, drop-of-length-le}
 use Rattle.laws.specs.Bytes.{dash, digit0, digit9, within, isDigit}
 use Rattle.laws.specs.Lists.{every}
@@ -94,6 +95,17 @@ module _ (s : List ℕ) (most : ℕ) (digit : Bool) (e : digit ≡ every isDigit
   pub count-bad : (length s ≡ 0 → ⊥) → digit ≡ false → Bad ≡ readCount s most
   unfolding readCount
   count-bad h d = rw (ne-eqb (length s) 0 h, ← e, d)
+
+-- what is read is at most the most
+pub count-small : (s : List ℕ) (most n : ℕ) → Is n ≡ readCount s most → n ≤ most
+unfolding readCount countOf
+count-small s most n e = go (eqb (length s) 0) (every isDigit s) (leb (numberOf s) most) refl e
+  where
+    go : (p q t : Bool) → leb (numberOf s) most ≡ t → Is n ≡ cond p Bad (cond q (cond t (Is (numberOf s)) Over) Bad) → n ≤ most
+    go true q t f e = absurd (let z : _≡_ {A = ℕ} 0 1 = cc in omega arith)
+    go false true true f e = let m : n ≡ numberOf s = cc in omega (arith, leb-true (numberOf s) most f)
+    go false true false f e = absurd (let z : _≡_ {A = ℕ} 0 1 = cc in omega arith)
+    go false false t f e = absurd (let z : _≡_ {A = ℕ} 0 1 = cc in omega arith)
 
 -- ---- a dash, or none
 
