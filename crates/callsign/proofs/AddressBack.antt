@@ -17,8 +17,8 @@ use Rattle.laws.proofs.Every.{all, all-at}
 use Rattle.callsign.specs.declared.Callsign.{Callsign}
 use Rattle.callsign.specs.declared.AddressRead.{AddressRead}
 use Rattle.callsign.specs.declared.Field.{Field}
-use Rattle.callsign.specs.declared.Number.{Number}
-use Rattle.callsign.specs.declared.Number.the-variants.{Unfit, Fits}
+use Rattle.numbers.specs.declared.Count.{Count}
+use Rattle.numbers.specs.declared.Count.the-variants.{Is, Over, Bad}
 use Rattle.callsign.specs.Utf8.{utf8}
 use Rattle.callsign.specs.Text.{joined, made, isZero}
 use Rattle.callsign.specs.Range.{inRange, callPart, ssidPart}
@@ -70,19 +70,21 @@ packed-back cs s e = go (ltb 6 (length cs)) (every isLetterOrDigit cs) refl refl
     go false true h k e = bytes-back cs s (ltb-false 6 (length cs) h) k
 
 -- the SSID's number, where it has one
-unfoldable pub numberIn : Number → ℕ
-numberIn Unfit = 0
-numberIn (Fits n) = n
+unfoldable pub numberIn : Count → ℕ
+numberIn (Is n) = n
+numberIn Over = 0
+numberIn Bad = 0
 
 -- the callsign as an address holds it
 unfoldable pub inAddress : Callsign → Callsign
 inAddress c = made (map raised (callPart c)) (ssidText (numberIn (ssidNumber (ssidPart c))))
 
-number-back : (cs : List ℕ) (m : Number) (field : Field) (last : Bool) → ((n : ℕ) → m ≡ Fits n → n ≤ 15) → packedBy cs m field last .refusal ≡ 0
+number-back : (cs : List ℕ) (m : Count) (field : Field) (last : Bool) → ((n : ℕ) → m ≡ Is n → n ≤ 15) → packedBy cs m field last .refusal ≡ 0
     → readAddress (packedBy cs m field last .bytes) ≡ address-as (made (map raised cs) (ssidText (numberIn m))) (heardIn field) last
 unfolding packedBy unwrittenBy numberIn
-number-back cs Unfit field last h e = absurd (omega arith)
-number-back cs (Fits n) field last h e =
+number-back cs Over field last h e = absurd (omega arith)
+number-back cs Bad field last h e = absurd (omega arith)
+number-back cs (Is n) field last h e =
     let k : n ≤ 15 = h n refl in
     packed-back cs (seventhOf field n last) e
     ∙ rw (ssid-back field n last k, heard-back field n last k, last-back field n last k)
@@ -127,10 +129,11 @@ packed-refusal cs s = go (ltb 6 (length cs)) (every isLetterOrDigit cs)
     go false true = inl refl
     go false false = inr refl
 
-number-refusal : (cs : List ℕ) (m : Number) (field : Field) (last : Bool) → (packedBy cs m field last .refusal ≡ 0) ⊎ (packedBy cs m field last .refusal ≡ 13)
+number-refusal : (cs : List ℕ) (m : Count) (field : Field) (last : Bool) → (packedBy cs m field last .refusal ≡ 0) ⊎ (packedBy cs m field last .refusal ≡ 13)
 unfolding packedBy unwrittenBy
-number-refusal cs Unfit field last = inr refl
-number-refusal cs (Fits n) field last = packed-refusal cs (seventhOf field n last)
+number-refusal cs (Is n) field last = packed-refusal cs (seventhOf field n last)
+number-refusal cs Over field last = inr refl
+number-refusal cs Bad field last = inr refl
 
 pub within-range : (c : Callsign) (field : Field) (last : Bool) → inRange c ≡ true → (writeAddress c field last .refusal ≡ 0) ⊎ (writeAddress c field last .refusal ≡ 13)
 unfolding writeAddress

@@ -3,7 +3,7 @@
 use mathlib.Core.Path.{_≡_, refl, sym, ap, _∙_}
 use mathlib.Core.Bool.{Bool, true, false, not, cond, _&&_, and-true, and-false, and-assoc}
 use mathlib.Core.List.{List, [], _∷_, _++_}
-use Prim.Native.Nat.{ℕ, _+_, _-_, _<_, _≤_}
+use Prim.Native.Nat.{ℕ, _+_, _-_, _<_, _≤_, min}
 use native.Mathlib.Nat.{add-zero}
 use native.Mathlib.Numerals.{add-one}
 use native.Mathlib.Omega.{arith}
@@ -203,9 +203,6 @@ joined-full a [] h = absurd (h refl)
 joined-full a (x ∷ b) h = refl
 
 module _ (c : Callsign) (e : inRange c ≡ true) where
-  pub bare-fits : c .«ssid_len» ≡ 0 → c .«call_len» ≤ 16
-  bare-fits k = rw (bare-length c k) at (from-range c e .size)
-
   pub full-fits : (c .«ssid_len» ≡ 0 → ⊥) → c .«call_len» + 1 + c .«ssid_len» ≤ 16
   full-fits k = rw (full-length c k) at (from-range c e .size)
 
@@ -257,6 +254,23 @@ unfolding withStar
 star-short c true e = let m = text-short c e in rw (length-append (textOf c) (star ∷ [])) (omega arith)
 star-short c false e = let m = text-short c e in omega arith
 
+-- ---- how many bytes of any callsign's text are shown
+
+module _ (c : Callsign) where
+  pub len-over : 16 < c .«call_len» → 16 ≡ min (textLen c) 16
+  len-over h = omega (arith, length-over c)
+
+  module _ (h : c .«call_len» ≤ 16) where
+    pub len-bare : c .«ssid_len» ≡ 0 → c .«call_len» ≡ min (textLen c) 16
+    len-bare e = omega (arith, bare-length c e)
+
+    module _ (some : c .«ssid_len» ≡ 0 → ⊥) where
+      pub len-cut : 16 - c .«call_len» ≤ c .«ssid_len» → 16 ≡ min (textLen c) 16
+      len-cut k = omega (arith, full-length c some)
+
+      pub len-full : c .«ssid_len» < 16 - c .«call_len» → c .«call_len» + 1 + c .«ssid_len» ≡ min (textLen c) 16
+      len-full k = omega (arith, full-length c some)
+
 -- ---- nothing in it
 
 pub blank-is-in-range : (c : Callsign) → isBlankCall c ≡ true → inRange c ≡ true
@@ -272,9 +286,6 @@ blank-is-in-range c e =
 module _ (c : Callsign) (u : Bool) (e : u ≡ inRange c) (n : not u ≡ false) where
   pub found-in-range : inRange c ≡ true
   found-in-range = sym e ∙ not-false u n
-
-  pub room-bare : c .«ssid_len» ≡ 0 → c .«call_len» ≤ 16
-  room-bare = bare-fits c found-in-range
 
   pub room-full : (c .«ssid_len» ≡ 0 → ⊥) → c .«call_len» + 1 + c .«ssid_len» ≤ 16
   room-full = full-fits c found-in-range

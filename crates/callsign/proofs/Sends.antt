@@ -7,6 +7,8 @@ use Prim.Native.Nat.{ℕ, suc, _+_, _-_, _*_, _%_, _<_, _≤_}
 use native.Mathlib.Omega.{arith}
 use native.Mathlib.Numerals.{add-one}
 use borrow.Author.Tests.{lt-ltb, le-ltb, lt-leb, eqb-true, ltb-true, ltb-false, not-true, not-false}
+use mir.Val.{Fits}
+use mir.Syntax.{w8}
 use lib.Dec.{T, eqb, ltb}
 use lib.ListN.{length, getD, take, drop, set, replicate, length-append, length-map, length-replicate, length-set, replicate-append-replicate}
 use lib.Seq.{take-suc, take-all, split-at, append-snoc, set-at, length-take-le}
@@ -18,8 +20,8 @@ use Rattle.laws.proofs.Every.{all, all-at}
 use Rattle.callsign.specs.declared.AddressWritten.{AddressWritten}
 use Rattle.callsign.specs.declared.Callsign.{Callsign}
 use Rattle.callsign.specs.declared.Field.{Field}
-use Rattle.callsign.specs.declared.Number.{Number}
-use Rattle.callsign.specs.declared.Number.the-variants.{Unfit, Fits}
+use Rattle.numbers.specs.declared.Count.{Count}
+use Rattle.numbers.specs.declared.Count.the-variants.{Is, Over, Bad}
 use Rattle.callsign.specs.Range.{inRange, callPart, ssidPart}
 use Rattle.callsign.specs.Packed.{sent, ssidNumber, seventhOf, unwrittenBy, packedAs, packedBy, writeAddress}
 use Rattle.callsign.proofs.Ranges.{bare-ssid, length-over, from-range, found-in-range}
@@ -166,15 +168,15 @@ module _ (c : Callsign) (u : Bool) (e : u ≡ inRange c) where
     call-size = part-length (c .text) (c .«call_len») call-room
 
     module _ (r : AddressWritten) (field : Field) (last : Bool) where
-      by-number : (m : Number) → m ≡ ssidNumber (ssidPart c) → r ≡ packedBy (callPart c) m field last → r ≡ writeAddress c field last
+      by-number : (m : Count) → m ≡ ssidNumber (ssidPart c) → r ≡ packedBy (callPart c) m field last → r ≡ writeAddress c field last
       unfolding writeAddress
       by-number m f q = q ∙ sym (rw (in-range, ← f))
 
       pub bare-sent : (s : ℕ) → c .«ssid_len» ≡ 0 → s ≡ seventhOf field 0 last → r ≡ packedAs (take (c .«call_len») (c .text)) s → r ≡ writeAddress c field last
       unfolding packedBy callPart ssidNumber
-      bare-sent s k f q = by-number (Fits 0) (sym (ap ssidNumber (bare-ssid c k))) (q ∙ ap (packedAs (take (c .«call_len») (c .text))) f)
+      bare-sent s k f q = by-number (Is 0) (sym (ap ssidNumber (bare-ssid c k))) (q ∙ ap (packedAs (take (c .«call_len») (c .text))) f)
 
-      module _ (m : Number) (f : m ≡ ssidNumber (take (c .«call_len» + 1 + c .«ssid_len» - (c .«call_len» + 1)) (drop (c .«call_len» + 1) (c .text)))) where
+      module _ (m : Count) (f : m ≡ ssidNumber (take (c .«call_len» + 1 + c .«ssid_len» - (c .«call_len» + 1)) (drop (c .«call_len» + 1) (c .text)))) where
         number-is : m ≡ ssidNumber (ssidPart c)
         unfolding ssidPart
         number-is =
@@ -183,13 +185,20 @@ module _ (c : Callsign) (u : Bool) (e : u ≡ inRange c) where
             let w : n + 1 + k - (n + 1) ≡ k = omega arith in
             f ∙ ap (λ (j : ℕ). ssidNumber (take j (drop (n + 1) (c .text)))) w
 
-        pub unfit-sent : m ≡ Unfit → r ≡ unwrittenBy 13 → r ≡ writeAddress c field last
+        pub over-sent : m ≡ Over → r ≡ unwrittenBy 13 → r ≡ writeAddress c field last
         unfolding packedBy
-        unfit-sent g q = by-number m number-is (rw g q)
+        over-sent g q = by-number m number-is (rw g q)
 
-        pub fit-small : (v : ℕ) → m ≡ Fits v → v < 16
+        pub bad-sent : m ≡ Bad → r ≡ unwrittenBy 13 → r ≡ writeAddress c field last
+        unfolding packedBy
+        bad-sent g q = by-number m number-is (rw g q)
+
+        pub fit-small : (v : ℕ) → m ≡ Is v → v < 16
         fit-small v g = let h : v ≤ 15 = ssid-small v (ssidPart c) (sym number-is ∙ g) in omega arith
 
-        pub fit-sent : (v s : ℕ) → m ≡ Fits v → s ≡ seventhOf field v last → r ≡ packedAs (take (c .«call_len») (c .text)) s → r ≡ writeAddress c field last
+        pub fit-byte : (v : ℕ) → m ≡ Is v → Fits w8 v
+        fit-byte v g = let h = fit-small v g in record { fits = omega arith }
+
+        pub fit-sent : (v s : ℕ) → m ≡ Is v → s ≡ seventhOf field v last → r ≡ packedAs (take (c .«call_len») (c .text)) s → r ≡ writeAddress c field last
         unfolding packedBy callPart
         fit-sent v s g h q = by-number m number-is (rw g (q ∙ ap (packedAs (take (c .«call_len») (c .text))) h))

@@ -7,6 +7,7 @@ use mathlib.Core.List.{List, [], _∷_}
 use Prim.Native.Nat.{ℕ}
 use Rattle.laws.specs.Bytes.{within, raised}
 use Rattle.laws.specs.Lists.{every, padTo, zeros}
+use Rattle.numbers.specs.Numbers.{numberAfter, numberOf, countOf, readCount}
 use Rattle.callsign.specs.declared.Callsign.{Callsign}
 use Rattle.callsign.specs.declared.Field.{Field}
 use Rattle.callsign.specs.declared.Field.the-variants.{Hop}
@@ -14,7 +15,7 @@ use Rattle.callsign.specs.Utf8.{after, characters, utf8}
 use Rattle.callsign.specs.Text.{joined, made, isZero, readText}
 use Rattle.callsign.specs.Range.{callPart, ssidPart, textLen, isDashed, inRange, rangeRefusal}
 use Rattle.callsign.specs.Address.{ssidOf, heardOf, lastOf, onto, areSpaces, unpacked, ssidText, addressOf, readAddress}
-use Rattle.callsign.specs.Packed.{decimal, fitNumber, digitsNumber, ssidNumber, bit, upperBits, seventhOf, sent, packedAs, packedBy, writeAddress}
+use Rattle.callsign.specs.Packed.{ssidNumber, bit, upperBits, seventhOf, sent, packedAs, packedBy, writeAddress}
 use Rattle.callsign.proofs.Ranges.{accepted}
 use Rattle.callsign.proofs.Bits.{heardIn}
 use Rattle.callsign.proofs.Characters.{address-as}
@@ -57,7 +58,7 @@ abbrev pub P10-bytes : List ℕ
 P10-bytes = 0x9c ∷ 0x60 ∷ 0x86 ∷ 0x82 ∷ 0x98 ∷ 0x98 ∷ 0xe3 ∷ []
 
 pub P10 : writeAddress N0CALL-1 (Hop true) true ≡ record { refusal = 0; bytes = P10-bytes }
-unfolding writeAddress inRange textLen callPart ssidPart isDashed utf8 characters after within zeros isZero made joined padTo ssidNumber digitsNumber fitNumber decimal every packedBy packedAs sent raised seventhOf upperBits bit
+unfolding writeAddress inRange textLen callPart ssidPart isDashed utf8 characters after within zeros isZero made joined padTo ssidNumber readCount countOf numberOf numberAfter every packedBy packedAs sent raised seventhOf upperBits bit
 P10 = refl
 
 pub P10-read : readAddress P10-bytes ≡ address-as N0CALL-1 true true

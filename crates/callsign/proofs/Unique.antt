@@ -3,7 +3,7 @@
 use mathlib.Core.Path.{_≡_}
 use mathlib.Core.Bool.{Bool}
 use mathlib.Core.List.{List}
-use Prim.Native.Nat.{ℕ}
+use Prim.Native.Nat.{ℕ, min}
 use lib.ListN.{take}
 use Rattle.laws.specs.Bytes.{isLetterOrDigit, raised}
 use Rattle.buffer.specs.Wrote.{ends, wrote}
@@ -16,7 +16,7 @@ use Rattle.callsign.specs.declared.AddressRead.{AddressRead}
 use Rattle.callsign.specs.declared.AddressWritten.{AddressWritten}
 use Rattle.callsign.specs.declared.Field.{Field}
 use Rattle.callsign.specs.Text.{blankCall, made, readText}
-use Rattle.callsign.specs.Range.{inRange, isBlankCall, rangeRefusal, textOf, withStar}
+use Rattle.callsign.specs.Range.{textLen, inRange, isBlankCall, rangeRefusal, textOf, withStar}
 use Rattle.callsign.specs.Address.{ssidOf, heardOf, lastOf, ssidText, readAddress}
 use Rattle.callsign.specs.Packed.{writeAddress}
 
@@ -28,6 +28,9 @@ unique-read-text s r r′ = one-value r r′ (readText s)
 
 pub unique-in-range : (c : Callsign) (r r′ : Bool) → r ≡ inRange c → r′ ≡ inRange c → r ≡ r′
 unique-in-range c r r′ = one-value r r′ (inRange c)
+
+pub unique-text-len : (c : Callsign) (r r′ : ℕ) → r ≡ min (textLen c) 16 → r′ ≡ min (textLen c) 16 → r ≡ r′
+unique-text-len c r r′ = one-value r r′ (min (textLen c) 16)
 
 pub unique-is-blank : (c : Callsign) (r r′ : Bool) → r ≡ isBlankCall c → r′ ≡ isBlankCall c → r ≡ r′
 unique-is-blank c r r′ = one-value r r′ (isBlankCall c)

@@ -3,7 +3,7 @@
 use mathlib.Core.Path.{_≡_, sym, ap, _∙_}
 use mathlib.Core.Bool.{Bool, true, false, not}
 use mathlib.Core.List.{List, [], _∷_, _++_}
-use Prim.Native.Nat.{ℕ, _+_, _≤_}
+use Prim.Native.Nat.{ℕ, _≤_, min}
 use native.Mathlib.Omega.{arith}
 use borrow.Author.Tests.{not-true}
 use lib.ListN.{length, take, length-append}
@@ -14,7 +14,7 @@ use Rattle.buffer.specs.declared.Answer.{Answer}
 use Rattle.buffer.proofs.Wrote.{not-over, passed-on}
 use Rattle.callsign.specs.declared.Callsign.{Callsign}
 use Rattle.callsign.specs.Range.{textLen, inRange, rangeRefusal, textOf, withStar}
-use Rattle.callsign.proofs.Ranges.{bare-length, full-length, found-in-range, text-in-use, accepted, rejected}
+use Rattle.callsign.proofs.Ranges.{from-range, found-in-range, text-in-use, accepted, rejected}
 
 -- ---- the star
 
@@ -43,13 +43,8 @@ module _ (c : Callsign) (u : Bool) (e : u ≡ inRange c) (starred : Bool) (out :
     in-range : inRange c ≡ true
     in-range = found-in-range c u e h
 
-    text-by : (w : Wrote) (n : ℕ) → textLen c ≡ n → w ≡ wrote 0 (withStar (take n (c .text)) starred) out → w ≡ wrote (rangeRefusal c) (withStar (textOf c) starred) out
-    text-by w n q r =
-        r ∙ ap (λ (l : List ℕ). wrote 0 (withStar l starred) out) (ap (λ (m : ℕ). take m (c .text)) (sym q) ∙ sym (text-in-use c in-range long))
+    pub text-written : (w : Wrote) (n : ℕ) → n ≡ min (textLen c) 16 → w ≡ wrote 0 (withStar (take n (c .text)) starred) out → w ≡ wrote (rangeRefusal c) (withStar (textOf c) starred) out
+    text-written w n q r =
+        let k : textLen c ≡ n = omega (arith, from-range c in-range .size) in
+        r ∙ ap (λ (l : List ℕ). wrote 0 (withStar l starred) out) (ap (λ (m : ℕ). take m (c .text)) (sym k) ∙ sym (text-in-use c in-range long))
         ∙ ap (λ (k : ℕ). wrote k (withStar (textOf c) starred) out) (sym (accepted c in-range))
-
-    pub text-bare : (w : Wrote) → c .«ssid_len» ≡ 0 → w ≡ wrote 0 (withStar (take (c .«call_len») (c .text)) starred) out → w ≡ wrote (rangeRefusal c) (withStar (textOf c) starred) out
-    text-bare w k r = text-by w (c .«call_len») (bare-length c k) r
-
-    pub text-full : (w : Wrote) → (c .«ssid_len» ≡ 0 → ⊥) → w ≡ wrote 0 (withStar (take (c .«call_len» + 1 + c .«ssid_len») (c .text)) starred) out → w ≡ wrote (rangeRefusal c) (withStar (textOf c) starred) out
-    text-full w k r = text-by w (c .«call_len» + 1 + c .«ssid_len») (full-length c k) r

@@ -3,39 +3,27 @@
 -- Upper bits are 111 for a destination, 011 for a source, heard-1-1 for a hop." Refused with 15, then 13.
 -- Assumes nothing.
 use Prim.Native.Nat.{ℕ, _+_, _-_, _*_}
-use mathlib.Core.Bool.{Bool, true, false, not, cond, _&&_}
+use mathlib.Core.Bool.{Bool, true, false, not, cond}
 use mathlib.Core.List.{List, [], _∷_, _++_, map}
 use lib.ListN.{length, replicate}
-use lib.Dec.{eqb, ltb, leb}
-use Rattle.laws.specs.Bytes.{space, plus, digit0, isDigit, isLetterOrDigit, raised}
+use lib.Dec.{eqb, ltb}
+use Rattle.laws.specs.Bytes.{space, plus, isLetterOrDigit, raised}
 use Rattle.laws.specs.Lists.{every}
+use Rattle.numbers.specs.declared.Count.{Count}
+use Rattle.numbers.specs.declared.Count.the-variants.{Is, Over, Bad}
+use Rattle.numbers.specs.Numbers.{readCount}
 use Rattle.callsign.specs.Range.{inRange, callPart, ssidPart}
 use Rattle.callsign.specs.declared.Callsign.{Callsign}
 use Rattle.callsign.specs.declared.AddressWritten.{AddressWritten}
 use Rattle.callsign.specs.declared.Field.{Field}
 use Rattle.callsign.specs.declared.Field.the-variants.{Destination, Source, Hop}
-use Rattle.callsign.specs.declared.Number.{Number}
-use Rattle.callsign.specs.declared.Number.the-variants.{Unfit, Fits}
 
 -- ---- the SSID's number
 
--- the value of decimal digits that follow the value v
-unfoldable pub decimal : ℕ → List ℕ → ℕ
-decimal v [] = v
-decimal v (x ∷ l) = decimal (v * 10 + (x - digit0)) l
-
--- digits alone, with a value of at most 15
-unfoldable pub fitNumber : ℕ → List ℕ → Number
-fitNumber v l = cond (every isDigit l && leb (decimal v l) 15) (Fits (decimal v l)) Unfit
-
--- "one or more digits"
-unfoldable pub digitsNumber : List ℕ → Number
-digitsNumber l = cond (eqb (length l) 0) Unfit (fitNumber 0 l)
-
--- no SSID is 0; "an optional `+`, then .. digits"
-unfoldable pub ssidNumber : List ℕ → Number
-ssidNumber [] = Fits 0
-ssidNumber (x ∷ l) = cond (eqb x plus) (digitsNumber l) (digitsNumber (x ∷ l))
+-- no SSID is 0; "an optional `+`, then one or more digits, value at most 15"
+unfoldable pub ssidNumber : List ℕ → Count
+ssidNumber [] = Is 0
+ssidNumber (x ∷ l) = readCount (cond (eqb x plus) l (x ∷ l)) 15
 
 -- ---- the seven bytes
 
@@ -70,9 +58,10 @@ packedAs call seventh =
     (record { refusal = 0; bytes = map sent call ++ replicate (6 - length call) (space * 2) ++ seventh ∷ [] }))
 
 -- the call with the SSID's number
-unfoldable pub packedBy : List ℕ → Number → Field → Bool → AddressWritten
-packedBy call Unfit field last = unwrittenBy 13
-packedBy call (Fits ssid) field last = packedAs call (seventhOf field ssid last)
+unfoldable pub packedBy : List ℕ → Count → Field → Bool → AddressWritten
+packedBy call (Is ssid) field last = packedAs call (seventhOf field ssid last)
+packedBy call Over field last = unwrittenBy 13
+packedBy call Bad field last = unwrittenBy 13
 
 -- 15, then 13
 unfoldable pub writeAddress : Callsign → Field → Bool → AddressWritten

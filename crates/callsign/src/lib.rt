@@ -1,16 +1,17 @@
 // One callsign: its text read and written, its UTF-8 judged, and its AX.25 address unpacked and packed by
 // shifts and masks.
 ghost use mathlib.Core.Path.{_≡_};
-ghost use Prim.Native.Nat.{_≤_, _<_};
+ghost use Prim.Native.Nat.{_≤_, _<_, min};
 ghost use lib.ListN.{length, take, drop};
 ghost use Rattle.laws.specs.Bytes.{isLetterOrDigit, raised};
 ghost use Rattle.laws.specs.Lists.{every, padTo, zeros};
 ghost use Rattle.buffer.specs.Wrote.{ends, wrote};
 ghost use Rattle.callsign.specs.Utf8.{after, ascii, owed, utf8};
 ghost use Rattle.callsign.specs.Text.{callAs, made, blankCall, callRefused, callAccepted, readUnstarred, readText};
-ghost use Rattle.callsign.specs.Range.{inRange, isBlankCall, rangeRefusal, sound, textOf, withStar};
+ghost use Rattle.callsign.specs.Range.{textLen, inRange, isBlankCall, rangeRefusal, sound, textOf, withStar};
 ghost use Rattle.callsign.specs.Address.{heardOf, lastOf, ssidOf, ssidText, addressRefused, readAddress};
-ghost use Rattle.callsign.specs.Packed.{digitsNumber, ssidNumber, upperBits, seventhOf, unwrittenBy, packedAs, writeAddress};
+ghost use Rattle.callsign.specs.Packed.{ssidNumber, upperBits, seventhOf, unwrittenBy, packedAs, writeAddress};
+use numbers::Count;
 
 // A callsign as it is written: call, dash and SSID in `text`, the rest of it zero. Without an SSID there is no dash.
 #[repr(C)]
@@ -31,10 +32,10 @@ pub struct CallRead {
 
 // What reading an address gives: the refusal's number or 0, the callsign, and the two flags of the seventh byte.
 pub struct AddressRead {
-    pub refusal: u8,
     pub call: Callsign,
     pub heard: bool,
     pub last: bool,
+    pub refusal: u8,
 }
 
 // The field of a frame that an address goes into; a hop is heard or not.
@@ -46,8 +47,8 @@ pub enum Field {
 
 // The seven bytes of an address, or the refusal's number and zeros.
 pub struct AddressWritten {
-    pub refusal: u8,
     pub bytes: [u8; 7],
+    pub refusal: u8,
 }
 
 // ---- UTF-8
@@ -168,10 +169,10 @@ fn refused(n: u8) -> CallRead
 {
     let call = blank();
     CallRead {
-        refusal: n,
         call,
         starred: false,
         zero: false,
+        refusal: n,
     }
 }
 
@@ -184,10 +185,10 @@ fn accepted(text: [u8; 16], n: usize, k: usize, starred: bool, zero: bool) -> Ca
         ssid_len: k,
     };
     CallRead {
-        refusal: 0,
         call,
         starred,
         zero,
+        refusal: 0,
     }
 }
 
@@ -284,6 +285,24 @@ fn is_sound(text: [u8; 16], n: usize) -> bool
     }
 }
 
+// How many bytes of a callsign's text are shown: never more than the 16 that it has.
+pub fn text_len(c: Callsign) -> usize
+    ensures { λ r. ⌜ r ≡ min (textLen c) 16 ⌝ }
+{
+    let n = c.call_len;
+    let k = c.ssid_len;
+    if 16 < n {
+        return 16;
+    }
+    if k == 0 {
+        return n;
+    }
+    if 16 - n <= k {
+        return 16;
+    }
+    n + 1 + k
+}
+
 // Whether a callsign has nothing in it.
 pub fn is_blank(c: Callsign) -> bool
     ensures { λ r. ⌜ r ≡ isBlankCall c ⌝ }
@@ -346,15 +365,9 @@ pub fn write_text(c: Callsign, starred: bool, out: &mut [u8]) -> buffer::Answer
     if !in_range(c) {
         return buffer::refused(15);
     }
-    let k = c.ssid_len;
+    let n = text_len(c);
     let text = c.text;
-    if k == 0 {
-        let n = c.call_len;
-        write_starred(text, n, starred, out)
-    } else {
-        let n = c.call_len + 1 + k;
-        write_starred(text, n, starred, out)
-    }
+    write_starred(text, n, starred, out)
 }
 
 // ---- one byte of an address
@@ -452,10 +465,10 @@ fn no_address() -> AddressRead
 {
     let call = blank();
     AddressRead {
-        refusal: 3,
         call,
         heard: false,
         last: false,
+        refusal: 3,
     }
 }
 
@@ -493,57 +506,26 @@ pub fn read_address(b: &[u8]) -> AddressRead
     let s = b[6];
     let made = address_call(call, n, s);
     AddressRead {
-        refusal: 0,
         call: made,
         heard: heard(s),
         last: last(s),
+        refusal: 0,
     }
 }
 
 // ---- an address written
 
-// The number of an SSID's text, where it fits into four bits.
-enum Number {
-    Unfit,
-    Fits(u8),
-}
-
-fn digits_number(s: &[u8]) -> Number
-    ensures { λ r. ⌜ r ≡ digitsNumber (now (s .entry)) ⌝ }
-{
-    if s.len() == 0 {
-        return Number::Unfit;
-    }
-    let mut v: u8 = 0;
-    let mut i: usize = 0;
-    while i < s.len() {
-        let d = s[i];
-        if d < b'0' {
-            return Number::Unfit;
-        }
-        if b'9' < d {
-            return Number::Unfit;
-        }
-        v = v * 10 + (d - b'0');
-        if 15 < v {
-            return Number::Unfit;
-        }
-        i += 1;
-    }
-    Number::Fits(v)
-}
-
-// The number of an SSID's text: an optional `+`, then digits.
-fn ssid_number(s: &[u8]) -> Number
+// The number of an SSID's text: an optional `+`, then digits; 0 for no text.
+fn ssid_number(s: &[u8]) -> Count
     ensures { λ r. ⌜ r ≡ ssidNumber (now (s .entry)) ⌝ }
 {
     if s.len() == 0 {
-        return Number::Fits(0);
+        return Count::Is(0);
     }
     if s[0] == b'+' {
-        digits_number(&s[1..])
+        numbers::read_count(&s[1..], 15)
     } else {
-        digits_number(s)
+        numbers::read_count(s, 15)
     }
 }
 
@@ -570,8 +552,8 @@ fn unwritten(n: u8) -> AddressWritten
     ensures { λ r. ⌜ r ≡ unwrittenBy n ⌝ }
 {
     AddressWritten {
-        refusal: n,
         bytes: [0u8; 7],
+        refusal: n,
     }
 }
 
@@ -594,7 +576,7 @@ fn packed(call: &[u8], seventh: u8) -> AddressWritten
         i += 1;
     }
     bytes[6] = seventh;
-    AddressWritten { refusal: 0, bytes }
+    AddressWritten { bytes, refusal: 0 }
 }
 
 // Writes the seven bytes of a callsign's address in a field of a frame; refused with 15 or 13.
@@ -614,9 +596,12 @@ pub fn write_address(c: Callsign, field: Field, last: bool) -> AddressWritten
     let from = n + 1;
     let to = from + k;
     let number = ssid_number(&text[from..to]);
-    let Number::Fits(v) = number else {
-        return unwritten(13);
-    };
-    let s = seventh(field, v, last);
-    packed(&text[..n], s)
+    match number {
+        Count::Is(ssid) => {
+            let s = seventh(field, ssid as u8, last);
+            packed(&text[..n], s)
+        }
+        Count::Over => unwritten(13),
+        Count::Bad => unwritten(13),
+    }
 }

@@ -10,20 +10,20 @@ returns c = search no-ssid-number
 shared-slice-read-if2 : tie.Need-shared-slice-read-if2
 shared-slice-read-if2 c = search needs
 
-sub-digits-number : tie.Need-sub-digits-number
-sub-digits-number c = search needs
+sub-read-count : tie.Need-sub-read-count
+sub-read-count c = search needs
 
-part-digits-number-start : tie.Need-part-digits-number-start
-part-digits-number-start c = search needs
+part-read-count-start : tie.Need-part-read-count-start
+part-read-count-start c = search needs
 
-part-digits-number-end : tie.Need-part-digits-number-end
-part-digits-number-end c = search needs
+part-read-count-end : tie.Need-part-read-count-end
+part-read-count-end c = search needs
 
-digits-number-requires : tie.Need-digits-number-requires
-digits-number-requires c κs = search needs
+read-count-requires : tie.Need-read-count-requires
+read-count-requires c κs = search needs
 
-digits-number-requires-2 : tie.Need-digits-number-requires-2
-digits-number-requires-2 c κs = search needs
+read-count-requires-2 : tie.Need-read-count-requires-2
+read-count-requires-2 c κs = search needs
 
 returns-2 : tie.Need-returns-2
 returns-2 c = search signed
@@ -37,10 +37,10 @@ ssid-number-spec =
     (tie.spec
     returns
     shared-slice-read-if2
-    sub-digits-number
-    part-digits-number-start
-    part-digits-number-end
-    digits-number-requires
-    digits-number-requires-2
+    sub-read-count
+    part-read-count-start
+    part-read-count-end
+    read-count-requires
+    read-count-requires-2
     returns-2
     returns-3)

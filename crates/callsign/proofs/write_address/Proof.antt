@@ -4,8 +4,9 @@ use mathlib.Core.Path.{_≡_}
 use native.Mathlib.Omega.{arith}
 use lib.ListN.{length}
 use Rattle.callsign.proofs.Ranges.{room-full}
-use Rattle.callsign.proofs.Sends.{range-refuses, call-room, call-size, bare-sent, unfit-sent, fit-small, fit-sent}
+use Rattle.callsign.proofs.Sends.{range-refuses, call-room, call-size, bare-sent, over-sent, bad-sent, fit-small, fit-byte, fit-sent}
 use borrow.Author.Needs.{needs, length-unmapped}
+use borrow.Author.Needs.{needs}
 use Rattle.callsign.proofs.write_address.Statement.{statement}
 use Rattle.callsign.proofs.write_address.Tie as tie
 
@@ -64,14 +65,8 @@ ssid-number-requires c κs = search needs
 enum-known-number : tie.Need-enum-known-number
 enum-known-number c = search needs
 
-enum-told : tie.Need-enum-told
-enum-told c = search needs
-
-unwritten-requires-2 : tie.Need-unwritten-requires-2
-unwritten-requires-2 c κs = search needs
-
-returns-3 : tie.Need-returns-3
-returns-3 c = search (unfit-sent, length-unmapped)
+cast-seventh : tie.Need-cast-seventh
+cast-seventh c = search (fit-byte, length-unmapped)
 
 seventh-requires-2 : tie.Need-seventh-requires-2
 seventh-requires-2 c κs = search (fit-small, length-unmapped)
@@ -85,8 +80,26 @@ slice-aggregate-packed-2 c = search (call-size, length-unmapped)
 packed-requires-2 : tie.Need-packed-requires-2
 packed-requires-2 c κs = search needs
 
+enum-told : tie.Need-enum-told
+enum-told c = search needs
+
+unwritten-requires-2 : tie.Need-unwritten-requires-2
+unwritten-requires-2 c κs = search needs
+
+enum-told-2 : tie.Need-enum-told-2
+enum-told-2 c = search needs
+
+unwritten-requires-3 : tie.Need-unwritten-requires-3
+unwritten-requires-3 c κs = search needs
+
+returns-3 : tie.Need-returns-3
+returns-3 c = search (fit-sent, length-unmapped)
+
 returns-4 : tie.Need-returns-4
-returns-4 c = search (fit-sent, length-unmapped)
+returns-4 c = search (over-sent, length-unmapped)
+
+returns-5 : tie.Need-returns-5
+returns-5 c = search (bad-sent, length-unmapped)
 
 pub write-address-spec : {M : Type 1} → statement M
 write-address-spec =
@@ -107,11 +120,15 @@ write-address-spec =
     part-ssid-number-end
     ssid-number-requires
     enum-known-number
-    enum-told
-    unwritten-requires-2
-    returns-3
+    cast-seventh
     seventh-requires-2
     array-share-prefix-text-2
     slice-aggregate-packed-2
     packed-requires-2
-    returns-4)
+    enum-told
+    unwritten-requires-2
+    enum-told-2
+    unwritten-requires-3
+    returns-3
+    returns-4
+    returns-5)

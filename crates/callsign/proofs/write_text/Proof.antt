@@ -1,9 +1,7 @@
 -- The range, and then the text in use. Assumes nothing.
-use Prim.Native.Nat.{_+_, _≤_}
-use native.Mathlib.Omega.{arith}
-use Rattle.callsign.proofs.Writes.{text-refused, text-bare, text-full}
-use Rattle.callsign.proofs.Ranges.{room-bare, room-full}
+use Rattle.callsign.proofs.Writes.{text-refused, text-written}
 use borrow.Author.Needs.{needs, length-unmapped}
+use borrow.Author.Needs.{needs}
 use Rattle.callsign.proofs.write_text.Statement.{statement}
 use Rattle.callsign.proofs.write_text.Tie as tie
 
@@ -16,35 +14,17 @@ refused-requires c κs = search needs
 returns : tie.Need-returns
 returns c = search text-refused
 
+text-len-requires : tie.Need-text-len-requires
+text-len-requires c κs = search needs
+
 write-starred-requires : tie.Need-write-starred-requires
-write-starred-requires c κs = search room-bare
-
-add-n : tie.Need-add-n
-add-n c =
-    let a = c .before .before .before .before .before .before .args .c in
-    let h : a .«call_len» + 1 + a .«ssid_len» ≤ 16 = search room-full in
-    omega arith
-
-add-n-2 : tie.Need-add-n-2
-add-n-2 c =
-    let a = c .before .before .before .before .before .before .args .c in
-    let h : a .«call_len» + 1 + a .«ssid_len» ≤ 16 = search room-full in
-    omega arith
-
-write-starred-requires-2 : tie.Need-write-starred-requires-2
-write-starred-requires-2 c κs = search room-full
+write-starred-requires c κs = search needs
 
 same-length : tie.Need-same-length
 same-length c = search needs
 
 returns-2 : tie.Need-returns-2
-returns-2 c = search (text-bare, length-unmapped)
-
-same-length-2 : tie.Need-same-length-2
-same-length-2 c = search needs
-
-returns-3 : tie.Need-returns-3
-returns-3 c = search (text-full, length-unmapped)
+returns-2 c = search (text-written, length-unmapped)
 
 pub write-text-spec : {M : Type 1} → statement M
 write-text-spec =
@@ -53,11 +33,7 @@ write-text-spec =
     in-range-requires
     refused-requires
     returns
+    text-len-requires
     write-starred-requires
-    add-n
-    add-n-2
-    write-starred-requires-2
     same-length
-    returns-2
-    same-length-2
-    returns-3)
+    returns-2)
