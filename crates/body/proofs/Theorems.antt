@@ -12,11 +12,12 @@ use Rattle.laws.specs.Lists.{padTo}
 use Rattle.callsign.specs.declared.Callsign.{Callsign}
 use Rattle.callsign.specs.Range.{inRange, isBlankCall}
 use Rattle.lonlat.specs.Angle.{widthOf}
+use Rattle.mic_e.specs.Message.{messageNumber}
 use Rattle.body.specs.declared.Kind.the-variants.{MicE}
 use Rattle.body.specs.declared.Body.{Body}
 use Rattle.body.specs.declared.BodyWritten.{BodyWritten}
-use Rattle.body.specs.Body.{bodyAccepted, bodyRefused, readBody}
-use Rattle.body.specs.Range.{bodyInRange, isExcepted}
+use Rattle.body.specs.Body.{noReport, blankBody, bodyAccepted, bodyRefused, readBody}
+use Rattle.body.specs.Range.{isNoPlace, isNoReport, unknownInRange, inRangeAs, bodyInRange, isExcepted}
 use Rattle.body.specs.Written.{writtenTo, bodyBytes, kindRefusal, unwritten, writtenAs, writeBody}
 use Rattle.body.proofs.Writing.{fixed-short}
 use Rattle.body.proofs.Built as built
@@ -49,6 +50,11 @@ module _ (to : Callsign) (s : List ℕ) (from : ℕ) where
             ≡ cond t 15 (kindRefusal (readBody to s from .body .kind))
         turned true = refl
         turned false = refl
+
+-- the blank body is in range, beside any destination
+pub blank-range : (to : Callsign) → bodyInRange blankBody to ≡ true
+unfolding blankBody noReport bodyInRange inRangeAs unknownInRange isNoPlace isNoReport messageNumber
+blank-range to = refl
 
 -- ---- what is written
 

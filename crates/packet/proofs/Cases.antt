@@ -21,12 +21,12 @@ use Rattle.numbers.specs.Numbers.{numberAfter, numberOf, digitOf, digitsOf}
 use Rattle.lonlat.specs.Latitude.{blanksIn, restBlank, countedDigits, latitudeWith, latitudeIn, readLatitude, northOrSouth, blankedPlaces, latitudeText}
 use Rattle.lonlat.specs.Longitude.{longitudeWith, longitudeIn, readLongitude, eastOrWest, longitudeText}
 use Rattle.position.specs.Position.{isNumeric, isUncompressed, withLongitude, withLatitude, readPosition, positionText}
-use Rattle.packet.specs.declared.Kind.the-variants.{Position}
+use Rattle.body.specs.declared.Kind.the-variants.{Position}
+use Rattle.body.specs.Body.{noReport, openingOf, commentFrom, positionBody, bodyAfter, readBody}
+use Rattle.body.specs.Written.{toAs, writtenTo, positionBytes, bytesAs, bodyBytes}
 use Rattle.packet.specs.declared.Record.{Record}
-use Rattle.packet.specs.Record.{noReport}
-use Rattle.packet.specs.Body.{openingOf, positionBody, bodyAfter, readBody}
 use Rattle.packet.specs.Packet.{keptTo, recordOf, packetOf, packetAfter, readText}
-use Rattle.packet.specs.Written.{writtenTo, writtenHeader, positionBytes, bodyBytes, bytesOf, textBytes}
+use Rattle.packet.specs.Written.{writtenHeader, bytesOf, textBytes}
 
 -- `X>Y,A,B*,C:!0000.00N/00000.00E-`
 abbrev pub P11-line : List ℕ
@@ -38,19 +38,19 @@ P11-line =
 abbrev pub P11-record : Record
 P11-record =
     record {
-      kind = Position;
-      from = made (0x58 ∷ []) [];
-      to = made (0x59 ∷ []) [];
-      path = pathOf P11-hops;
-      place = record { latitude = record { 0 = pos 0 }; longitude = record { 0 = pos 0 }; blanks = 0; table = slash; code = dash };
-      messaging = false;
-      «mic_e» = noReport;
-      comment = record { at = 31; len = 0 };
+      header = record { from = made (0x58 ∷ []) []; to = made (0x59 ∷ []) []; path = pathOf P11-hops };
+      body = record {
+        kind = Position;
+        place = record { latitude = record { 0 = pos 0 }; longitude = record { 0 = pos 0 }; blanks = 0; table = slash; code = dash };
+        messaging = false;
+        report = noReport;
+        comment = record { at = 31; len = 0 };
+      };
     }
 
 pub P11-read : readText P11-line ≡ record { refusal = 0; «record» = P11-record }
 unfolding
-    readText packetAfter packetOf recordOf keptTo readBody openingOf bodyAfter positionBody readTextHeader readBefore
+    readText packetAfter packetOf recordOf keptTo readBody openingOf bodyAfter positionBody commentFrom readTextHeader readBefore
     readRoute withPath pathRead pathOf headerOf unlessRefused headerAccepted firstOf othersOf fields onFirst textHops hopThen
     before readHop isQ hopOf readCall readUnstarred parted callAccepted indexOf utf8 characters after within isZero made
     joined padTo carriedBack carried anyHeard readPosition isUncompressed isNumeric withLatitude withLongitude
@@ -60,7 +60,7 @@ P11-read = refl
 
 pub P11-written : textBytes P11-record [] ≡ P11-line
 unfolding
-    textBytes bytesOf bodyBytes positionBytes writtenHeader writtenTo positionText latitudeText longitudeText
+    textBytes bytesOf bodyBytes bytesAs positionBytes writtenHeader writtenTo toAs positionText latitudeText longitudeText
     blankedPlaces northOrSouth eastOrWest isMinus textOf placesOf digitsOf digitOf lastAs headerText routeText hopsText
     hopsOf anyHeard callText callPart ssidPart withStar made joined padTo pathOf
 P11-written = refl

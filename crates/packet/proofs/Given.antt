@@ -7,12 +7,12 @@ use mathlib.Core.List.{List}
 use Prim.Native.Nat.{ℕ, _+_, _≤_}
 use native.Mathlib.Omega.{arith}
 use lib.Dec.{eqb}
-use lib.ListN.{length, drop, length-drop}
+use lib.ListN.{length}
+use Rattle.laws.specs.Lists.{padTo, zeros}
 use Rattle.callsign.specs.declared.Callsign.{Callsign}
-use Rattle.callsign.specs.Text.{blankCall}
-use Rattle.callsign.specs.Range.{inRange}
-use Rattle.callsign.proofs.Made.{blank-range}
-use Rattle.header.specs.declared.Header.{Header}
+use Rattle.callsign.specs.Text.{made, joined, blankCall}
+use Rattle.callsign.specs.Range.{inRange, isBlankCall}
+use Rattle.callsign.proofs.Made.{blank-range as blank-call-range}
 use Rattle.header.specs.declared.HeaderRead.{HeaderRead}
 use Rattle.header.specs.Header.{blankHeader}
 use Rattle.header.specs.Text.{readTextHeader}
@@ -20,89 +20,94 @@ use Rattle.header.specs.Frame.{readFrameHeader}
 use Rattle.header.specs.Range.{headerInRange}
 use Rattle.header.proofs.Answers.{blank-header-range}
 use Rattle.header.proofs.InRange.{from-fine, to-fine, path-fine}
-use Rattle.header.proofs.Theorems.{text-is-in-range, frame-is-in-range, text-body-within, frame-body-within}
-use Rattle.mic_e.specs.Message.{messageNumber}
-use Rattle.packet.specs.declared.Kind.{Kind}
-use Rattle.packet.specs.declared.Kind.the-variants.{Unknown, Position, MicE}
-use Rattle.packet.specs.declared.Body.{Body}
+use Rattle.header.proofs.Theorems.{text-is-in-range, frame-is-in-range}
+use Rattle.body.specs.declared.Kind.{Kind}
+use Rattle.body.specs.declared.Kind.the-variants.{Unknown, Position, MicE}
+use Rattle.body.specs.declared.BodyRead.{BodyRead}
+use Rattle.body.specs.Body.{noComment, blankBody, readBody}
+use Rattle.body.specs.Range.{exceptedAs, isExcepted}
+use Rattle.body.proofs.Theorems.{read-comment-within, read-range, blank-range}
 use Rattle.packet.specs.declared.Record.{Record}
 use Rattle.packet.specs.declared.PacketRead.{PacketRead}
-use Rattle.packet.specs.Record.{blankRecord, packetRefused, headerOf, noReport, noComment}
-use Rattle.packet.specs.Range.{recordInRange, isExcepted, isNoPlace, isNoReport, unknownInRange, partsInRange}
-use Rattle.packet.specs.Body.{readBody}
-use Rattle.packet.specs.Packet.{keptTo, recordOf, packetOf, packetAfter, readText, readFrame}
-use Rattle.packet.proofs.Found.{Found, body-found}
+use Rattle.packet.specs.Record.{blankRecord, packetRefused}
+use Rattle.packet.specs.Range.{recordInRange}
+use Rattle.packet.specs.Packet.{headerTo, keptTo, recordOf, packetOf, packetAfter, readText, readFrame}
 
 -- ---- "A refused decode returns the blank record"
 
-of-blank : (h : Header) (b : Body) → (packetOf h b .refusal ≡ 0 → ⊥) → packetOf h b ≡ packetRefused (packetOf h b .refusal)
-unfolding packetOf packetRefused
-of-blank h b = go (eqb (b .refusal) 0)
-  where
-    go : (t : Bool) → (cond t (record { refusal = 0; «record» = recordOf h b }) (packetRefused (b .refusal)) .refusal ≡ 0 → ⊥)
-        → cond t (record { refusal = 0; «record» = recordOf h b }) (packetRefused (b .refusal))
-        ≡ packetRefused (cond t (record { refusal = 0; «record» = recordOf h b }) (packetRefused (b .refusal)) .refusal)
-    go true z = absurd (z refl)
-    go false z = refl
+-- a packet with the blank record at a refusal
+abbrev Blank : PacketRead → Type 0
+Blank p = (p .refusal ≡ 0 → ⊥) → p ≡ packetRefused (p .refusal)
 
-pub after-blank : (h : HeaderRead) (s : List ℕ) → (packetAfter h s .refusal ≡ 0 → ⊥) → packetAfter h s ≡ packetRefused (packetAfter h s .refusal)
-unfolding packetAfter packetRefused
+refused-blank : (t : Bool) (n : ℕ) (p : PacketRead) → Blank p → Blank (cond t p (packetRefused n))
+unfolding packetRefused
+refused-blank true n p f = f
+refused-blank false n p f = λ z. refl
+
+pub after-blank : (h : HeaderRead) (s : List ℕ) → Blank (packetAfter h s)
+unfolding packetAfter packetOf
 after-blank h s =
-    let b = readBody (h .header .to) (drop (h .body) s) (h .body) in
-    go (eqb (h .refusal) 0) (packetOf (h .header) b) (of-blank (h .header) b)
-  where
-    go : (t : Bool) (p : PacketRead) → ((p .refusal ≡ 0 → ⊥) → p ≡ packetRefused (p .refusal))
-        → (cond t p (packetRefused (h .refusal)) .refusal ≡ 0 → ⊥)
-        → cond t p (packetRefused (h .refusal)) ≡ packetRefused (cond t p (packetRefused (h .refusal)) .refusal)
-    go true p f z = f z
-    go false p f z = refl
+    let b = readBody (h .header .to) s (h .body) in
+    refused-blank (eqb (h .refusal) 0) (h .refusal) _ (refused-blank (eqb (b .refusal) 0) (b .refusal) (record { refusal = 0; «record» = recordOf (h .header) (b .body) }) (λ z. absurd (z refl)))
 
 -- ---- what is read is in range, but for the two cases
 
 kept-range : (k : Kind) (to : Callsign) → inRange to ≡ true → inRange (keptTo k to) ≡ true
-unfolding keptTo blankCall
+unfolding keptTo
 kept-range Unknown to e = e
 kept-range Position to e = e
-kept-range MicE to e = blank-range
+kept-range MicE to e = blank-call-range
+
+kept-blank : (k : Kind) (to : Callsign) → k ≡ MicE → isBlankCall (keptTo k to) ≡ true
+unfolding keptTo isBlankCall blankCall made joined padTo zeros
+kept-blank k to e = rw e
 
 -- a record that reading gives: its range, and its comment within so many bytes
 pub record Given (size : ℕ) (r : Record) : Type 0 where
-  pub range : recordInRange r ≡ not (isExcepted (r .kind) (r .place))
-  pub within : r .comment .at + r .comment .len ≤ size
+  pub range : recordInRange r ≡ not (isExcepted (r .body))
+  pub within : r .body .comment .at + r .body .comment .len ≤ size
 
-of-given : (h : Header) (b : Body) (size : ℕ) → headerInRange h ≡ true → Found (h .to) size b → Given size (recordOf h b)
-unfolding recordOf recordInRange headerOf headerInRange
-of-given h b size e f =
-    record {
-      range = rw (from-fine h e, kept-range (b .kind) (h .to) (to-fine h e), path-fine h e) (f .range);
-      within = f .within;
-    }
-
-header-blank : headerInRange (record { from = blankHeader .from; to = blankHeader .to; path = blankHeader .path }) ≡ true
-header-blank = blank-header-range
+blank-body : (size : ℕ) → (not (isExcepted blankBody) ≡ true) × (blankBody .comment .at + blankBody .comment .len ≤ size)
+unfolding blankBody noComment isExcepted exceptedAs
+blank-body size = (refl, omega arith)
 
 blank-given : (size : ℕ) → Given size blankRecord
-unfolding blankRecord noComment noReport recordInRange headerOf isExcepted partsInRange unknownInRange isNoPlace isNoReport messageNumber
-blank-given size = record { range = rw header-blank; within = omega arith }
+unfolding blankRecord recordInRange
+blank-given size = record { range = rw (blank-header-range, blank-range (blankHeader .to), blank-body size .0); within = blank-body size .1 }
 
-after-given : (h : HeaderRead) (s : List ℕ) → headerInRange (h .header) ≡ true → h .body ≤ length s → Given (length s) (packetAfter h s .«record»)
-unfolding packetAfter packetOf packetRefused
-after-given h s e m =
-    let b = readBody (h .header .to) (drop (h .body) s) (h .body) in
-    let f = body-found (h .header .to) (drop (h .body) s) (h .body) in
-    let n : h .body + length (drop (h .body) s) ≡ length s = omega (arith, length-drop (h .body) s) in
-    go (eqb (h .refusal) 0) (eqb (b .refusal) 0) b (of-given (h .header) b (length s) e (rw n at f))
-  where
-    go : (t u : Bool) (b : Body) → Given (length s) (recordOf (h .header) b)
-        → Given (length s) (cond t (cond u (record { refusal = 0; «record» = recordOf (h .header) b }) (packetRefused (b .refusal))) (packetRefused (h .refusal)) .«record»)
-    go true true b f = f
-    go true false b f = blank-given (length s)
-    go false u b f = blank-given (length s)
+module _ (h : HeaderRead) (s : List ℕ) (e : headerInRange (h .header) ≡ true) where
+  abbrev b : BodyRead
+  b = readBody (h .header .to) s (h .body)
+
+  abbrev kept : Callsign
+  kept = keptTo (b .body .kind) (h .header .to)
+
+  header-fine : headerInRange (headerTo (h .header) kept) ≡ true
+  unfolding headerInRange
+  header-fine = rw (from-fine (h .header) e, kept-range (b .body .kind) (h .header .to) (to-fine (h .header) e), path-fine (h .header) e)
+
+  made-given : Given (length s) (recordOf (h .header) (b .body))
+  unfolding recordOf recordInRange
+  made-given =
+      record {
+        range = rw header-fine (read-range (h .header .to) s (h .body) kept (kept-blank (b .body .kind) (h .header .to)));
+        within = read-comment-within (h .header .to) s (h .body);
+      }
+
+  pub after-given : Given (length s) (packetAfter h s .«record»)
+  unfolding packetAfter packetOf packetRefused
+  after-given = go (eqb (h .refusal) 0) (eqb (b .refusal) 0)
+    where
+      go : (t u : Bool)
+          → Given (length s) (cond t (cond u (record { refusal = 0; «record» = recordOf (h .header) (b .body) }) (packetRefused (b .refusal))) (packetRefused (h .refusal)) .«record»)
+      go true true = made-given
+      go true false = blank-given (length s)
+      go false u = blank-given (length s)
 
 pub text-given : (s : List ℕ) → Given (length s) (readText s .«record»)
 unfolding readText
-text-given s = after-given (readTextHeader s) s (text-is-in-range s) (text-body-within s)
+text-given s = after-given (readTextHeader s) s (text-is-in-range s)
 
 pub frame-given : (s : List ℕ) → Given (length s) (readFrame s .«record»)
 unfolding readFrame
-frame-given s = after-given (readFrameHeader s) s (frame-is-in-range s) (frame-body-within s)
+frame-given s = after-given (readFrameHeader s) s (frame-is-in-range s)

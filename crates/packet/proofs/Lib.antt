@@ -1,15 +1,8 @@
-pub mod Tests
-pub mod Longer
-pub mod Bodies
 pub mod Packets
-pub mod Writing
-pub mod Ranges
-pub mod Accepted
-pub mod Built
+pub mod Order
+pub mod Behind
 pub mod Lines
-pub mod Found
 pub mod Given
-pub mod ReadsBack
 pub mod Theorems
 pub mod Cases
 pub mod Unique

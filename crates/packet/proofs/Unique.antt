@@ -11,7 +11,6 @@ use Rattle.buffer.proofs.Wrote.{one-end}
 use Rattle.packet.specs.declared.Record.{Record}
 use Rattle.packet.specs.declared.PacketRead.{PacketRead}
 use Rattle.packet.specs.Record.{blankRecord}
-use Rattle.packet.specs.Range.{recordInRange}
 use Rattle.packet.specs.Packet.{readText, readFrame}
 use Rattle.packet.specs.Written.{textBytes, frameBytes, textRefusal, frameRefusal}
 
@@ -30,10 +29,13 @@ unique-read-text s r r′ = one-value r r′ (readText s)
 pub unique-read-frame : (s : List ℕ) (r r′ : PacketRead) → r ≡ readFrame s → r′ ≡ readFrame s → r ≡ r′
 unique-read-frame s r r′ = one-value r r′ (readFrame s)
 
-pub unique-in-range : (r : Record) (a a′ : Bool) → a ≡ recordInRange r → a′ ≡ recordInRange r → a ≡ a′
-unique-in-range r a a′ = one-value a a′ (recordInRange r)
-
 module _ (r : Record) (comment out : List ℕ) (a a′ : Answer) (o o′ : List ℕ) where
+  pub unique-write : (framed : Bool) → ends a o ≡ cond framed (wrote (frameRefusal r comment) (frameBytes r comment) out) (wrote (textRefusal r comment) (textBytes r comment) out)
+      → ends a′ o′ ≡ cond framed (wrote (frameRefusal r comment) (frameBytes r comment) out) (wrote (textRefusal r comment) (textBytes r comment) out)
+      → (a ≡ a′) × (o ≡ o′)
+  unique-write framed e e′ =
+      one-end a a′ o o′ (cond framed (wrote (frameRefusal r comment) (frameBytes r comment) out) (wrote (textRefusal r comment) (textBytes r comment) out)) e e′
+
   pub unique-write-text : ends a o ≡ wrote (textRefusal r comment) (textBytes r comment) out
       → ends a′ o′ ≡ wrote (textRefusal r comment) (textBytes r comment) out
       → (a ≡ a′) × (o ≡ o′)

@@ -1,5 +1,5 @@
 pub mod Record
 pub mod Range
-pub mod Body
 pub mod Packet
 pub mod Written
+pub mod Contracts

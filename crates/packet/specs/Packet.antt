@@ -5,20 +5,24 @@ use Prim.Native.Nat.{ℕ}
 use mathlib.Core.Bool.{cond}
 use mathlib.Core.List.{List}
 use lib.Dec.{eqb}
-use lib.ListN.{drop}
 use Rattle.callsign.specs.declared.Callsign.{Callsign}
 use Rattle.callsign.specs.Text.{blankCall}
 use Rattle.header.specs.declared.Header.{Header}
 use Rattle.header.specs.declared.HeaderRead.{HeaderRead}
 use Rattle.header.specs.Text.{readTextHeader}
 use Rattle.header.specs.Frame.{readFrameHeader}
-use Rattle.packet.specs.declared.Kind.{Kind}
-use Rattle.packet.specs.declared.Kind.the-variants.{Unknown, Position, MicE}
-use Rattle.packet.specs.declared.Body.{Body}
+use Rattle.body.specs.declared.Kind.{Kind}
+use Rattle.body.specs.declared.Kind.the-variants.{Unknown, Position, MicE}
+use Rattle.body.specs.declared.Body.{Body}
+use Rattle.body.specs.declared.BodyRead.{BodyRead}
+use Rattle.body.specs.Body.{readBody}
 use Rattle.packet.specs.declared.Record.{Record}
 use Rattle.packet.specs.declared.PacketRead.{PacketRead}
 use Rattle.packet.specs.Record.{packetRefused}
-use Rattle.packet.specs.Body.{readBody}
+
+-- a header with that destination
+abbrev pub headerTo : Header → Callsign → Header
+headerTo h to = record { from = h .from; to = to; path = h .path }
 
 -- "a Mic-E record has no destination"
 unfoldable pub keptTo : Kind → Callsign → Callsign
@@ -28,30 +32,17 @@ keptTo MicE to = blankCall
 
 -- the record of a header and a body
 unfoldable pub recordOf : Header → Body → Record
-recordOf h b =
-    record {
-      kind = b .kind;
-      from = h .from;
-      to = keptTo (b .kind) (h .to);
-      path = h .path;
-      place = b .place;
-      messaging = b .messaging;
-      «mic_e» = b .«mic_e»;
-      comment = b .comment;
-    }
+recordOf h b = record { header = headerTo h (keptTo (b .kind) (h .to)); body = b }
 
 -- a header that was read, and what its body gave
-unfoldable pub packetOf : Header → Body → PacketRead
-packetOf h b =
-    cond (eqb (b .refusal) 0)
-    (record { refusal = 0; «record» = recordOf h b })
-    (packetRefused (b .refusal))
+unfoldable pub packetOf : Header → BodyRead → PacketRead
+packetOf h b = cond (eqb (b .refusal) 0) (record { refusal = 0; «record» = recordOf h (b .body) }) (packetRefused (b .refusal))
 
 -- what stands behind a header, to the input's end, is the body
 unfoldable pub packetAfter : HeaderRead → List ℕ → PacketRead
 packetAfter h s =
     cond (eqb (h .refusal) 0)
-    (packetOf (h .header) (readBody (h .header .to) (drop (h .body) s) (h .body)))
+    (packetOf (h .header) (readBody (h .header .to) s (h .body)))
     (packetRefused (h .refusal))
 
 -- a line of text

@@ -1,5 +1,5 @@
 -- The body is what follows the header. Assumes nothing.
-use Rattle.packet.proofs.Packets.{header-refused, header-read}
+use Rattle.packet.proofs.Packets.{header-refused, body-refused, packet-made}
 use borrow.Author.Needs.{needs}
 use Rattle.packet.proofs.packet_after.Statement.{statement}
 use Rattle.packet.proofs.packet_after.Tie as tie
@@ -10,23 +10,20 @@ refused-requires c κs = search needs
 returns : tie.Need-returns
 returns c = search header-refused
 
-sub-read-body : tie.Need-sub-read-body
-sub-read-body c = search needs
+read-requires : tie.Need-read-requires
+read-requires c κs = search needs
 
-part-read-body-start : tie.Need-part-read-body-start
-part-read-body-start c = search needs
-
-part-read-body-end : tie.Need-part-read-body-end
-part-read-body-end c = search needs
-
-read-body-requires : tie.Need-read-body-requires
-read-body-requires c κs = search needs
-
-packet-of-requires : tie.Need-packet-of-requires
-packet-of-requires c κs = search needs
+refused-requires-2 : tie.Need-refused-requires-2
+refused-requires-2 c κs = search needs
 
 returns-2 : tie.Need-returns-2
-returns-2 c = search header-read
+returns-2 c = search body-refused
+
+record-of-requires : tie.Need-record-of-requires
+record-of-requires c κs = search needs
+
+returns-3 : tie.Need-returns-3
+returns-3 c = search packet-made
 
 pub packet-after-spec : {M : Type 1} → statement M
 packet-after-spec =
@@ -34,9 +31,8 @@ packet-after-spec =
     (tie.spec
     refused-requires
     returns
-    sub-read-body
-    part-read-body-start
-    part-read-body-end
-    read-body-requires
-    packet-of-requires
-    returns-2)
+    read-requires
+    refused-requires-2
+    returns-2
+    record-of-requires
+    returns-3)

@@ -1,5 +1,5 @@
 -- The header of a frame or of a line, and what follows it. Assumes nothing.
-use Rattle.packet.proofs.Packets.{either-within, either-read}
+use Rattle.packet.proofs.Packets.{either-read}
 use borrow.Author.Needs.{needs}
 use Rattle.packet.proofs.read.Statement.{statement}
 use Rattle.packet.proofs.read.Tie as tie
@@ -8,7 +8,7 @@ header-in-requires : tie.Need-header-in-requires
 header-in-requires c κs = search needs
 
 packet-after-requires : tie.Need-packet-after-requires
-packet-after-requires c κs = search either-within
+packet-after-requires c κs = search needs
 
 returns : tie.Need-returns
 returns c = search either-read
