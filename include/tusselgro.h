@@ -37,13 +37,14 @@ enum {
     TUSSELGRO_CALLSIGN = 3,            /* a callsign or hop is malformed */
     TUSSELGRO_CALLSIGN_TOO_LONG = 4,   /* callsign text over 16 bytes */
     TUSSELGRO_TOO_MANY_HOPS = 5,       /* a ninth hop */
-    TUSSELGRO_Q_ELEMENT = 6,           /* a textual hop of three bytes that starts qA */
-    TUSSELGRO_NOT_CARRIED = 7,         /* body starts ':' '>' '/' '@', or '!' '=' with a compressed position */
-    TUSSELGRO_LATITUDE = 8,            /* latitude */
-    TUSSELGRO_LONGITUDE = 9,           /* longitude */
+    TUSSELGRO_Q_ELEMENT = 6,           /* a Q element: a textual hop of three bytes that starts qA */
+    TUSSELGRO_NOT_CARRIED = 7,         /* not carried: body starts ':' '>' '/' '@', or '!' '=' with a compressed
+                                          position */
+    TUSSELGRO_LATITUDE = 8,            /* latitude cannot be read */
+    TUSSELGRO_LONGITUDE = 9,           /* longitude cannot be read */
     TUSSELGRO_POSITION_TOO_SHORT = 10, /* position under 19 bytes after its type byte */
-    TUSSELGRO_MIC_E_DESTINATION = 11,  /* Mic-E destination */
-    TUSSELGRO_MIC_E_INFORMATION = 12,  /* Mic-E information */
+    TUSSELGRO_MIC_E_DESTINATION = 11,  /* Mic-E destination cannot be read */
+    TUSSELGRO_MIC_E_INFORMATION = 12,  /* Mic-E information cannot be read */
     TUSSELGRO_NOT_AX25 = 13,           /* callsign cannot go into AX.25 */
     TUSSELGRO_UNKNOWN_KIND = 14,       /* record of Unknown kind to be written */
     TUSSELGRO_OUT_OF_RANGE = 15,       /* record, angle, blanks or list target out of range */
