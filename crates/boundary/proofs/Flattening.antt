@@ -5,33 +5,33 @@ use Prim.Native.Nat.{ℕ}
 use lib.IntN.{ℤ}
 use Rattle.mic_e.specs.declared.Message.{Message}
 use Rattle.mic_e.specs.Message.{messageNumber}
-use Rattle.packet.specs.declared.Kind.{Kind}
+use Rattle.body.specs.declared.Kind.{Kind}
 use Rattle.packet.specs.declared.Record.{Record}
 use Rattle.packet.specs.declared.PacketRead.{PacketRead}
 use Rattle.boundary.specs.declared.Flat.{Flat}
 use Rattle.boundary.specs.Numbers.{kindNumber, kindAt, messageAt}
 use Rattle.boundary.specs.Flat.{flatOf, readOf, standsFor}
 
-pub flat-made : (r : Record) (kind message : ℕ) (latitude longitude : ℤ) → kind ≡ kindNumber (r .kind) → message ≡ messageNumber (r .«mic_e» .message)
-    → latitude ≡ r .place .latitude .0
-    → longitude ≡ r .place .longitude .0
+pub flat-made : (r : Record) (kind message : ℕ) (latitude longitude : ℤ) → kind ≡ kindNumber (r .body .kind) → message ≡ messageNumber (r .body .report .message)
+    → latitude ≡ r .body .place .latitude .0
+    → longitude ≡ r .body .place .longitude .0
     → record {
       kind = kind;
-      messaging = r .messaging;
-      current = r .«mic_e» .current;
+      messaging = r .body .messaging;
+      current = r .body .report .current;
       message = message;
-      blanks = r .place .blanks;
-      table = r .place .table;
-      code = r .place .code;
+      blanks = r .body .place .blanks;
+      table = r .body .place .table;
+      code = r .body .place .code;
       latitude = latitude;
       longitude = longitude;
-      speed = r .«mic_e» .speed .0;
-      course = r .«mic_e» .course .0;
-      «comment_at» = r .comment .at;
-      «comment_len» = r .comment .len;
-      from = r .from;
-      to = r .to;
-      path = r .path;
+      speed = r .body .report .speed .0;
+      course = r .body .report .course .0;
+      «comment_at» = r .body .comment .at;
+      «comment_len» = r .body .comment .len;
+      from = r .header .from;
+      to = r .header .to;
+      path = r .header .path;
     }
     ≡ flatOf r
 unfolding flatOf
@@ -45,20 +45,20 @@ pub stands-made : (f : Flat) (kind : Kind) (message : Message) (latitude longitu
     → latitude ≡ f .latitude
     → longitude ≡ f .longitude
     → record {
-      kind = kind;
-      from = f .from;
-      to = f .to;
-      path = f .path;
-      place = record {
-        latitude = record { 0 = latitude };
-        longitude = record { 0 = longitude };
-        blanks = f .blanks;
-        table = f .table;
-        code = f .code;
+      header = record { from = f .from; to = f .to; path = f .path };
+      body = record {
+        kind = kind;
+        place = record {
+          latitude = record { 0 = latitude };
+          longitude = record { 0 = longitude };
+          blanks = f .blanks;
+          table = f .table;
+          code = f .code;
+        };
+        messaging = f .messaging;
+        report = record { message = message; speed = record { 0 = f .speed }; course = record { 0 = f .course }; current = f .current };
+        comment = record { at = f .«comment_at»; len = f .«comment_len» };
       };
-      messaging = f .messaging;
-      «mic_e» = record { message = message; speed = record { 0 = f .speed }; course = record { 0 = f .course }; current = f .current };
-      comment = record { at = f .«comment_at»; len = f .«comment_len» };
     }
     ≡ standsFor f
 unfolding standsFor

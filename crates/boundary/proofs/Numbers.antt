@@ -10,8 +10,8 @@ use lib.ListN.{length, getD}
 use Rattle.mic_e.specs.declared.Message.{Message}
 use Rattle.mic_e.specs.declared.Message.the-variants.{M0, M1, M2, M3, M4, M5, M6, C0, C1, C2, C3, C4, C5, C6, Emergency, Unknown}
 use Rattle.mic_e.specs.Message.{messageNumber}
-use Rattle.packet.specs.declared.Kind.{Kind}
-use Rattle.packet.specs.declared.Kind.the-variants as kind
+use Rattle.body.specs.declared.Kind.{Kind}
+use Rattle.body.specs.declared.Kind.the-variants as kind
 use Rattle.boundary.specs.Numbers.{kindNumber, mostKind, mostMessage, kindAt, messageAt}
 
 -- ---- from a number

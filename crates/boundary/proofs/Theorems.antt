@@ -10,8 +10,9 @@ use Rattle.callsign.specs.Text.{blankCall, made, joined}
 use Rattle.header.specs.declared.Hop.{Hop}
 use Rattle.header.specs.Header.{blankHeader, headerOf, pathOf, blankHop}
 use Rattle.mic_e.specs.Message.{messageNumber}
+use Rattle.body.specs.Body.{noReport, noComment, blankBody}
 use Rattle.packet.specs.declared.Record.{Record}
-use Rattle.packet.specs.Record.{blankRecord, noReport, noComment}
+use Rattle.packet.specs.Record.{blankRecord}
 use Rattle.boundary.specs.declared.Flat.{Flat}
 use Rattle.boundary.specs.Numbers.{kindNumber}
 use Rattle.boundary.specs.Flat.{flatOf, isKnown, standsFor}
@@ -20,7 +21,7 @@ use Rattle.boundary.proofs.Numbers.{kind-kept, message-kept}
 -- a record made flat stands for itself, whatever it holds: nothing is lost
 pub back-again : (r : Record) → standsFor (flatOf r) ≡ r
 unfolding standsFor flatOf
-back-again r = rw (kind-kept (r .kind) .0, message-kept (r .«mic_e» .message) .0)
+back-again r = rw (kind-kept (r .body .kind) .0, message-kept (r .body .report .message) .0)
 
 -- so two records that are the same to C are the same
 pub flat-apart : (r s : Record) → flatOf r ≡ flatOf s → r ≡ s
@@ -29,7 +30,7 @@ flat-apart r s e = sym (back-again r) ∙ ap (λ (f : Flat). standsFor f) e ∙ 
 -- what was read is known to a writer
 pub flat-known : (r : Record) → isKnown (flatOf r) ≡ true
 unfolding isKnown flatOf
-flat-known r = rw (kind-kept (r .kind) .1, message-kept (r .«mic_e» .message) .1)
+flat-known r = rw (kind-kept (r .body .kind) .1, message-kept (r .body .report .message) .1)
 
 abbrev pub noCall : Callsign
 noCall = record { text = replicate 16 0; «call_len» = 0; «ssid_len» = 0 }
@@ -61,7 +62,7 @@ allZero =
 
 -- "A refused decode returns the blank record: Unknown kind, all lengths and numbers 0."
 pub blank-is-zeros : flatOf blankRecord ≡ allZero
-unfolding flatOf blankRecord noReport noComment kindNumber messageNumber blankHeader headerOf pathOf blankHop blankCall made joined padTo
+unfolding flatOf blankRecord blankBody noReport noComment kindNumber messageNumber blankHeader headerOf pathOf blankHop blankCall made joined padTo
 blank-is-zeros = refl
 
 pub zeros-are-blank : standsFor allZero ≡ blankRecord

@@ -19,22 +19,22 @@ use Rattle.boundary.specs.Numbers.{kindNumber, kindAt, messageAt, mostKi
 unfoldable pub flatOf : Record → Flat
 flatOf r =
     record {
-      kind = kindNumber (r .kind);
-      messaging = r .messaging;
-      current = r .«mic_e» .current;
-      message = messageNumber (r .«mic_e» .message);
-      blanks = r .place .blanks;
-      table = r .place .table;
-      code = r .place .code;
-      latitude = r .place .latitude .0;
-      longitude = r .place .longitude .0;
-      speed = r .«mic_e» .speed .0;
-      course = r .«mic_e» .course .0;
-      «comment_at» = r .comment .at;
-      «comment_len» = r .comment .len;
-      from = r .from;
-      to = r .to;
-      path = r .path;
+      kind = kindNumber (r .body .kind);
+      messaging = r .body .messaging;
+      current = r .body .report .current;
+      message = messageNumber (r .body .report .message);
+      blanks = r .body .place .blanks;
+      table = r .body .place .table;
+      code = r .body .place .code;
+      latitude = r .body .place .latitude .0;
+      longitude = r .body .place .longitude .0;
+      speed = r .body .report .speed .0;
+      course = r .body .report .course .0;
+      «comment_at» = r .body .comment .at;
+      «comment_len» = r .body .comment .len;
+      from = r .header .from;
+      to = r .header .to;
+      path = r .header .path;
     }
 
 -- the refusal, and the record
@@ -47,25 +47,25 @@ readOf p = record { refusal = p .refusal; flat = flatOf (p .«record») }
 unfoldable pub standsFor : Flat → Record
 standsFor f =
     record {
-      kind = kindAt (f .kind);
-      from = f .from;
-      to = f .to;
-      path = f .path;
-      place = record {
-        latitude = record { 0 = f .latitude };
-        longitude = record { 0 = f .longitude };
-        blanks = f .blanks;
-        table = f .table;
-        code = f .code;
+      header = record { from = f .from; to = f .to; path = f .path };
+      body = record {
+        kind = kindAt (f .kind);
+        place = record {
+          latitude = record { 0 = f .latitude };
+          longitude = record { 0 = f .longitude };
+          blanks = f .blanks;
+          table = f .table;
+          code = f .code;
+        };
+        messaging = f .messaging;
+        report = record {
+          message = messageAt (f .message);
+          speed = record { 0 = f .speed };
+          course = record { 0 = f .course };
+          current = f .current;
+        };
+        comment = record { at = f .«comment_at»; len = f .«comment_len» };
       };
-      messaging = f .messaging;
-      «mic_e» = record {
-        message = messageAt (f .message);
-        speed = record { 0 = f .speed };
-        course = record { 0 = f .course };
-        current = f .current;
-      };
-      comment = record { at = f .«comment_at»; len = f .«comment_len» };
     }
 
 -- a kind and a message of those numbers exist

@@ -11,18 +11,20 @@ ghost use Rattle.packet.specs.Packet.{readText, readFrame};
 ghost use Rattle.packet.specs.Written.{textBytes, frameBytes};
 ghost use Rattle.boundary.specs.Numbers.{kindNumber, kindAt, messageAt};
 ghost use Rattle.boundary.specs.Flat.{flatOf, readOf, isKnown, standsFor, flatTextRefusal, flatFrameRefusal};
+use body::Body;
+use body::Comment;
+use body::Kind;
+use body::Report;
 use callsign::Callsign;
+use header::Header;
 use header::Path;
 use lonlat::Latitude;
 use lonlat::Longitude;
 use mic_e::Course;
 use mic_e::Message;
 use mic_e::Speed;
-use packet::Comment;
-use packet::Kind;
 use packet::PacketRead;
 use packet::Record;
-use packet::Report;
 use position::BoundsAnswer;
 use position::PageBox;
 use position::Place;
@@ -105,23 +107,25 @@ fn message_at(n: u8) -> Message
 fn flattened(r: Record) -> Flat
     ensures { λ a. ⌜ a ≡ flatOf r ⌝ }
 {
-    let k = r.kind;
+    let header = r.header;
+    let body = r.body;
+    let k = body.kind;
     let kind = kind_number(k);
-    let place = r.place;
+    let place = body.place;
     let latitude = place.latitude;
     let longitude = place.longitude;
-    let report = r.mic_e;
+    let report = body.report;
     let m = report.message;
     let message = mic_e::message_number(m);
     let speed = report.speed;
     let course = report.course;
-    let comment = r.comment;
-    let from = r.from;
-    let to = r.to;
-    let path = r.path;
+    let comment = body.comment;
+    let from = header.from;
+    let to = header.to;
+    let path = header.path;
     Flat {
         kind,
-        messaging: r.messaging,
+        messaging: body.messaging,
         current: report.current,
         message,
         blanks: place.blanks,
@@ -167,6 +171,7 @@ fn stands_for(r: Flat) -> Record
     let from = r.from;
     let to = r.to;
     let path = r.path;
+    let header = Header { from, to, path };
     let place = Place {
         latitude: Latitude(r.latitude),
         longitude: Longitude(r.longitude),
@@ -174,26 +179,24 @@ fn stands_for(r: Flat) -> Record
         table: r.table,
         code: r.code,
     };
-    let mic_e = Report {
-        message,
+    let report = Report {
         speed: Speed(r.speed),
         course: Course(r.course),
+        message,
         current: r.current,
     };
     let comment = Comment {
         at: r.comment_at,
         len: r.comment_len,
     };
-    Record {
-        kind,
-        from,
-        to,
-        path,
+    let body = Body {
         place,
-        messaging: r.messaging,
-        mic_e,
+        report,
         comment,
-    }
+        messaging: r.messaging,
+        kind,
+    };
+    Record { header, body }
 }
 
 // ---- packets

@@ -12,13 +12,7 @@ message-number-requires : tie.Need-message-number-requires
 message-number-requires c κs = search needs
 
 returns : tie.Need-returns
-returns c =
-    let k = c .before .before .before .before .before .before .before .before .before .before .before .before .before .kind-number in
-    let m = c .before .before .before .before .before .before .before .before .message-number in
-    let r = c .before .before .before .before .before .before .before .before .before .before .before .before .before .before .args .r in
-    flat-made r (k .result) (m .result) _ _ (k .ensures) (m .ensures)
-    (back (r .place .latitude .0) (record { sfits = search needs }))
-    (back (r .place .longitude .0) (record { sfits = search needs }))
+returns c = search (flat-made, back, needs)
 
 pub flattened-spec : {M : Type 1} → statement M
 flattened-spec = tie.close (tie.spec kind-number-requires message-number-requires returns)

@@ -1,6 +1,6 @@
 -- The kinds by number; any other is Unknown. Assumes nothing.
 use mathlib.Core.Path.{refl}
-use Rattle.packet.specs.declared.Kind.the-variants.{Position, MicE}
+use Rattle.body.specs.declared.Kind.the-variants.{Position, MicE}
 use Rattle.boundary.specs.Numbers.{kindAt}
 use Rattle.boundary.proofs.Numbers.{told, no-kind}
 use Rattle.boundary.proofs.kind_at.Statement.{statement}

@@ -12,13 +12,7 @@ message-at-requires : tie.Need-message-at-requires
 message-at-requires c κs = search needs
 
 returns : tie.Need-returns
-returns c =
-    let k = c .before .before .before .before .before .before .kind-at in
-    let m = c .before .before .before .before .before .message-at in
-    let r = c .before .before .before .before .before .before .before .args .r in
-    stands-made r (k .result) (m .result) _ _ (k .ensures) (m .ensures)
-    (back (r .latitude) (record { sfits = search needs }))
-    (back (r .longitude) (record { sfits = search needs }))
+returns c = search (stands-made, back, needs)
 
 pub stands-for-spec : {M : Type 1} → statement M
 stands-for-spec = tie.close (tie.spec kind-at-requires message-at-requires returns)
