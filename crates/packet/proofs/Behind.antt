@@ -18,7 +18,8 @@ use Rattle.header.specs.Text.{headerText}
 use Rattle.header.specs.Frame.{headerFrame}
 use Rattle.header.specs.Range.{headerInRange, textRefusal as headerTextRefusal, frameRefusal as headerFrameRefusal}
 use Rattle.header.proofs.Theorems.{text-at-most-178, frame-at-most-72}
-use Rattle.packet.specs.Written.{most, orElse}
+use Rattle.header.specs.Header.{mostBytes}
+use Rattle.packet.specs.Written.{orElse}
 use Rattle.packet.specs.Contracts.{headBytes, headRefusal, wroteBehind}
 use Rattle.packet.proofs.Order.{or-first, or-none}
 
@@ -58,8 +59,8 @@ module _ (framed : Bool) (h : Header) (w : Answer) (head : List ℕ) (e : ends w
   unfolding wroteBehind
   behind-refused body comment out a z f =
       let bytes = (headBytes framed h ++ body) ++ comment in
-      passed-on a (w .refusal) (orElse (headRefusal framed h) (overBy most bytes)) bytes out f z
-      (ap (λ (n : ℕ). orElse n (overBy most bytes)) (sym says) ∙ or-first (w .refusal) (overBy most bytes) z)
+      passed-on a (w .refusal) (orElse (headRefusal framed h) (overBy mostBytes bytes)) bytes out f z
+      (ap (λ (n : ℕ). orElse n (overBy mostBytes bytes)) (sym says) ∙ or-first (w .refusal) (overBy mostBytes bytes) z)
 
   module _ (z : w .refusal ≡ 0) (body : List ℕ) (short : length body ≤ 20) (later : List ℕ) (m : ℕ) (p : filled later m ≡ added (filled head (w .reported)) body) where
     none : headRefusal framed h ≡ 0
@@ -93,7 +94,7 @@ module _ (framed : Bool) (h : Header) (w : Answer) (head : List ℕ) (e : ends w
     pub behind-long : m ≡ length (take m later)
     behind-long = sym (length-take-le m later behind-within)
 
-    pub behind-written : (comment out last : List ℕ) (a : Answer) → ends a last ≡ wrote (overBy most (take m later ++ comment)) (take m later ++ comment) out
+    pub behind-written : (comment out last : List ℕ) (a : Answer) → ends a last ≡ wrote (overBy mostBytes (take m later ++ comment)) (take m later ++ comment) out
         → ends a last ≡ wroteBehind framed h body comment out
     unfolding wroteBehind
     behind-written comment out last a f = rw (or-none (headRefusal framed h) _ none, ← front) f

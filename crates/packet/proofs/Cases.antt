@@ -11,9 +11,9 @@ use Rattle.laws.specs.Lists.{indexOf, every, padTo}
 use Rattle.callsign.specs.Utf8.{after, characters, utf8}
 use Rattle.callsign.specs.Text.{joined, made, isZero, callAccepted, parted, readUnstarred, readText as readCall}
 use Rattle.callsign.specs.Range.{callPart, ssidPart, textOf as callText, withStar}
-use Rattle.header.specs.Header.{pathOf, hopsOf, headerOf, headerAccepted, unlessRefused, before, pathRead}
-use Rattle.header.specs.Text.{onFirst, fields, firstOf, othersOf, isQ, hopOf, readHop, hopThen, textHops, anyHeard, carried, carriedBack}
-use Rattle.header.specs.Text.{withPath, readRoute, readBefore, readTextHeader, hopsText, routeText, headerText}
+use Rattle.header.specs.Header.{pathOf, hopsOf, headerOf, headerAccepted, unlessRefused, before, withHops}
+use Rattle.header.specs.Text.{onFirst, fields, firstOf, othersOf, isQ, hopOf, readHop, hopThen, textHops, starsOf, anyHeard, carried}
+use Rattle.header.specs.Text.{readRoute, readBefore, readHeaderText, readTextHeader, hopsText, routeText, headerText}
 use Rattle.header.proofs.Theorems.{P11-text, P11-hops}
 use Rattle.numbers.specs.Sign.{signedOf, isMinus}
 use Rattle.lonlat.specs.Digits.{lastAs, degreesOf, minutesOf, hundredthsOf, valueOf, sizeOf, fits, angleIn, placesOf, textOf}
@@ -50,10 +50,10 @@ P11-record =
 
 pub P11-read : readText P11-line ≡ record { refusal = 0; «record» = P11-record }
 unfolding
-    readText packetAfter packetOf recordOf keptTo readBody openingOf bodyAfter positionBody commentFrom readTextHeader readBefore
-    readRoute withPath pathRead pathOf headerOf unlessRefused headerAccepted firstOf othersOf fields onFirst textHops hopThen
+    readText packetAfter packetOf recordOf keptTo readBody openingOf bodyAfter positionBody commentFrom readTextHeader readHeaderText
+    readBefore readRoute withHops starsOf pathOf headerOf unlessRefused headerAccepted firstOf othersOf fields onFirst textHops hopThen
     before readHop isQ hopOf readCall readUnstarred parted callAccepted indexOf utf8 characters after within isZero made
-    joined padTo carriedBack carried anyHeard readPosition isUncompressed isNumeric withLatitude withLongitude
+    joined padTo carried anyHeard readPosition isUncompressed isNumeric withLatitude withLongitude
     readLatitude latitudeIn latitudeWith readLongitude longitudeIn longitudeWith blanksIn restBlank countedDigits every
     lastAs numberAfter numberOf degreesOf minutesOf hundredthsOf valueOf sizeOf fits angleIn signedOf
 P11-read = refl

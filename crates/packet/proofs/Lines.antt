@@ -17,7 +17,8 @@ use Rattle.body.specs.Written.{bodyBytes, writeBody}
 use Rattle.body.proofs.Theorems.{fixed-at-most-20, fixed-bytes}
 use Rattle.packet.specs.declared.Record.{Record}
 use Rattle.packet.specs.Packet.{headerTo}
-use Rattle.packet.specs.Written.{most, writtenHeader, bytesOf, textBytes, frameBytes, orElse, recordRefusal, textRefusal, frameRefusal}
+use Rattle.header.specs.Header.{mostBytes}
+use Rattle.packet.specs.Written.{writtenHeader, bytesOf, textBytes, frameBytes, orElse, recordRefusal, textRefusal, frameRefusal}
 use Rattle.packet.specs.Contracts.{headBytes, headRefusal, wroteBehind}
 use Rattle.packet.proofs.Order.{or-first, header-in, record-refuses, body-fine, header-left, frame-first}
 
@@ -66,6 +67,6 @@ module _ (r : Record) (b : BodyWritten) (h : Header) (q : b ≡ writeBody (r .bo
     pub body-written : (framed : Bool) (comment out : List ℕ) (w : Wrote) → w ≡ wroteBehind framed h (take (b .len) (b .bytes)) comment out → w ≡ written framed r comment out
     unfolding wroteBehind headRefusal headBytes frameRefusal textRefusal frameBytes textBytes bytesOf
     body-written true comment out w e =
-        let n = overBy most ((headerFrame (writtenHeader r) ++ bodyBytes (r .body)) ++ comment) in
+        let n = overBy mostBytes ((headerFrame (writtenHeader r) ++ bodyBytes (r .body)) ++ comment) in
         e ∙ rw (header-is, bytes-are, header-left r accepted, frame-first (writtenHeader r) n)
     body-written false comment out w e = e ∙ rw (header-is, bytes-are, header-left r accepted)

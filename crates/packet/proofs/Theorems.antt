@@ -15,7 +15,8 @@ use Rattle.packet.specs.declared.Record.{Record}
 use Rattle.packet.specs.Record.{packetRefused}
 use Rattle.packet.specs.Range.{recordInRange, rangeRefusal}
 use Rattle.packet.specs.Packet.{readText, readFrame}
-use Rattle.packet.specs.Written.{most, writtenHeader, textBytes, frameBytes, orElse, recordRefusal, textRefusal, frameRefusal}
+use Rattle.header.specs.Header.{mostBytes}
+use Rattle.packet.specs.Written.{writtenHeader, textBytes, frameBytes, orElse, recordRefusal, textRefusal, frameRefusal}
 use Rattle.packet.proofs.Order.{or-or}
 use Rattle.packet.proofs.Given.{Given, after-blank, text-given, frame-given}
 
@@ -62,16 +63,16 @@ module _ {size : ℕ} {r : Record} (g : Given size r) where
 
 pub text-unwritten : (s comment : List ℕ) → textRefusal (readText s .«record») comment
     ≡ orElse (cond (isExcepted (readText s .«record» .body)) 15 0)
-    (orElse (kindRefusal (readText s .«record» .body .kind)) (overBy most (textBytes (readText s .«record») comment)))
+    (orElse (kindRefusal (readText s .«record» .body .kind)) (overBy mostBytes (textBytes (readText s .«record») comment)))
 unfolding textRefusal
-text-unwritten s comment = given-refusal (text-given s) (overBy most (textBytes (readText s .«record») comment))
+text-unwritten s comment = given-refusal (text-given s) (overBy mostBytes (textBytes (readText s .«record») comment))
 
 -- the same of a frame, where 13 stands before 1
 pub frame-unwritten : (s comment : List ℕ) → frameRefusal (readFrame s .«record») comment
     ≡ orElse (cond (isExcepted (readFrame s .«record» .body)) 15 0)
     (orElse (kindRefusal (readFrame s .«record» .body .kind))
-    (orElse (headerFrameRefusal (writtenHeader (readFrame s .«record»))) (overBy most (frameBytes (readFrame s .«record») comment))))
+    (orElse (headerFrameRefusal (writtenHeader (readFrame s .«record»))) (overBy mostBytes (frameBytes (readFrame s .«record») comment))))
 unfolding frameRefusal
 frame-unwritten s comment =
     let r = readFrame s .«record» in
-    given-refusal (frame-given s) (orElse (headerFrameRefusal (writtenHeader r)) (overBy most (frameBytes r comment)))
+    given-refusal (frame-given s) (orElse (headerFrameRefusal (writtenHeader r)) (overBy mostBytes (frameBytes r comment)))

@@ -8,7 +8,8 @@ use Rattle.header.specs.declared.Header.{Header}
 use Rattle.header.specs.Text.{headerText}
 use Rattle.header.specs.Frame.{headerFrame}
 use Rattle.header.specs.Range.{textRefusal as headerTextRefusal, frameRefusal as headerFrameRefusal}
-use Rattle.packet.specs.Written.{orElse, most}
+use Rattle.header.specs.Header.{mostBytes}
+use Rattle.packet.specs.Written.{orElse}
 
 -- a header's bytes in a frame or in a line
 unfoldable pub headBytes : Bool → Header → List ℕ
@@ -22,4 +23,4 @@ headRefusal framed h = cond framed (headerFrameRefusal h) (headerTextRefusal h)
 unfoldable pub wroteBehind : Bool → Header → List ℕ → List ℕ → List ℕ → Wrote
 wroteBehind framed h body comment out =
     let bytes = (headBytes framed h ++ body) ++ comment in
-    wrote (orElse (headRefusal framed h) (overBy most bytes)) bytes out
+    wrote (orElse (headRefusal framed h) (overBy mostBytes bytes)) bytes out

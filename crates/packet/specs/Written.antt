@@ -5,6 +5,7 @@ use Prim.Native.Nat.{ℕ, zero, suc}
 use mathlib.Core.List.{List, _++_}
 use Rattle.buffer.specs.Wrote.{overBy}
 use Rattle.header.specs.declared.Header.{Header}
+use Rattle.header.specs.Header.{mostBytes}
 use Rattle.header.specs.Text.{headerText}
 use Rattle.header.specs.Frame.{headerFrame}
 use Rattle.header.specs.Range.{frameRefusal as headerFrameRefusal}
@@ -42,15 +43,11 @@ orElse (suc k) n = suc k
 unfoldable pub recordRefusal : Record → ℕ
 recordRefusal r = orElse (rangeRefusal r) (kindRefusal (r .body .kind))
 
--- "a line or frame is at most 512 bytes"
-abbrev pub most : ℕ
-most = 512
-
 -- 15, 14, 1
 unfoldable pub textRefusal : Record → List ℕ → ℕ
-textRefusal r comment = orElse (recordRefusal r) (overBy most (textBytes r comment))
+textRefusal r comment = orElse (recordRefusal r) (overBy mostBytes (textBytes r comment))
 
 -- a header in range that cannot go into AX.25 is 13
 unfoldable pub frameRefusal : Record → List ℕ → ℕ
 frameRefusal r comment =
-    orElse (recordRefusal r) (orElse (headerFrameRefusal (writtenHeader r)) (overBy most (frameBytes r comment)))
+    orElse (recordRefusal r) (orElse (headerFrameRefusal (writtenHeader r)) (overBy mostBytes (frameBytes r comment)))
