@@ -1,6 +1,6 @@
+pub mod Fits
 pub mod Rows
 pub mod Calls
 pub mod Hops
-pub mod Fits
 pub mod Theorems
 pub mod Unique

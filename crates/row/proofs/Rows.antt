@@ -1,25 +1,20 @@
 -- Laws of a row: its fields put one behind the other, by their kind, and that a row of 142 bytes holds them all.
 -- Assumes nothing.
 use mathlib.Core.Path.{_≡_, refl, sym, ap, _∙_}
-use mathlib.Core.Bool.{Bool, true, false, cond}
-use mathlib.Core.List.{List, [], _∷_, _++_}
-use Prim.Native.Nat.{ℕ, _+_, _^_, _<_, _≤_}
-use native.Mathlib.Omega.{arith}
-use borrow.Author.Tests.{eq-eqb, ne-eqb, eqb-true}
-use lib.Dec.{eqb}
+use mathlib.Core.List.{List, [], _∷_}
+use Prim.Native.Nat.{ℕ, _≤_}
+use borrow.Author.Tests.{eq-eqb, ne-eqb}
 use lib.IntN.{ℤ}
-use lib.ListN.{length, take, length-append}
+use lib.ListN.{length, take}
 use mir.Syntax.{w32}
 use mir.Val.{SFits, toZ, ofZ}
 use Rattle.laws.specs.Bytes.{space, dash, lineFeed, digit0}
-use Rattle.laws.specs.Lists.{together}
 use Rattle.buffer.specs.declared.Answer.{Answer}
 use Rattle.buffer.specs.Wrote.{ends, wrote}
-use Rattle.buffer.specs.Filled.{Filled, filled, frontOf, added, addedAll}
-use Rattle.buffer.proofs.Filled.{two-added, all-then, all-front}
+use Rattle.buffer.specs.Filled.{Filled, filled, added, addedAll}
+use Rattle.buffer.proofs.Filled.{two-added, all-then}
 use Rattle.numbers.specs.Numbers.{digits, decimal}
 use Rattle.numbers.proofs.Sign.{back}
-use Rattle.numbers.proofs.Digits.{count-width, number-width}
 use Rattle.callsign.specs.declared.Callsign.{Callsign}
 use Rattle.position.specs.declared.Place.{Place}
 use Rattle.header.specs.declared.Path.{Path}
@@ -28,6 +23,7 @@ use Rattle.body.specs.declared.Kind.the-variants.{Unknown, Position, MicE}
 use Rattle.packet.specs.declared.Record.{Record}
 use Rattle.packet.specs.declared.PacketRead.{PacketRead}
 use Rattle.packet.specs.Packet.{readText}
+use Rattle.row.proofs.Fits.{row-fits}
 use Rattle.row.specs.Row.{callField, toField, heardAmong, heardHops, angleFields, placeFields, recordFields, refusedFields, rowFields, spaced, rowOf, row}
 
 -- ---- one field
@@ -128,3 +124,12 @@ module _ (number : ℕ) (read : PacketRead) (f g h k : Filled) (p : g ≡ addedA
   pub row-accepted : read .refusal ≡ 0 → k ≡ addedAll h (spaced (recordFields (read .«record»))) → k ≡ addedAll f (spaced (rowFields number read))
   unfolding rowFields spaced recordFields
   row-accepted z e = all-then f h k _ _ _ (sym (rw (eq-eqb (read .refusal) 0 z))) front e
+
+-- a text of 142 bytes holds the fields, and the row is written from its front
+pub row-written : (number n : ℕ) (line text text′ front out out′ : List ℕ) (read : PacketRead) (w : Answer)
+    → read ≡ readText line → length (rowOf number read) ≤ 142 → length text ≡ 142
+    → filled text′ n ≡ addedAll (filled text 0) (spaced (rowFields number read)) → front ≡ take n text′
+    → ends w out′ ≡ wrote 0 front out → ends w out′ ≡ wrote 0 (row number line) out
+unfolding row
+row-written number n line text text′ front out out′ read w e h k p q s =
+    s ∙ ap (λ (l : List ℕ). wrote 0 l out) (q ∙ row-fits number read text text′ n h k p ∙ ap (rowOf number) e)

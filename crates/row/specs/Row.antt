@@ -2,11 +2,11 @@
 -- heard hops, latitude, longitude." "`-` is absent; an accepted empty callsign prints `.`." A refused line has no hops; a
 -- Mic-E record has no destination; the Unknown kind has no place.
 -- Assumes nothing.
-use Prim.Native.Nat.{ℕ, zero, suc}
+use Prim.Native.Nat.{ℕ, zero, suc, _+_}
 use mathlib.Core.Bool.{cond}
 use mathlib.Core.List.{List, [], _∷_}
 use lib.Dec.{eqb}
-use lib.ListN.{take}
+use lib.ListN.{length, take}
 use Rattle.laws.specs.Bytes.{space, dash, point, digit0, lineFeed}
 use Rattle.laws.specs.Lists.{together}
 use Rattle.numbers.specs.Numbers.{digits, decimal}
@@ -90,3 +90,10 @@ rowOf number read = together (spaced (rowFields number read))
 
 unfoldable pub row : ℕ → List ℕ → List ℕ
 row number line = rowOf number (readText line)
+
+-- ---- for the contracts of private functions
+
+-- the bytes of fields, with one behind each
+unfoldable pub widthOf : List (List ℕ) → ℕ
+widthOf [] = 0
+widthOf (f ∷ fs) = length f + 1 + widthOf fs

@@ -1,12 +1,13 @@
 // The listing's row of a line, as bytes: its fields are put one behind the other into a buffer of its own.
 ghost use mathlib.Core.Path.{_≡_};
 ghost use mathlib.Core.List.{[], _∷_};
+ghost use Prim.Native.Nat.{_≤_};
 ghost use lib.ListN.{length, take};
 ghost use Rattle.laws.specs.Bytes.{space};
 ghost use Rattle.buffer.specs.Wrote.{ends, wrote};
 ghost use Rattle.buffer.specs.Filled.{filled, addedAll};
 ghost use Rattle.numbers.specs.Numbers.{digits, decimal};
-ghost use Rattle.row.specs.Row.{callField, toField, heardAmong, heardHops, angleFields, placeFields, recordFields, spaced, rowFields, rowOf, row};
+ghost use Rattle.row.specs.Row.{callField, toField, heardAmong, heardHops, angleFields, placeFields, recordFields, spaced, rowFields, rowOf, row, widthOf};
 use body::Kind;
 use callsign::Callsign;
 use header::Hop;
@@ -29,6 +30,7 @@ fn put_text(text: &[u8], after: u8, row: &mut [u8], at: usize) -> usize
 
 fn put_count(n: usize, after: u8, row: &mut [u8], at: usize) -> usize
     ensures { λ r. ⌜ filled (now (row .exit)) r ≡ addedAll (filled (now (row .entry)) at) (digits n ∷ (after ∷ []) ∷ []) ⌝ }
+    ensures { λ _. ⌜ length (digits n) ≤ 20 ⌝ }
 {
     let end = numbers::put_count(n, row, at);
     buffer::put_byte(after, row, end)
@@ -36,6 +38,7 @@ fn put_count(n: usize, after: u8, row: &mut [u8], at: usize) -> usize
 
 fn put_number(n: i32, after: u8, row: &mut [u8], at: usize) -> usize
     ensures { λ r. ⌜ filled (now (row .exit)) r ≡ addedAll (filled (now (row .entry)) at) (decimal n ∷ (after ∷ []) ∷ []) ⌝ }
+    ensures { λ _. ⌜ length (decimal n) ≤ 11 ⌝ }
 {
     let end = numbers::put_number(n, row, at);
     buffer::put_byte(after, row, end)
@@ -43,6 +46,7 @@ fn put_number(n: i32, after: u8, row: &mut [u8], at: usize) -> usize
 
 fn put_call(c: Callsign, row: &mut [u8], at: usize) -> usize
     ensures { λ r. ⌜ filled (now (row .exit)) r ≡ addedAll (filled (now (row .entry)) at) (callField c ∷ (space ∷ []) ∷ []) ⌝ }
+    ensures { λ _. ⌜ length (callField c) ≤ 16 ⌝ }
 {
     let n = callsign::text_len(c);
     if n == 0 {
@@ -55,6 +59,7 @@ fn put_call(c: Callsign, row: &mut [u8], at: usize) -> usize
 // A Mic-E record has no destination.
 fn put_to(kind: Kind, to: Callsign, row: &mut [u8], at: usize) -> usize
     ensures { λ r. ⌜ filled (now (row .exit)) r ≡ addedAll (filled (now (row .entry)) at) (toField kind to ∷ (space ∷ []) ∷ []) ⌝ }
+    ensures { λ _. ⌜ length (toField kind to) ≤ 16 ⌝ }
 {
     match kind {
         Kind::Unknown => put_call(to, row, at),
@@ -88,6 +93,7 @@ fn heard(hops: [Hop; 8], count: usize) -> usize
 // The number of hops, and of heard ones.
 fn put_hops(path: Path, row: &mut [u8], at: usize) -> usize
     ensures { λ r. ⌜ filled (now (row .exit)) r ≡ addedAll (filled (now (row .entry)) at) (digits (path .count) ∷ (space ∷ []) ∷ digits (heardHops path) ∷ (space ∷ []) ∷ []) ⌝ }
+    ensures { λ _. ⌜ widthOf (digits (path .count) ∷ digits (heardHops path) ∷ []) ≤ 42 ⌝ }
 {
     let hops = path.hops;
     let count = path.count;
@@ -98,6 +104,7 @@ fn put_hops(path: Path, row: &mut [u8], at: usize) -> usize
 // Latitude and longitude, the last fields of a row.
 fn put_angles(place: Place, row: &mut [u8], at: usize) -> usize
     ensures { λ r. ⌜ filled (now (row .exit)) r ≡ addedAll (filled (now (row .entry)) at) (spaced (angleFields place)) ⌝ }
+    ensures { λ _. ⌜ widthOf (angleFields place) ≤ 24 ⌝ }
 {
     let end = put_number(place.latitude.0, b' ', row, at);
     put_number(place.longitude.0, b'\n', row, end)
@@ -106,6 +113,7 @@ fn put_angles(place: Place, row: &mut [u8], at: usize) -> usize
 // The same, where the kind has a place; the Unknown kind has none.
 fn put_place(kind: Kind, place: Place, row: &mut [u8], at: usize) -> usize
     ensures { λ r. ⌜ filled (now (row .exit)) r ≡ addedAll (filled (now (row .entry)) at) (spaced (placeFields kind place)) ⌝ }
+    ensures { λ _. ⌜ widthOf (placeFields kind place) ≤ 24 ⌝ }
 {
     match kind {
         Kind::Unknown => put_text(b"- -", b'\n', row, at),
@@ -117,6 +125,7 @@ fn put_place(kind: Kind, place: Place, row: &mut [u8], at: usize) -> usize
 // Source and destination, hops, and place.
 fn put_record(r: Record, row: &mut [u8], at: usize) -> usize
     ensures { λ end. ⌜ filled (now (row .exit)) end ≡ addedAll (filled (now (row .entry)) at) (spaced (recordFields r)) ⌝ }
+    ensures { λ _. ⌜ widthOf (recordFields r) ≤ 100 ⌝ }
 {
     let header = r.header;
     let body = r.body;
@@ -129,9 +138,10 @@ fn put_record(r: Record, row: &mut [u8], at: usize) -> usize
 
 // ---- the row
 
-// The fields of a line's number and answer, at the front of row.
+// The fields of a line's number and answer, at the front of row; they have 142 bytes at most.
 fn put_fields(number: usize, read: PacketRead, row: &mut [u8]) -> usize
     ensures { λ r. ⌜ filled (now (row .exit)) r ≡ addedAll (filled (now (row .entry)) 0) (spaced (rowFields number read)) ⌝ }
+    ensures { λ _. ⌜ length (rowOf number read) ≤ 142 ⌝ }
 {
     let mut end = put_count(number, b' ', row, 0);
     end = put_count(read.refusal as usize, b' ', row, end);
@@ -141,19 +151,11 @@ fn put_fields(number: usize, read: PacketRead, row: &mut [u8]) -> usize
     put_record(read.record, row, end)
 }
 
-// The same: 142 bytes hold any row.
-fn build(number: usize, read: PacketRead, row: &mut [u8]) -> usize
-    requires { ⌜ length (now row) ≡ 142 ⌝ }
-    ensures { λ r. ⌜ take r (now (row .exit)) ≡ rowOf number read ⌝ }
-{
-    put_fields(number, read, row)
-}
-
 // Writes the row of the listing for a line and its number, or answers 16.
 pub fn write_row(number: usize, line: &[u8], out: &mut [u8]) -> buffer::Answer
     ensures { λ r. ⌜ ends r (now (out .exit)) ≡ wrote 0 (row number (now (line .entry))) (now (out .entry)) ⌝ }
 {
     let mut text = [0u8; 142];
-    let n = build(number, packet::read_text(line), &mut text);
+    let n = put_fields(number, packet::read_text(line), &mut text);
     buffer::write(lines::cut(&text, n), out)
 }
