@@ -483,10 +483,10 @@ fn put_call(p: Put, c: Callsign, starred: bool, scratch: &mut [u8]) -> Put
     ensures { λ r. ⌜ building (r .refusal) (now (scratch .exit)) (r .at) ≡ withPiece (building (p .refusal) (now (scratch .entry)) (p .at)) (callPiece c starred) ⌝ }
 {
     let at = p.at;
-    let w = callsign::write_text(c, starred, &mut scratch[at..]);
+    let text = callsign::write_text(c, starred, &mut scratch[at..]);
     Put {
-        at: at + w.reported,
-        refusal: greater(p.refusal, w.refusal),
+        at: at + text.reported,
+        refusal: greater(p.refusal, text.refusal),
     }
 }
 
