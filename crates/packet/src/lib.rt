@@ -56,9 +56,9 @@ fn refused(n: u8) -> PacketRead
 fn header_to(h: Header, to: Callsign) -> Header
     ensures { λ r. ⌜ r ≡ headerTo h to ⌝ }
 {
-    let mut header = h;
-    header.to = to;
-    header
+    let from = h.from;
+    let path = h.path;
+    Header { from, to, path }
 }
 
 fn kept_to(kind: Kind, to: Callsign) -> Callsign
@@ -87,12 +87,11 @@ fn packet_after(h: HeaderRead, s: &[u8]) -> PacketRead
     if h.refusal != 0 {
         return refused(h.refusal);
     }
-    let header = h.header;
-    let found = body::read(header.to, s, h.body);
+    let found = body::read(h.header.to, s, h.body);
     if found.refusal != 0 {
         return refused(found.refusal);
     }
-    let record = record_of(header, found.body);
+    let record = record_of(h.header, found.body);
     PacketRead { record, refusal: 0 }
 }
 
@@ -176,13 +175,12 @@ fn write_behind(
 pub fn write(r: Record, framed: bool, comment: &[u8], out: &mut [u8]) -> buffer::Answer
     ensures { λ a. ⌜ ends a (now (out .exit)) ≡ cond framed (wrote (frameRefusal r (now (comment .entry))) (frameBytes r (now (comment .entry))) (now (out .entry))) (wrote (textRefusal r (now (comment .entry))) (textBytes r (now (comment .entry))) (now (out .entry))) ⌝ }
 {
-    let header = r.header;
-    let b = body::write(r.body, header.to);
-    let h = header_to(header, b.to);
+    let b = body::write(r.body, r.header.to);
+    let header = header_to(r.header, b.to);
     if b.refusal != 0 {
-        return refused_beside(h, b.refusal);
+        return refused_beside(header, b.refusal);
     }
-    write_behind(h, b, framed, comment, out)
+    write_behind(header, b, framed, comment, out)
 }
 
 // Writes a record and a comment as a line of text; refused with 15, 14, 1 or 16.
