@@ -146,7 +146,7 @@ fn read_hop(t: &[u8]) -> HopRead
 {
     if is_q(t) {
         let hop = blank_hop();
-        return HopRead { refusal: 6, hop };
+        return HopRead { hop, refusal: 6 };
     }
     let c = callsign::read_text(t);
     let call = c.call;
@@ -155,8 +155,8 @@ fn read_hop(t: &[u8]) -> HopRead
         heard: c.starred,
     };
     HopRead {
-        refusal: c.refusal,
         hop,
+        refusal: c.refusal,
     }
 }
 
