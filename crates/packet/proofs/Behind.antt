@@ -20,7 +20,7 @@ use Rattle.header.specs.Range.{headerInRange, textRefusal as headerTextRefusal,
 use Rattle.header.proofs.Theorems.{text-at-most-178, frame-at-most-72}
 use Rattle.header.specs.Header.{mostBytes}
 use Rattle.packet.specs.Written.{orElse}
-use Rattle.packet.specs.Contracts.{headBytes, headRefusal, wroteBehind}
+use Rattle.packet.specs.Private.{headBytes, headRefusal, wroteBehind}
 use Rattle.packet.proofs.Order.{or-first, or-none}
 
 -- ---- a header as a frame or as a line

@@ -19,7 +19,7 @@ use Rattle.packet.specs.declared.Record.{Record}
 use Rattle.packet.specs.Packet.{headerTo}
 use Rattle.header.specs.Header.{mostBytes}
 use Rattle.packet.specs.Written.{writtenHeader, bytesOf, textBytes, frameBytes, orElse, recordRefusal, textRefusal, frameRefusal}
-use Rattle.packet.specs.Contracts.{headBytes, headRefusal, wroteBehind}
+use Rattle.packet.specs.Private.{headBytes, headRefusal, wroteBehind}
 use Rattle.packet.proofs.Order.{or-first, header-in, record-refuses, body-fine, header-left, frame-first}
 
 -- what is promised of either

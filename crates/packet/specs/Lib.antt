@@ -2,4 +2,4 @@ pub mod Record
 pub mod Range
 pub mod Packet
 pub mod Written
-pub mod Contracts
+pub mod Private

@@ -10,7 +10,7 @@ ghost use Rattle.buffer.specs.Wrote.{refusedBy, ends, wrote};
 ghost use Rattle.packet.specs.Record.{blankRecord, packetRefused};
 ghost use Rattle.packet.specs.Packet.{headerTo, keptTo, recordOf, packetAfter, readText, readFrame};
 ghost use Rattle.packet.specs.Written.{textBytes, frameBytes, orElse, textRefusal, frameRefusal};
-ghost use Rattle.packet.specs.Contracts.{headBytes, headRefusal, wroteBehind};
+ghost use Rattle.packet.specs.Private.{headBytes, headRefusal, wroteBehind};
 use body::Body;
 use body::BodyWritten;
 use body::Kind;
