@@ -1,7 +1,6 @@
-// A line of the table: the arrow in it, the numbers that its words mean, and the bytes that they stand for.
-ghost use Prim.Native.Nat.{_≤_};
+// A line of the table, `QUESTION => EXPECTED`. EXPECTED is the words of the answer that matter: they stand in it in that order, and
+// the first of them is its first. `refused`, as first word or as a value, stands for any refusal.
 use numbers::Count;
-use numbers::Number;
 
 // Whether s starts with t.
 pub fn starts(s: &[u8], t: &[u8]) -> bool {
@@ -9,7 +8,7 @@ pub fn starts(s: &[u8], t: &[u8]) -> bool {
 }
 
 // The place of the arrow between what is asked and what the answer should be, or the length where there is none.
-pub fn arrow(s: &[u8]) -> usize {
+fn arrow(s: &[u8]) -> usize {
     let mut i: usize = 0;
     while i < s.len() {
         if starts(&s[i..], b" => ") {
@@ -20,66 +19,73 @@ pub fn arrow(s: &[u8]) -> usize {
     i
 }
 
-// The number that the first word of s means; 0 for a word that means none.
-pub fn number(s: &[u8]) -> u32 {
-    let read = numbers::read_count(lines::first(s), 0xffff_ffff);
-    match read {
-        Count::Is(n) => n,
-        Count::Over => 0xffff_ffff,
-        Count::Bad => 0,
-    }
+pub fn question(s: &[u8]) -> &[u8] {
+    lines::cut(s, arrow(s))
 }
 
-// The same with a sign; one past 180 degrees for a word that means none.
-pub fn signed(s: &[u8]) -> i32 {
-    let read = numbers::read_number(lines::first(s));
-    match read {
-        Number::Is(n) => n,
-        Number::Bad => 2000000,
-    }
+pub fn expected(s: &[u8]) -> &[u8] {
+    lines::tail(lines::tail(s, arrow(s)), 4)
 }
 
-// The byte of two hexadecimal digits.
-fn joined(high: u8, low: u8) -> u8 {
-    if 15 < high {
-        return 0;
-    }
-    if 15 < low {
-        return 0;
-    }
-    high * 16 + low
+// Whether a line is a recorded answer.
+pub fn is_recorded(s: &[u8]) -> bool {
+    starts(s, b"T ") | starts(s, b"F ")
 }
 
-// How many characters stand for one byte: three after a `%`, itself among them.
-fn width(b: u8) -> usize
-    ensures { λ r. ⌜ 1 ≤ r ⌝ }
-{
-    if b == b'%' { 3 } else { 1 }
+// Whether a word starts with the number of a refusal, alone or before a colon.
+fn is_refusal(word: &[u8]) -> bool {
+    let read = numbers::read_count(lines::cut(word, laws::find(word, b':')), 0xffff_ffff);
+    let Count::Is(n) = read else {
+        return false;
+    };
+    n != 0
 }
 
-// The byte that the first characters of s stand for.
-fn meant(s: &[u8]) -> u8 {
-    if s.len() == 0 {
-        return 0;
+// Whether a word `name=value` of an answer is as it should be.
+fn is_word(expected: &[u8], word: &[u8]) -> bool {
+    if check::same(expected, word) {
+        return true;
     }
-    if s[0] != b'%' {
-        return s[0];
+    let n = laws::find(word, b'=');
+    if check::same(lines::tail(expected, n), b"=refused") {
+        if check::same(lines::cut(expected, n), lines::cut(word, n)) {
+            return is_refusal(lines::tail(lines::tail(word, n), 1));
+        }
     }
-    if s.len() < 3 {
-        return 0;
-    }
-    joined(numbers::hex_value(s[1]), numbers::hex_value(s[2]))
+    false
 }
 
-// Puts the bytes that s stands for to the front of out: `%` and two hexadecimal digits for one of any value, another
-// character for itself. Answers how many they are.
-pub fn bytes(s: &[u8], out: &mut [u8]) -> usize {
-    let mut t = s;
-    let mut n: usize = 0;
-    while 0 < t.len() {
-        n = buffer::put_byte(meant(t), out, n);
-        let next = lines::tail(t, width(t[0]));
-        t = next;
+// Whether the first word of an answer is.
+fn is_first(expected: &[u8], word: &[u8]) -> bool {
+    if check::same(expected, b"refused") {
+        return is_refusal(word);
     }
-    n
+    check::same(expected, word)
+}
+
+// Whether words stand in an answer in their order. Each turn passes a word of the answer.
+fn stand_in(words: &[u8], answer: &[u8]) -> bool {
+    let mut w = words;
+    let mut a = answer;
+    let mut i: usize = 0;
+    while i < answer.len() {
+        i += 1;
+        let found = is_word(lines::first(w), lines::first(a));
+        let later = lines::rest(a);
+        a = later;
+        if found {
+            let next = lines::rest(w);
+            w = next;
+            continue;
+        }
+    }
+    w.len() == 0
+}
+
+// Whether an answer is as it should be.
+pub fn agrees(expected: &[u8], answer: &[u8]) -> bool {
+    if is_first(lines::first(expected), lines::first(answer)) {
+        return stand_in(lines::rest(expected), lines::rest(answer));
+    }
+    false
 }

@@ -7,27 +7,9 @@ pub struct Tally {
     pub used: usize,
 }
 
-// Writes the first `used` bytes of out.
-pub fn flush(out: &[u8], used: usize) {
-    io::write_all(1, lines::cut(out, used));
-}
-
-// Where the next line goes: behind the first `used` bytes, or, where little room is left, at the front once those are
-// written.
-fn ready(out: &[u8], used: usize) -> usize {
-    if used <= out.len() {
-        if 16384 <= out.len() - used {
-            return used;
-        }
-    }
-    flush(out, used);
-    0
-}
-
 // A line of two parts.
-pub fn line(first: &[u8], second: &[u8], out: &mut [u8], used: usize) -> usize {
-    let from = ready(out, used);
-    let mut end = buffer::put(first, out, from);
+pub fn line(first: &[u8], second: &[u8], out: &mut [u8], at: usize) -> usize {
+    let mut end = buffer::put(first, out, at);
     end = buffer::put(second, out, end);
     buffer::put_byte(b'\n', out, end)
 }
@@ -55,9 +37,9 @@ pub fn right(t: Tally, asked: &[u8], recorded: bool, out: &mut [u8]) -> Tally {
     Tally { right, all, used }
 }
 
-// One that is not: what it should be, and what it is.
+// One that is not: what it should be, of a line that is too long its beginning, and what it is.
 pub fn wrong(t: Tally, s: &[u8], got: &[u8], out: &mut [u8]) -> Tally {
-    let mut used = line(b"WRONG ", s, out, t.used);
+    let mut used = line(b"WRONG ", lines::cut(s, 8192), out, t.used);
     used = line(b"  is ", got, out, used);
     Tally {
         right: t.right,
@@ -66,16 +48,10 @@ pub fn wrong(t: Tally, s: &[u8], got: &[u8], out: &mut [u8]) -> Tally {
     }
 }
 
-fn sum(right: usize, all: usize, out: &mut [u8], at: usize) -> usize {
-    let mut end = numbers::put_count(right, out, at);
+// The last line.
+pub fn totals(t: Tally, out: &mut [u8]) -> usize {
+    let mut end = numbers::put_count(t.right, out, t.used);
     end = buffer::put(b" of ", out, end);
-    end = numbers::put_count(all, out, end);
+    end = numbers::put_count(t.all, out, end);
     buffer::put(b" as they should be\n", out, end)
-}
-
-// The last line, and all that is not written yet.
-pub fn totals(t: Tally, out: &mut [u8]) {
-    let from = ready(out, t.used);
-    let end = sum(t.right, t.all, out, from);
-    flush(out, end);
 }

@@ -1,9 +1,8 @@
 // Request B: the bounds of an angle as floats, and its box on the page.
 use crate::put;
-use crate::request;
+use crate::word;
 use lonlat::Latitude;
 use lonlat::Longitude;
-use numbers::Count;
 use numbers::Number;
 use position::BoundsAnswer;
 use position::PageBox;
@@ -18,7 +17,7 @@ fn put_bounds(b: BoundsAnswer, page: PageBox, out: &mut [u8], at: usize) -> usiz
 
 // `LIMIT`, the end of `B ANGLE BLANKS LIMIT`
 fn bounds_of(angle: i32, blanks: u8, limit: &[u8], out: &mut [u8], at: usize) -> usize {
-    let which = request::either(limit, b"lat", b"lon");
+    let which = word::either(limit, b"lat", b"lon");
     if which == 0 {
         let bounds = position::latitude_bounds(Latitude(angle), blanks);
         return put_bounds(
@@ -47,10 +46,7 @@ pub fn answer(s: &[u8], out: &mut [u8], at: usize) -> usize {
         return at;
     };
     let s = lines::rest(s);
-    let read = numbers::read_count(lines::first(s), 255);
-    let Count::Is(blanks) = read else {
-        return at;
-    };
+    let blanks = word::byte(lines::first(s));
     if 255 < blanks {
         return at;
     }

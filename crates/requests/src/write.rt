@@ -1,7 +1,11 @@
-// Request W: a record made by hand, written as a line or a frame. Words that make no record give one that is not good.
-use crate::list::put_answer;
-use crate::request;
-use crate::request::Bytes;
+// Request W: a record made by hand, written as a line or a frame. Words that make no part of it give one that is not good.
+use crate::list;
+use crate::word;
+use crate::word::Bytes;
+use body::Body;
+use body::Comment;
+use body::Kind;
+use body::Report;
 use callsign::Callsign;
 use header::Header;
 use header::Hop;
@@ -13,35 +17,32 @@ use mic_e::Message;
 use mic_e::Speed;
 use numbers::Count;
 use numbers::Number;
-use packet::Comment;
-use packet::Kind;
 use packet::Record;
-use packet::Report;
 use position::Place;
 
 struct CallWord {
-    good: bool,
     call: Callsign,
+    good: bool,
 }
 
 struct HeaderWord {
-    good: bool,
     header: Header,
+    good: bool,
 }
 
 struct PlaceWord {
-    good: bool,
     place: Place,
+    good: bool,
 }
 
 struct ReportWord {
-    good: bool,
     report: Report,
+    good: bool,
 }
 
-struct RecordWord {
+struct BodyWord {
+    body: Body,
     good: bool,
-    record: Record,
 }
 
 enum KindWord {
@@ -58,7 +59,7 @@ enum MessageWord {
 
 fn no_call() -> CallWord {
     let call = callsign::blank();
-    CallWord { good: false, call }
+    CallWord { call, good: false }
 }
 
 // Call and SSID as they were given. What a text of sixteen bytes cannot hold is cut off it: the lengths tell.
@@ -68,15 +69,12 @@ fn joined(call: &[u8], ssid: &[u8]) -> CallWord {
     end = buffer::put(lines::cut(b"-", ssid.len()), &mut text, end);
     let room = if end <= 16 { 16 - end } else { 0 };
     buffer::put(lines::cut(ssid, room), &mut text, end);
-    let made = Callsign {
+    let call = Callsign {
         text,
         call_len: call.len(),
         ssid_len: ssid.len(),
     };
-    CallWord {
-        good: true,
-        call: made,
-    }
+    CallWord { call, good: true }
 }
 
 // `CALL/SSID`
@@ -87,11 +85,11 @@ fn call_word(s: &[u8]) -> CallWord {
     }
     let mut call = [0u8; 16];
     let mut ssid = [0u8; 16];
-    let read = request::unhex(lines::cut(s, slash), &mut call);
+    let read = word::hex(lines::cut(s, slash), &mut call);
     let Bytes::Are(n) = read else {
         return no_call();
     };
-    let read = request::unhex(lines::tail(lines::tail(s, slash), 1), &mut ssid);
+    let read = word::hex(lines::tail(lines::tail(s, slash), 1), &mut ssid);
     let Bytes::Are(k) = read else {
         return no_call();
     };
@@ -116,15 +114,15 @@ fn hop_word(s: &[u8]) -> CallWord {
 fn no_header() -> HeaderWord {
     let header = header::blank();
     HeaderWord {
-        good: false,
         header,
+        good: false,
     }
 }
 
 fn with_path(from: Callsign, to: Callsign, hops: [Hop; 8], count: usize) -> HeaderWord {
     let path = Path { hops, count };
     let header = Header { from, to, path };
-    HeaderWord { good: true, header }
+    HeaderWord { header, good: true }
 }
 
 // Hops joined by commas, or a dash for none.
@@ -175,43 +173,40 @@ fn header_word(s: &[u8]) -> HeaderWord {
     path_word(from, to, lines::first(lines::rest(s)))
 }
 
-// ---- the other parts
+// ---- the body
 
 fn kind_word(s: &[u8]) -> KindWord {
-    if check::same(s, b"unknown") {
-        return KindWord::Is(Kind::Unknown);
-    }
-    if check::same(s, b"position") {
-        return KindWord::Is(Kind::Position);
-    }
-    if check::same(s, b"mic-e") {
-        return KindWord::Is(Kind::MicE);
-    }
-    KindWord::Bad
-}
-
-fn standard(n: u8) -> MessageWord {
-    match n {
-        b'0' => MessageWord::Is(Message::M0),
-        b'1' => MessageWord::Is(Message::M1),
-        b'2' => MessageWord::Is(Message::M2),
-        b'3' => MessageWord::Is(Message::M3),
-        b'4' => MessageWord::Is(Message::M4),
-        b'5' => MessageWord::Is(Message::M5),
-        b'6' => MessageWord::Is(Message::M6),
-        _ => MessageWord::Bad,
+    match word::place(s, b"unknown position mic-e") {
+        0 => KindWord::Is(Kind::Unknown),
+        1 => KindWord::Is(Kind::Position),
+        2 => KindWord::Is(Kind::MicE),
+        _ => KindWord::Bad,
     }
 }
 
-fn custom(n: u8) -> MessageWord {
-    match n {
-        b'0' => MessageWord::Is(Message::C0),
-        b'1' => MessageWord::Is(Message::C1),
-        b'2' => MessageWord::Is(Message::C2),
-        b'3' => MessageWord::Is(Message::C3),
-        b'4' => MessageWord::Is(Message::C4),
-        b'5' => MessageWord::Is(Message::C5),
-        b'6' => MessageWord::Is(Message::C6),
+fn standard(k: usize) -> MessageWord {
+    match k {
+        0 => MessageWord::Is(Message::M0),
+        1 => MessageWord::Is(Message::M1),
+        2 => MessageWord::Is(Message::M2),
+        3 => MessageWord::Is(Message::M3),
+        4 => MessageWord::Is(Message::M4),
+        5 => MessageWord::Is(Message::M5),
+        _ => MessageWord::Is(Message::M6),
+    }
+}
+
+fn custom(k: usize) -> MessageWord {
+    match k {
+        7 => MessageWord::Is(Message::C0),
+        8 => MessageWord::Is(Message::C1),
+        9 => MessageWord::Is(Message::C2),
+        10 => MessageWord::Is(Message::C3),
+        11 => MessageWord::Is(Message::C4),
+        12 => MessageWord::Is(Message::C5),
+        13 => MessageWord::Is(Message::C6),
+        14 => MessageWord::Is(Message::Emergency),
+        15 => MessageWord::Is(Message::Unknown),
         _ => MessageWord::Bad,
     }
 }
@@ -224,105 +219,83 @@ fn message_word(s: &[u8], needed: bool) -> MessageWord {
         }
         return MessageWord::Is(Message::M0);
     }
-    if check::same(s, b"emergency") {
-        return MessageWord::Is(Message::Emergency);
+    let k = word::place(
+        s,
+        b"M0 M1 M2 M3 M4 M5 M6 C0 C1 C2 C3 C4 C5 C6 emergency unknown",
+    );
+    if k < 7 {
+        return standard(k);
     }
-    if check::same(s, b"unknown") {
-        return MessageWord::Is(Message::Unknown);
-    }
-    if s.len() != 2 {
-        return MessageWord::Bad;
-    }
-    if s[0] == b'M' {
-        return standard(s[1]);
-    }
-    if s[0] == b'C' {
-        return custom(s[1]);
-    }
-    MessageWord::Bad
+    custom(k)
 }
 
-fn place_made(
-    good: bool,
-    latitude: i32,
-    longitude: i32,
-    blanks: u8,
-    table: u8,
-    code: u8,
-) -> PlaceWord {
+fn no_place() -> PlaceWord {
     PlaceWord {
-        good,
         place: Place {
-            latitude: Latitude(latitude),
-            longitude: Longitude(longitude),
-            blanks,
-            table,
-            code,
+            latitude: Latitude(0),
+            longitude: Longitude(0),
+            blanks: 0,
+            table: 0,
+            code: 0,
         },
+        good: false,
     }
-}
-
-// A number below 256, or 256 for a word that is none.
-fn byte_word(s: &[u8]) -> u32 {
-    let read = numbers::read_count(s, 255);
-    let Count::Is(n) = read else {
-        return 256;
-    };
-    n
 }
 
 // `BLANKS TABLE CODE`, behind the angles
 fn symbol_word(latitude: i32, longitude: i32, s: &[u8]) -> PlaceWord {
-    let blanks = byte_word(lines::first(s));
+    let blanks = word::byte(lines::first(s));
     let s = lines::rest(s);
-    let table = byte_word(lines::first(s));
-    let code = byte_word(lines::first(lines::rest(s)));
+    let table = word::byte(lines::first(s));
+    let code = word::byte(lines::first(lines::rest(s)));
     if 255 < blanks {
-        return place_made(false, 0, 0, 0, 0, 0);
+        return no_place();
     }
     if 255 < table {
-        return place_made(false, 0, 0, 0, 0, 0);
+        return no_place();
     }
     if 255 < code {
-        return place_made(false, 0, 0, 0, 0, 0);
+        return no_place();
     }
-    place_made(
-        true,
-        latitude,
-        longitude,
-        blanks as u8,
-        table as u8,
-        code as u8,
-    )
+    PlaceWord {
+        place: Place {
+            latitude: Latitude(latitude),
+            longitude: Longitude(longitude),
+            blanks: blanks as u8,
+            table: table as u8,
+            code: code as u8,
+        },
+        good: true,
+    }
 }
 
 // `LAT LON BLANKS TABLE CODE`, and more behind it
 fn place_word(s: &[u8]) -> PlaceWord {
     let read = numbers::read_number(lines::first(s));
     let Number::Is(latitude) = read else {
-        return place_made(false, 0, 0, 0, 0, 0);
+        return no_place();
     };
     let s = lines::rest(s);
     let read = numbers::read_number(lines::first(s));
     let Number::Is(longitude) = read else {
-        return place_made(false, 0, 0, 0, 0, 0);
+        return no_place();
     };
     symbol_word(latitude, longitude, lines::rest(s))
 }
 
 fn report_made(good: bool, message: Message, speed: u32, course: u32, current: bool) -> ReportWord {
     ReportWord {
-        good,
         report: Report {
-            message,
             speed: Speed(speed),
             course: Course(course),
+            message,
             current,
         },
+        good,
     }
 }
 
-// `MESSAGE SPEED COURSE`, at the end; only Mic-E must have a message.
+// `MESSAGE SPEED COURSE`, at the end; only Mic-E must have a message. The words of a later request go behind them.
 fn report_word(mic_e: bool, current: bool, s: &[u8]) -> ReportWord {
     let read = message_word(lines::first(s), mic_e);
     let MessageWord::Is(message) = read else {
@@ -340,71 +313,50 @@ fn report_word(mic_e: bool, current: bool, s: &[u8]) -> ReportWord {
     report_made(true, message, speed, course, current)
 }
 
-// ---- the record
-
-fn no_record() -> RecordWord {
-    let record = packet::blank();
-    RecordWord {
-        good: false,
-        record,
-    }
+fn no_body() -> BodyWord {
+    let body = body::blank();
+    BodyWord { body, good: false }
 }
 
-// A record of its parts. The flag is Mic-E's own, or that a position takes messages.
-fn record_made(kind: Kind, h: Header, place: Place, messaging: bool, report: Report) -> RecordWord {
-    let from = h.from;
-    let to = h.to;
-    let path = h.path;
-    let comment = Comment { at: 0, len: 0 };
-    let record = Record {
-        kind,
-        from,
-        to,
-        path,
-        place,
-        messaging,
-        mic_e: report,
-        comment,
-    };
-    RecordWord { good: true, record }
-}
-
-// The words behind the flag: of the header, of the place and of the report
-fn parts_word(kind: Kind, mic_e: bool, flag: bool, s: &[u8]) -> RecordWord {
-    let named = header_word(s);
-    if !named.good {
-        return no_record();
-    }
-    let placed = place_word(request::skip(s, 3));
+// The words of the place and of the report. The flag is Mic-E's own, or that a position takes messages.
+fn body_of(kind: Kind, mic_e: bool, flag: bool, s: &[u8]) -> BodyWord {
+    let placed = place_word(s);
     if !placed.good {
-        return no_record();
+        return no_body();
     }
-    let told = report_word(mic_e, mic_e & flag, request::skip(s, 8));
+    let told = report_word(mic_e, mic_e & flag, word::skip(s, 5));
     if !told.good {
-        return no_record();
+        return no_body();
     }
-    let header = named.header;
     let place = placed.place;
     let report = told.report;
-    record_made(kind, header, place, !mic_e & flag, report)
+    let comment = Comment { at: 0, len: 0 };
+    let body = Body {
+        place,
+        report,
+        comment,
+        messaging: !mic_e & flag,
+        kind,
+    };
+    BodyWord { body, good: true }
 }
 
-// `KIND FLAG` and what follows
-fn record_word(s: &[u8]) -> RecordWord {
-    let word = lines::first(s);
-    let read = kind_word(word);
+// `KIND FLAG`, the words of a header, and what follows
+fn body_word(s: &[u8]) -> BodyWord {
+    let name = lines::first(s);
+    let read = kind_word(name);
     let KindWord::Is(kind) = read else {
-        return no_record();
+        return no_body();
     };
-    let flag = request::either(lines::first(lines::rest(s)), b"0", b"1");
+    let flag = word::either(lines::first(lines::rest(s)), b"0", b"1");
     if 1 < flag {
-        return no_record();
+        return no_body();
     }
-    parts_word(
+    body_of(
         kind,
-        check::same(word, b"mic-e"),
+        check::same(name, b"mic-e"),
         flag == 1,
-        request::skip(s, 2),
+        word::skip(s, 5),
     )
 }
 
@@ -412,40 +364,65 @@ fn record_word(s: &[u8]) -> RecordWord {
 
 fn write_into(
     r: Record,
+    framed: bool,
     comment: &[u8],
-    frame: bool,
     buffer: &mut [u8],
     room: usize,
 ) -> buffer::Answer {
     if buffer.len() < room {
         return buffer::refused(0);
     }
-    if frame {
-        return packet::write_frame(r, comment, &mut buffer[..room]);
+    packet::write(r, framed, comment, &mut buffer[..room])
+}
+
+// A record of two parts, written.
+fn written(
+    header: Header,
+    body: Body,
+    framed: bool,
+    room: usize,
+    comment: &[u8],
+    out: &mut [u8],
+    at: usize,
+) -> usize {
+    let mut buffer = [0xaau8; 600];
+    let w = write_into(Record { header, body }, framed, comment, &mut buffer, room);
+    list::whole(w, lines::cut(&buffer, room), out, at)
+}
+
+// The words of the record
+fn made(framed: bool, room: usize, comment: &[u8], s: &[u8], out: &mut [u8], at: usize) -> usize {
+    let told = body_word(s);
+    if !told.good {
+        return at;
     }
-    packet::write_text(r, comment, &mut buffer[..room])
+    let named = header_word(word::skip(s, 2));
+    if !named.good {
+        return at;
+    }
+    written(named.header, told.body, framed, room, comment, out, at)
 }
 
 // `COMMENT` and what follows
-fn written(frame: bool, room: usize, s: &[u8], out: &mut [u8], at: usize) -> usize {
+fn commented(framed: bool, room: usize, s: &[u8], out: &mut [u8], at: usize) -> usize {
     let mut comment = [0u8; 2048];
-    let read = request::unhex(lines::first(s), &mut comment);
+    let read = word::hex(lines::first(s), &mut comment);
     let Bytes::Are(n) = read else {
         return at;
     };
-    let made = record_word(lines::rest(s));
-    if !made.good {
-        return at;
-    }
-    let record = made.record;
-    let mut buffer = [0xaau8; 600];
-    let w = write_into(record, lines::cut(&comment, n), frame, &mut buffer, room);
-    put_answer(w, lines::cut(&buffer, room), out, at)
+    made(
+        framed,
+        room,
+        lines::cut(&comment, n),
+        lines::rest(s),
+        out,
+        at,
+    )
 }
 
 // `W WHERE ROOM COMMENT KIND FLAG FROM TO HOPS LAT LON BLANKS TABLE CODE MESSAGE SPEED COURSE`
 pub fn answer(s: &[u8], out: &mut [u8], at: usize) -> usize {
-    let form = request::either(lines::first(s), b"text", b"frame");
+    let form = word::either(lines::first(s), b"text", b"frame");
     if 1 < form {
         return at;
     }
@@ -454,5 +431,5 @@ pub fn answer(s: &[u8], out: &mut [u8], at: usize) -> usize {
     let Count::Is(room) = read else {
         return at;
     };
-    written(form == 1, room as usize, lines::rest(s), out, at)
+    commented(form == 1, room as usize, lines::rest(s), out, at)
 }

@@ -1,0 +1,98 @@
+// Callsigns read and written: their text, and their address in a frame.
+use crate::put;
+use crate::show;
+use callsign::AddressWritten;
+use callsign::Callsign;
+use callsign::Field;
+use numbers::Count;
+
+// The refusal, or 0 and the callsign.
+fn called(refusal: u8, c: Callsign, out: &mut [u8], at: usize) -> usize {
+    let end = put::refusal(refusal, out, at);
+    if refusal != 0 {
+        return end;
+    }
+    show::call(b" call=", c, true, out, end)
+}
+
+// `callsign TEXT`
+pub fn text(s: &[u8], out: &mut [u8], at: usize) -> usize {
+    let r = callsign::read_text(s);
+    let mut end = called(r.refusal, r.call, out, at);
+    end = put::count(b" starred=", r.starred as usize, out, end);
+    put::count(b" zero=", r.zero as usize, out, end)
+}
+
+// `address BYTES`
+pub fn address(s: &[u8], out: &mut [u8], at: usize) -> usize {
+    let r = callsign::read_address(s);
+    let mut end = called(r.refusal, r.call, out, at);
+    end = put::count(b" heard=", r.heard as usize, out, end);
+    put::count(b" last=", r.last as usize, out, end)
+}
+
+// An address in hexadecimal.
+fn packed(w: AddressWritten, out: &mut [u8], at: usize) -> usize {
+    let end = put::refusal(w.refusal, out, at);
+    if w.refusal != 0 {
+        return end;
+    }
+    let bytes = w.bytes;
+    put::labelled(b" address=", &bytes, false, out, end)
+}
+
+// `to TEXT`: the address of the callsign that the text reads as, as a destination
+pub fn to(s: &[u8], out: &mut [u8], at: usize) -> usize {
+    let c = callsign::read_text(s).call;
+    packed(
+        callsign::write_address(c, Field::Destination, false),
+        out,
+        at,
+    )
+}
+
+// `from TEXT`, `last-from TEXT`: as a source
+pub fn from(s: &[u8], last: bool, out: &mut [u8], at: usize) -> usize {
+    let c = callsign::read_text(s).call;
+    packed(callsign::write_address(c, Field::Source, last), out, at)
+}
+
+// `last-hop TEXT`: as the last hop, heard
+pub fn last_hop(s: &[u8], out: &mut [u8], at: usize) -> usize {
+    let c = callsign::read_text(s).call;
+    packed(callsign::write_address(c, Field::Hop(true), true), out, at)
+}
+
+// A callsign by its text and lengths, written.
+fn written(bytes: &[u8], call_len: usize, ssid_len: usize, out: &mut [u8], at: usize) -> usize {
+    let mut text = [0u8; 16];
+    buffer::write(bytes, &mut text);
+    let c = Callsign {
+        text,
+        call_len,
+        ssid_len,
+    };
+    let mut line = [0u8; 32];
+    let w = callsign::write_text(c, false, &mut line);
+    put::written(w, &line, out, at)
+}
+
+// `spelled CALL_LEN SSID_LEN BYTES`
+pub fn spelled(s: &[u8], out: &mut [u8], at: usize) -> usize {
+    let read = numbers::read_count(lines::first(s), 0xffff_ffff);
+    let Count::Is(call_len) = read else {
+        return at;
+    };
+    let s = lines::rest(s);
+    let read = numbers::read_count(lines::first(s), 0xffff_ffff);
+    let Count::Is(ssid_len) = read else {
+        return at;
+    };
+    written(
+        lines::rest(s),
+        call_len as usize,
+        ssid_len as usize,
+        out,
+        at,
+    )
+}

@@ -1,0 +1,123 @@
+// A record in words: `KIND from= to= hops= lat= lon= blanks= table= code= flag= message= speed= course= comment=`.
+use crate::put;
+use body::Body;
+use body::Comment;
+use body::Kind;
+use body::Report;
+use callsign::Callsign;
+use header::Header;
+use header::Hop;
+use header::Path;
+use mic_e::Message;
+use position::Place;
+
+// The answer 0 and the kind.
+pub fn kind(k: Kind, out: &mut [u8], at: usize) -> usize {
+    match k {
+        Kind::Unknown => buffer::put(b"0 unknown", out, at),
+        Kind::Position => buffer::put(b"0 position", out, at),
+        Kind::MicE => buffer::put(b"0 mic-e", out, at),
+    }
+}
+
+// A callsign's text: call, dash and SSID.
+pub fn call(label: &[u8], c: Callsign, plain: bool, out: &mut [u8], at: usize) -> usize {
+    let n = callsign::text_len(c);
+    let text = c.text;
+    put::labelled(label, lines::cut(&text, n), plain, out, at)
+}
+
+// One hop, a comma before it unless it is the first, and a star behind it if it is heard.
+fn hop(h: Hop, first: bool, plain: bool, out: &mut [u8], at: usize) -> usize {
+    let end = call(lines::cut(b",", !first as usize), h.call, plain, out, at);
+    buffer::put(lines::cut(b"*", h.heard as usize), out, end)
+}
+
+fn hops(path: Path, plain: bool, out: &mut [u8], at: usize) -> usize {
+    let mut end = buffer::put(b" hops=", out, at);
+    if path.count == 0 {
+        return buffer::put_byte(b'-', out, end);
+    }
+    let mut i: usize = 0;
+    while i < 8 {
+        if path.count <= i {
+            return end;
+        }
+        let h = path.hops[i];
+        end = hop(h, i == 0, plain, out, end);
+        i += 1;
+    }
+    end
+}
+
+// Callsigns and hops.
+pub fn header(h: Header, plain: bool, out: &mut [u8], at: usize) -> usize {
+    let from = h.from;
+    let to = h.to;
+    let path = h.path;
+    let mut end = call(b" from=", from, plain, out, at);
+    end = call(b" to=", to, plain, out, end);
+    hops(path, plain, out, end)
+}
+
+// Latitude, longitude and blanks.
+fn place(p: Place, out: &mut [u8], at: usize) -> usize {
+    let mut end = put::number(b" lat=", p.latitude.0, out, at);
+    end = put::number(b" lon=", p.longitude.0, out, end);
+    put::count(b" blanks=", p.blanks as usize, out, end)
+}
+
+// The symbol, and the flag: a position that takes messages, or current Mic-E.
+fn symbol(p: Place, flag: bool, out: &mut [u8], at: usize) -> usize {
+    let mut end = put::count(b" table=", p.table as usize, out, at);
+    end = put::count(b" code=", p.code as usize, out, end);
+    put::count(b" flag=", flag as usize, out, end)
+}
+
+fn message(m: Message, out: &mut [u8], at: usize) -> usize {
+    let n = mic_e::message_number(m);
+    if n < 14 {
+        let names = b"M0M1M2M3M4M5M6C0C1C2C3C4C5C6";
+        let from = (n as usize) * 2;
+        return buffer::put(lines::cut(lines::tail(names, from), 2), out, at);
+    }
+    if n == 14 {
+        return buffer::put(b"emergency", out, at);
+    }
+    buffer::put(b"unknown", out, at)
+}
+
+// Only Mic-E has a message.
+fn message_of(k: Kind, m: Message, out: &mut [u8], at: usize) -> usize {
+    let end = buffer::put(b" message=", out, at);
+    match k {
+        Kind::Unknown => buffer::put_byte(b'-', out, end),
+        Kind::Position => buffer::put_byte(b'-', out, end),
+        Kind::MicE => message(m, out, end),
+    }
+}
+
+// Speed and course.
+fn motion(r: Report, out: &mut [u8], at: usize) -> usize {
+    let end = put::count(b" speed=", r.speed.0 as usize, out, at);
+    put::count(b" course=", r.course.0 as usize, out, end)
+}
+
+// The comment's place and length.
+fn comment(c: Comment, out: &mut [u8], at: usize) -> usize {
+    let end = put::count(b" comment=", c.at, out, at);
+    put::count(b"+", c.len, out, end)
+}
+
+// What stands behind the header.
+pub fn body(b: Body, out: &mut [u8], at: usize) -> usize {
+    let p = b.place;
+    let report = b.report;
+    let k = b.kind;
+    let word = report.message;
+    let mut end = place(p, out, at);
+    end = symbol(p, b.messaging | report.current, out, end);
+    end = message_of(k, word, out, end);
+    end = motion(report, out, end);
+    comment(b.comment, out, end)
+}

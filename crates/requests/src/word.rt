@@ -1,0 +1,133 @@
+// The words of a request, which stand between single spaces, and what they mean.
+ghost use Prim.Native.Nat.{_≤_};
+use numbers::Count;
+
+// How many bytes a text stands for, or a text that stands for none.
+pub enum Bytes {
+    Are(usize),
+    Bad,
+}
+
+// What stands behind the first n words.
+pub fn skip(s: &[u8], n: usize) -> &[u8] {
+    let mut t = s;
+    let mut i: usize = 0;
+    while i < n {
+        let next = lines::rest(t);
+        t = next;
+        i += 1;
+    }
+    t
+}
+
+// 0 for the one word, 1 for the other, 2 for any other.
+pub fn either(s: &[u8], one: &[u8], other: &[u8]) -> u8 {
+    if check::same(s, one) {
+        return 0;
+    }
+    if check::same(s, other) {
+        return 1;
+    }
+    2
+}
+
+// The place of a word in a list of words; one past them, or more, where it is not there.
+pub fn place(word: &[u8], list: &[u8]) -> usize {
+    let mut t = list;
+    let mut k: usize = 0;
+    while k < 255 {
+        if check::same(lines::first(t), word) {
+            return k;
+        }
+        let next = lines::rest(t);
+        t = next;
+        k += 1;
+    }
+    k
+}
+
+// A number below 256, or 256 for a word that is none.
+pub fn byte(s: &[u8]) -> u32 {
+    let read = numbers::read_count(s, 255);
+    let Count::Is(n) = read else {
+        return 256;
+    };
+    n
+}
+
+// The byte of two hexadecimal digits; 256 where one is none.
+fn pair(high: u8, low: u8) -> u16 {
+    let h = numbers::hex_value(high);
+    let l = numbers::hex_value(low);
+    if 15 < h {
+        return 256;
+    }
+    if 15 < l {
+        return 256;
+    }
+    (h * 16 + l) as u16
+}
+
+// Pairs of digits, or a lone dash for no bytes; the bytes go to the front of out.
+pub fn hex(s: &[u8], out: &mut [u8]) -> Bytes {
+    if check::same(s, b"-") {
+        return Bytes::Are(0);
+    }
+    let n = s.len() / 2;
+    if n == 0 {
+        return Bytes::Bad;
+    }
+    if s.len() % 2 == 1 {
+        return Bytes::Bad;
+    }
+    if out.len() < n {
+        return Bytes::Bad;
+    }
+    let mut i: usize = 0;
+    while i < n {
+        let b = pair(s[i + i], s[i + i + 1]);
+        if 255 < b {
+            return Bytes::Bad;
+        }
+        out[i] = b as u8;
+        i += 1;
+    }
+    Bytes::Are(n)
+}
+
+// How many characters stand for one byte: three after a `%`, itself among them.
+fn width(b: u8) -> usize
+    ensures { λ r. ⌜ 1 ≤ r ⌝ }
+{
+    if b == b'%' { 3 } else { 1 }
+}
+
+// The byte that the first characters of s stand for; 256 where they stand for none.
+fn meant(s: &[u8]) -> u16 {
+    if s.len() == 0 {
+        return 256;
+    }
+    if s[0] != b'%' {
+        return s[0] as u16;
+    }
+    if s.len() < 3 {
+        return 256;
+    }
+    pair(s[1], s[2])
+}
+
+// `%` and two hexadecimal digits for a byte of any value, another character for itself; the bytes go to the front of out.
+pub fn plain(s: &[u8], out: &mut [u8]) -> Bytes {
+    let mut t = s;
+    let mut n: usize = 0;
+    while 0 < t.len() {
+        let b = meant(t);
+        if 255 < b {
+            return Bytes::Bad;
+        }
+        n = buffer::put_byte(b as u8, out, n);
+        let next = lines::tail(t, width(t[0]));
+        t = next;
+    }
+    Bytes::Are(n)
+}
