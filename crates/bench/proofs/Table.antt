@@ -14,7 +14,7 @@ use Rattle.callsign.specs.Utf8.{after, characters, utf8}
 use Rattle.callsign.specs.Text.{joined, made, isZero, callAccepted, parted, readUnstarred, readText}
 use Rattle.callsign.specs.Range.{callPart, ssidPart, textOf, withStar}
 use Rattle.callsign.specs.Address.{readAddress}
-use Rattle.callsign.specs.Packed.{writeAddress}
+use Rattle.callsign.specs.Packed.{bit, writeAddress}
 use Rattle.callsign.proofs.Theorems.{P10, P10-read}
 use Rattle.lonlat.specs.Latitude.{readLatitude, latitudeNumber}
 use Rattle.lonlat.specs.declared.LatitudeRead.{LatitudeRead}
@@ -32,8 +32,8 @@ use Rattle.mic_e.specs.declared.LongitudeField.the-variants.{Read as Lies}
 use Rattle.mic_e.specs.declared.DestinationRead.the-variants.{Read}
 use Rattle.mic_e.proofs.Cases.{cases}
 use Rattle.header.specs.declared.Hop as hops
-use Rattle.header.specs.Header.{before, pathOf, hopsOf, pathRead, headerOf, headerAccepted, unlessRefused}
-use Rattle.header.specs.Text.{onFirst, fields, firstOf, othersOf, isQ, hopOf, readHop, hopThen, textHops, anyHeard, carried, carriedBack, withPath, readRoute, readBefore, readTextHeader, hopsText, routeText, headerText}
+use Rattle.header.specs.Header.{before, pathOf, hopsOf, headerOf, headerAccepted, unlessRefused, withHops}
+use Rattle.header.specs.Text.{onFirst, fields, firstOf, othersOf, isQ, hopOf, readHop, hopThen, textHops, starsOf, anyHeard, carried, readRoute, readBefore, readHeaderText, readTextHeader, hopsText, routeText, headerText}
 
 -- ---- what the table's lines are written with
 
@@ -85,9 +85,9 @@ heard-to-B = hop capitalA true ∷ hop capitalB true ∷ hop capitalC false ∷ 
 abbrev north : ℕ → ℕ → ℕ → ℕ → ℕ → ℕ → List ℕ
 north a b c d e f = digit a ∷ digit b ∷ digit c ∷ digit d ∷ point ∷ digit e ∷ digit f ∷ capitalN ∷ []
 
--- a northern latitude without blanks
-abbrev at-north : ℕ → LatitudeRead
-at-north size = Stands (record { 0 = pos size }) 0 capitalN
+-- a northern latitude without blanks, its minutes below 60 or not
+abbrev at-north : ℕ → Bool → LatitudeRead
+at-north size sixty = Stands (record { 0 = pos size }) 0 false sixty
 
 -- ---- the table
 
@@ -109,28 +109,28 @@ pub record BenchValues : Type 0 where
       × (longitudeField (degrees 105) ≡ bytes 113 88 28) × (hundredOf (pos (degrees 105)) ≡ true)
   -- "P8 destination S32U6T: 200564, no blanks, M3, offset 0, west."
   pub p8 : readDestination S32U6T
-      ≡ Read (record { latitude = record { 0 = pos 200564 }; blanks = 0; north = true; message = M3; hundred = false; west = true })
+      ≡ Read (record { latitude = record { 0 = pos 200564 }; message = M3; blanks = 0; south = false; hundred = false; west = true; sixty = false })
   -- "P9 LLLLLL: 11; 4LLLLL: -240000, five blanks, Emergency."
   pub p9 : (destinationNumber (readDestination LLLLLL) ≡ 11)
       × (readDestination 4LLLLL
-      ≡ Read (record { latitude = record { 0 = negℤ (pos 240000) }; blanks = 5; north = false; message = Emergency; hundred = false; west = false }))
+      ≡ Read (record { latitude = record { 0 = negℤ (pos 240000) }; message = Emergency; blanks = 5; south = true; hundred = false; west = false; sixty = false }))
   -- "P10 hop N0CALL-1, heard, last: 9c 60 86 82 98 98 e3."
   pub p10 : (writeAddress (made N0CALL (digit 1 ∷ [])) (Hop true) true ≡ record { refusal = 0; bytes = address })
       × (readAddress address ≡ record { refusal = 0; call = made N0CALL (digit 1 ∷ []); heard = true; last = true })
   -- "P11 hops A,B*,C: A and B heard, C not; written A,B*,C."
   pub p11 : (readTextHeader line
-      ≡ headerAccepted (lone capitalS) (lone capitalT) (pathOf heard-to-B) 11)
+      ≡ headerAccepted (lone capitalS) (lone capitalT) (pathOf heard-to-B) 11 2)
       × (headerText (readTextHeader line .header) ≡ line)
   -- "P12 9000.00N and 8960.00N: 540000; 9000.01N: 8."
-  pub p12 : (readLatitude (north 9 0 0 0 0 0) ≡ at-north 540000)
-      × (readLatitude (north 8 9 6 0 0 0) ≡ at-north 540000)
+  pub p12 : (readLatitude (north 9 0 0 0 0 0) ≡ at-north 540000 false)
+      × (readLatitude (north 8 9 6 0 0 0) ≡ at-north 540000 true)
       × (latitudeNumber (readLatitude (north 9 0 0 0 0 1)) ≡ 8)
 
 -- ---- the theorem
 
 p11-read : readTextHeader line
-    ≡ headerAccepted (lone capitalS) (lone capitalT) (pathOf heard-to-B) 11
-unfolding readTextHeader readBefore readRoute withPath unlessRefused headerAccepted headerOf pathOf pathRead fields onFirst firstOf othersOf textHops hopThen before readHop isQ hopOf readText readUnstarred parted callAccepted indexOf utf8 characters after within isZero made joined padTo carriedBack carried anyHeard
+    ≡ headerAccepted (lone capitalS) (lone capitalT) (pathOf heard-to-B) 11 2
+unfolding readTextHeader readHeaderText readBefore readRoute withHops unlessRefused headerAccepted headerOf pathOf fields onFirst firstOf othersOf textHops hopThen before readHop isQ hopOf readText readUnstarred parted callAccepted indexOf utf8 characters after within isZero made joined padTo carried starsOf bit anyHeard
 p11-read = refl
 
 p11-written : headerText (headerOf (lone capitalS) (lone capitalT) (pathOf heard-to-B)) ≡ line
