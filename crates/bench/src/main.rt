@@ -50,7 +50,7 @@ fn finish(failed: bool, t: Tally, out: &mut [u8]) {
         return;
     }
     let used = tell::totals(t, out);
-    if requests::flush(out, used).lost {
+    if ask::flush(out, used).lost {
         os::fail(b"unwritten");
     }
 }
@@ -65,7 +65,7 @@ fn roomy(t: Tally, used: usize) -> Tally {
 }
 
 fn run(input: &mut [u8], out: &mut [u8]) {
-    let mut s = requests::start();
+    let mut s = ask::start();
     let mut t = Tally {
         right: 0,
         all: 0,
@@ -74,12 +74,12 @@ fn run(input: &mut [u8], out: &mut [u8]) {
     let mut turns: u64 = 0xffff_ffff_ffff_ffff;
     while 0 < turns {
         turns -= 1;
-        s = requests::next(8192, input, s);
+        s = ask::next(8192, input, s);
         if !s.line {
             finish(s.failed, t, out);
             return;
         }
-        let o = requests::with_room(out, t.used);
+        let o = ask::with_room(out, t.used);
         if o.lost {
             os::fail(b"unwritten");
             return;

@@ -16,23 +16,23 @@ fn finish(failed: bool, out: &[u8], used: usize) {
         os::fail(b"unread");
         return;
     }
-    if requests::flush(out, used).lost {
+    if ask::flush(out, used).lost {
         os::fail(b"unwritten");
     }
 }
 
 fn run(input: &mut [u8], out: &mut [u8]) {
-    let mut s = requests::start();
+    let mut s = ask::start();
     let mut used: usize = 0;
     let mut turns: u64 = 0xffff_ffff_ffff_ffff;
     while 0 < turns {
         turns -= 1;
-        s = requests::next(4096, input, s);
+        s = ask::next(4096, input, s);
         if !s.line {
             finish(s.failed, out, used);
             return;
         }
-        let o = requests::with_room(out, used);
+        let o = ask::with_room(out, used);
         if o.lost {
             os::fail(b"unwritten");
             return;

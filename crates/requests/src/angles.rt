@@ -1,6 +1,4 @@
 // Latitude and longitude read from their text, and written.
-use crate::put;
-use crate::word;
 use lonlat::Latitude;
 use lonlat::LatitudeRead;
 use lonlat::Longitude;
@@ -17,12 +15,12 @@ pub fn latitude(s: &[u8], out: &mut [u8], at: usize) -> usize {
             south,
             sixty,
         } => {
-            let mut end = put::number(b"0 lat=", latitude.0, out, at);
-            end = put::side(south, b" side=N", b" side=S", out, end);
-            end = put::count(b" blanks=", blanks as usize, out, end);
-            put::count(b" sixty=", sixty as usize, out, end)
+            let mut end = show::number(b"0 lat=", latitude.0, out, at);
+            end = show::side(south, b" side=N", b" side=S", out, end);
+            end = show::count(b" blanks=", blanks as usize, out, end);
+            show::count(b" sixty=", sixty as usize, out, end)
         }
-        LatitudeRead::Refused => put::refusal(8, out, at),
+        LatitudeRead::Refused => show::refusal(8, out, at),
     }
 }
 
@@ -34,18 +32,18 @@ fn longitude_in(s: &[u8], blanks: u8, out: &mut [u8], at: usize) -> usize {
             west,
             sixty,
         } => {
-            let mut end = put::number(b"0 lon=", longitude.0, out, at);
-            end = put::side(west, b" side=E", b" side=W", out, end);
-            put::count(b" sixty=", sixty as usize, out, end)
+            let mut end = show::number(b"0 lon=", longitude.0, out, at);
+            end = show::side(west, b" side=E", b" side=W", out, end);
+            show::count(b" sixty=", sixty as usize, out, end)
         }
-        LongitudeRead::Refused => put::refusal(9, out, at),
-        LongitudeRead::OutOfRange => put::refusal(15, out, at),
+        LongitudeRead::Refused => show::refusal(9, out, at),
+        LongitudeRead::OutOfRange => show::refusal(15, out, at),
     }
 }
 
 // `longitude BLANKS TEXT`
 pub fn longitude(s: &[u8], out: &mut [u8], at: usize) -> usize {
-    let blanks = word::byte(lines::first(s));
+    let blanks = ask::byte(lines::first(s));
     if 255 < blanks {
         return at;
     }
@@ -58,13 +56,13 @@ pub fn latitude_text(s: &[u8], out: &mut [u8], at: usize) -> usize {
     let Number::Is(angle) = read else {
         return at;
     };
-    let blanks = word::byte(lines::rest(s));
+    let blanks = ask::byte(lines::rest(s));
     if 255 < blanks {
         return at;
     }
     let mut text = [0u8; 16];
     let w = lonlat::write_latitude(Latitude(angle), blanks as u8, &mut text);
-    put::written(w, &text, out, at)
+    show::written(w, &text, out, at)
 }
 
 // `longitude-text ANGLE`
@@ -75,5 +73,5 @@ pub fn longitude_text(s: &[u8], out: &mut [u8], at: usize) -> usize {
     };
     let mut text = [0u8; 16];
     let w = lonlat::write_longitude(Longitude(angle), &mut text);
-    put::written(w, &text, out, at)
+    show::written(w, &text, out, at)
 }

@@ -1,6 +1,4 @@
 // Request B: the bounds of an angle as floats, and its box on the page.
-use crate::put;
-use crate::word;
 use lonlat::Latitude;
 use lonlat::Longitude;
 use numbers::Number;
@@ -8,16 +6,16 @@ use position::BoundsAnswer;
 use position::PageBox;
 
 fn put_bounds(b: BoundsAnswer, page: PageBox, out: &mut [u8], at: usize) -> usize {
-    let mut end = put::count(b"", b.refusal as usize, out, at);
-    end = put::float(b.bounds.lower, out, end);
-    end = put::float(b.bounds.upper, out, end);
-    end = put::number(b" ", page.from, out, end);
-    put::number(b" ", page.to, out, end)
+    let mut end = show::count(b"", b.refusal as usize, out, at);
+    end = show::float(b.bounds.lower, out, end);
+    end = show::float(b.bounds.upper, out, end);
+    end = show::number(b" ", page.from, out, end);
+    show::number(b" ", page.to, out, end)
 }
 
 // `LIMIT`, the end of `B ANGLE BLANKS LIMIT`
 fn bounds_of(angle: i32, blanks: u8, limit: &[u8], out: &mut [u8], at: usize) -> usize {
-    let which = word::either(limit, b"lat", b"lon");
+    let which = ask::either(limit, b"lat", b"lon");
     if which == 0 {
         let bounds = position::latitude_bounds(Latitude(angle), blanks);
         return put_bounds(
@@ -46,7 +44,7 @@ pub fn answer(s: &[u8], out: &mut [u8], at: usize) -> usize {
         return at;
     };
     let s = lines::rest(s);
-    let blanks = word::byte(lines::first(s));
+    let blanks = ask::byte(lines::first(s));
     if 255 < blanks {
         return at;
     }

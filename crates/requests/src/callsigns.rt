@@ -1,6 +1,4 @@
 // Callsigns read and written: their text, and their address in a frame.
-use crate::put;
-use crate::show;
 use callsign::AddressWritten;
 use callsign::Callsign;
 use callsign::Field;
@@ -8,7 +6,7 @@ use numbers::Count;
 
 // The refusal, or 0 and the callsign.
 fn called(refusal: u8, c: Callsign, out: &mut [u8], at: usize) -> usize {
-    let end = put::refusal(refusal, out, at);
+    let end = show::refusal(refusal, out, at);
     if refusal != 0 {
         return end;
     }
@@ -19,26 +17,26 @@ fn called(refusal: u8, c: Callsign, out: &mut [u8], at: usize) -> usize {
 pub fn text(s: &[u8], out: &mut [u8], at: usize) -> usize {
     let r = callsign::read_text(s);
     let mut end = called(r.refusal, r.call, out, at);
-    end = put::count(b" starred=", r.starred as usize, out, end);
-    put::count(b" zero=", r.zero as usize, out, end)
+    end = show::count(b" starred=", r.starred as usize, out, end);
+    show::count(b" zero=", r.zero as usize, out, end)
 }
 
 // `address BYTES`
 pub fn address(s: &[u8], out: &mut [u8], at: usize) -> usize {
     let r = callsign::read_address(s);
     let mut end = called(r.refusal, r.call, out, at);
-    end = put::count(b" heard=", r.heard as usize, out, end);
-    put::count(b" last=", r.last as usize, out, end)
+    end = show::count(b" heard=", r.heard as usize, out, end);
+    show::count(b" last=", r.last as usize, out, end)
 }
 
 // An address in hexadecimal.
 fn packed(w: AddressWritten, out: &mut [u8], at: usize) -> usize {
-    let end = put::refusal(w.refusal, out, at);
+    let end = show::refusal(w.refusal, out, at);
     if w.refusal != 0 {
         return end;
     }
     let bytes = w.bytes;
-    put::labelled(b" address=", &bytes, false, out, end)
+    show::labelled(b" address=", &bytes, false, out, end)
 }
 
 // `to TEXT`: the address of the callsign that the text reads as, as a destination
@@ -74,7 +72,7 @@ fn written(bytes: &[u8], call_len: usize, ssid_len: usize, out: &mut [u8], at: u
     };
     let mut line = [0u8; 32];
     let w = callsign::write_text(c, false, &mut line);
-    put::written(w, &line, out, at)
+    show::written(w, &line, out, at)
 }
 
 // `spelled CALL_LEN SSID_LEN BYTES`

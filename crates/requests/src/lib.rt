@@ -4,20 +4,10 @@ mod angles;
 mod bounds;
 mod callsigns;
 mod list;
-mod put;
 mod read;
-mod show;
-mod stream;
-mod word;
 mod write;
 
-pub use stream::Input;
-pub use stream::Output;
-pub use stream::flush;
-pub use stream::next;
-pub use stream::start;
-pub use stream::with_room;
-use word::Bytes;
+use ask::Bytes;
 
 // The questions. Those of docs/INSPECT.md, whose bytes are in hexadecimal:
 //   T, F, M, L, B, W
@@ -31,7 +21,7 @@ use word::Bytes;
 //   spelled CALL_LEN SSID_LEN BYTES      a callsign by its parts, written
 //   to, from, last-from, last-hop TEXT   the callsign's address as destination, source, last source, heard last hop
 fn question(word: &[u8]) -> usize {
-    word::place(
+    ask::place(
         word,
         b"T F M L B W text frame long row latitude longitude latitude-text longitude-text information motions longitudes callsign address spelled to from last-from last-hop",
     )
@@ -85,7 +75,7 @@ fn of_callsigns(k: usize, s: &[u8], out: &mut [u8], at: usize) -> usize {
 // The answer to one of the bench's own questions.
 fn of_bench(k: usize, s: &[u8], out: &mut [u8], at: usize) -> usize {
     let mut bytes = io::buffer();
-    let read = word::plain(s, &mut bytes);
+    let read = ask::plain(s, &mut bytes);
     let Bytes::Are(n) = read else {
         return at;
     };

@@ -1,6 +1,4 @@
 // The fields that read as a motion or as a longitude, in a buffer of a given room; and the information of a Mic-E report.
-use crate::put;
-use crate::word;
 use lonlat::Longitude;
 use mic_e::Course;
 use mic_e::Information;
@@ -8,25 +6,17 @@ use mic_e::Speed;
 use numbers::Count;
 use numbers::Number;
 
-// What a lister or writer answered, and the whole buffer afterwards.
-pub fn whole(w: buffer::Answer, buffer: &[u8], out: &mut [u8], at: usize) -> usize {
-    let mut end = put::refusal(w.refusal, out, at);
-    end = put::count(b" ", w.reported, out, end);
-    end = put::count(b" ", w.needed, out, end);
-    put::labelled(b" ", buffer, false, out, end)
-}
-
 // What a lister answered: the refusal and the bytes needed, or the count and each field.
 fn each(w: buffer::Answer, bytes: &[u8], out: &mut [u8], at: usize) -> usize {
-    let mut end = put::refusal(w.refusal, out, at);
+    let mut end = show::refusal(w.refusal, out, at);
     if w.refusal != 0 {
-        return put::count(b" needed=", w.needed, out, end);
+        return show::count(b" needed=", w.needed, out, end);
     }
-    end = put::count(b" count=", w.reported, out, end);
+    end = show::count(b" count=", w.reported, out, end);
     let mut t = bytes;
     let mut i: usize = 0;
     while i < w.reported {
-        end = put::decimals(b" field=", lines::cut(t, 3), out, end);
+        end = show::decimals(b" field=", lines::cut(t, 3), out, end);
         let next = lines::tail(t, 3);
         t = next;
         i += 1;
@@ -56,7 +46,7 @@ fn motion_of(speed: u32, s: &[u8], out: &mut [u8], at: usize) -> usize {
     let room = most as usize;
     let mut buffer = [0xaau8; 512];
     let w = list_motion(speed, course, &mut buffer, room);
-    whole(w, lines::cut(&buffer, room), out, at)
+    show::whole(w, lines::cut(&buffer, room), out, at)
 }
 
 // `M SPEED COURSE ROOM`
@@ -114,7 +104,7 @@ fn longitude_of(
     let room = most as usize;
     let mut buffer = [0xaau8; 512];
     let w = list_longitude(angle, hundred, west, &mut buffer, room);
-    whole(w, lines::cut(&buffer, room), out, at)
+    show::whole(w, lines::cut(&buffer, room), out, at)
 }
 
 // `L ANGLE OFFSET SIDE ROOM`
@@ -124,9 +114,9 @@ pub fn longitude(s: &[u8], out: &mut [u8], at: usize) -> usize {
         return at;
     };
     let s = lines::rest(s);
-    let offset = word::either(lines::first(s), b"0", b"100");
+    let offset = ask::either(lines::first(s), b"0", b"100");
     let s = lines::rest(s);
-    let side = word::either(lines::first(s), b"E", b"W");
+    let side = ask::either(lines::first(s), b"E", b"W");
     if 1 < offset {
         return at;
     }
@@ -154,13 +144,13 @@ pub fn longitudes(s: &[u8], out: &mut [u8], at: usize) -> usize {
 // ---- information
 
 fn written(w: buffer::Answer, bytes: &[u8], out: &mut [u8], at: usize) -> usize {
-    let mut end = put::refusal(w.refusal, out, at);
+    let mut end = show::refusal(w.refusal, out, at);
     if w.refusal != 0 {
         return end;
     }
-    end = put::decimals(b" lon=", lines::cut(bytes, 3), out, end);
-    end = put::decimals(b" motion=", lines::cut(lines::tail(bytes, 3), 3), out, end);
-    put::decimals(b" symbol=", lines::tail(bytes, 6), out, end)
+    end = show::decimals(b" lon=", lines::cut(bytes, 3), out, end);
+    end = show::decimals(b" motion=", lines::cut(lines::tail(bytes, 3), 3), out, end);
+    show::decimals(b" symbol=", lines::tail(bytes, 6), out, end)
 }
 
 // `SPEED COURSE`, the rest of `information LONGITUDE SPEED COURSE`; the symbol is `/>`.

@@ -94,3 +94,11 @@ pub fn written(w: buffer::Answer, bytes: &[u8], out: &mut [u8], at: usize) -> us
     }
     labelled(b" text=", lines::cut(bytes, w.reported), true, out, end)
 }
+
+// What a lister or writer answered, and the whole buffer afterwards.
+pub fn whole(w: buffer::Answer, buffer: &[u8], out: &mut [u8], at: usize) -> usize {
+    let mut end = refusal(w.refusal, out, at);
+    end = count(b" ", w.reported, out, end);
+    end = count(b" ", w.needed, out, end);
+    labelled(b" ", buffer, false, out, end)
+}

@@ -1,4 +1,5 @@
-// A record in words: `KIND from= to= hops= lat= lon= blanks= table= code= flag= message= speed= course= comment=`.
+// A record in words, and written again: `KIND from= to= hops= lat= lon= blanks= table= code= flag= message= speed= course= comment=
+// text= frame=`.
 use crate::put;
 use body::Body;
 use body::Comment;
@@ -9,10 +10,11 @@ use header::Header;
 use header::Hop;
 use header::Path;
 use mic_e::Message;
+use packet::Record;
 use position::Place;
 
 // The answer 0 and the kind.
-pub fn kind(k: Kind, out: &mut [u8], at: usize) -> usize {
+fn kind(k: Kind, out: &mut [u8], at: usize) -> usize {
     match k {
         Kind::Unknown => buffer::put(b"0 unknown", out, at),
         Kind::Position => buffer::put(b"0 position", out, at),
@@ -51,7 +53,7 @@ fn hops(path: Path, plain: bool, out: &mut [u8], at: usize) -> usize {
 }
 
 // Callsigns and hops.
-pub fn header(h: Header, plain: bool, out: &mut [u8], at: usize) -> usize {
+fn header(h: Header, plain: bool, out: &mut [u8], at: usize) -> usize {
     let from = h.from;
     let to = h.to;
     let path = h.path;
@@ -110,7 +112,7 @@ fn comment(c: Comment, out: &mut [u8], at: usize) -> usize {
 }
 
 // What stands behind the header.
-pub fn body(b: Body, out: &mut [u8], at: usize) -> usize {
+fn body(b: Body, out: &mut [u8], at: usize) -> usize {
     let p = b.place;
     let report = b.report;
     let k = b.kind;
@@ -120,4 +122,47 @@ pub fn body(b: Body, out: &mut [u8], at: usize) -> usize {
     end = message_of(k, word, out, end);
     end = motion(report, out, end);
     comment(b.comment, out, end)
+}
+
+// ---- written again
+
+// What a writer answered, and what it wrote.
+fn written(
+    label: &[u8],
+    w: buffer::Answer,
+    bytes: &[u8],
+    plain: bool,
+    out: &mut [u8],
+    at: usize,
+) -> usize {
+    let end = put::count(label, w.refusal as usize, out, at);
+    if w.refusal != 0 {
+        return buffer::put(b":-", out, end);
+    }
+    put::labelled(b":", lines::cut(bytes, w.reported), plain, out, end)
+}
+
+// The record written again, both ways, with the comment that it was read with.
+fn again(r: Record, comment: &[u8], plain: bool, out: &mut [u8], at: usize) -> usize {
+    let mut bytes = [0u8; 512];
+    let w = packet::write_text(r, comment, &mut bytes);
+    let end = written(b" text=", w, &bytes, plain, out, at);
+    let w = packet::write_frame(r, comment, &mut bytes);
+    written(b" frame=", w, &bytes, plain, out, end)
+}
+
+fn comment_in(c: Comment, line: &[u8]) -> &[u8] {
+    lines::cut(lines::tail(line, c.at), c.len)
+}
+
+// A record in words, from the answer 0 on. The words of a later request go behind them.
+pub fn record(r: Record, line: &[u8], plain: bool, out: &mut [u8], at: usize) -> usize {
+    let h = r.header;
+    let b = r.body;
+    let k = b.kind;
+    let c = b.comment;
+    let mut end = kind(k, out, at);
+    end = header(h, plain, out, end);
+    end = body(b, out, end);
+    again(r, comment_in(c, line), plain, out, end)
 }
