@@ -102,13 +102,17 @@ fn width(b: u8) -> usize
     if b == b'%' { 3 } else { 1 }
 }
 
+fn wide(b: u8) -> u16 {
+    b as u16
+}
+
 // The byte that the first characters of s stand for; 256 where they stand for none.
 fn meant(s: &[u8]) -> u16 {
     if s.len() == 0 {
         return 256;
     }
     if s[0] != b'%' {
-        return s[0] as u16;
+        return wide(s[0]);
     }
     if s.len() < 3 {
         return 256;
