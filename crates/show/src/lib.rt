@@ -1,7 +1,9 @@
 // An answer in words: its pieces, and a record. Part of the programs inspect and bench.
+mod packets;
 mod put;
-mod record;
 
+pub use packets::call;
+pub use packets::record;
 pub use put::count;
 pub use put::decimals;
 pub use put::float;
@@ -11,5 +13,3 @@ pub use put::refusal;
 pub use put::side;
 pub use put::whole;
 pub use put::written;
-pub use record::call;
-pub use record::record;
