@@ -33,14 +33,23 @@ fn take(t: Tally, s: &[u8], out: &mut [u8]) -> Tally {
         return t;
     }
     if line::starts(s, b"#") {
-        let used = tell::line(b"", s, out, t.used);
-        return Tally {
-            right: t.right,
-            all: t.all,
-            used,
-        };
+        let mut u = t;
+        u.used = tell::line(b"", s, out, t.used);
+        return u;
     }
     compare(t, s, out)
+}
+
+// The same once there is room for what it prints.
+fn turn(t: Tally, s: &[u8], out: &mut [u8]) -> Tally {
+    let o = ask::with_room(out, t.used);
+    let mut u = t;
+    u.used = o.used;
+    u.lost = o.lost;
+    if o.lost {
+        return u;
+    }
+    take(u, s, out)
 }
 
 // The totals, and all that is not written yet.
@@ -49,28 +58,19 @@ fn finish(failed: bool, t: Tally, out: &mut [u8]) {
         os::fail(b"unread");
         return;
     }
+    if t.lost {
+        os::fail(b"unwritten");
+        return;
+    }
     let used = tell::totals(t, out);
     if ask::flush(out, used).lost {
         os::fail(b"unwritten");
     }
 }
 
-// The same tally once there is room.
-fn roomy(t: Tally, used: usize) -> Tally {
-    Tally {
-        right: t.right,
-        all: t.all,
-        used,
-    }
-}
-
 fn run(input: &mut [u8], out: &mut [u8]) {
     let mut s = ask::start();
-    let mut t = Tally {
-        right: 0,
-        all: 0,
-        used: 0,
-    };
+    let mut t = tell::none();
     let mut turns: u64 = 0xffff_ffff_ffff_ffff;
     while 0 < turns {
         turns -= 1;
@@ -79,16 +79,11 @@ fn run(input: &mut [u8], out: &mut [u8]) {
             finish(s.failed, t, out);
             return;
         }
-        let o = ask::with_room(out, t.used);
-        if o.lost {
-            os::fail(b"unwritten");
+        t = turn(t, lines::cut(lines::tail(input, s.start), s.len), out);
+        if t.lost {
+            finish(s.failed, t, out);
             return;
         }
-        t = take(
-            roomy(t, o.used),
-            lines::cut(lines::tail(input, s.start), s.len),
-            out,
-        );
     }
     finish(s.failed, t, out);
 }

@@ -1,10 +1,22 @@
 // What the program prints: a line for each value, and the totals.
 
-// How many values were as they should be, how many there were, and how many bytes of the output are in use.
+// How many values were as they should be, how many there were, how many bytes of the output are in use, and whether some could
+// not be written.
 pub struct Tally {
     pub right: usize,
     pub all: usize,
     pub used: usize,
+    pub lost: bool,
+}
+
+// What is known before the first value.
+pub fn none() -> Tally {
+    Tally {
+        right: 0,
+        all: 0,
+        used: 0,
+        lost: false,
+    }
 }
 
 // A line of two parts.
@@ -24,28 +36,23 @@ fn more(n: usize) -> usize {
 
 // A value that is as it should be: a line, but for a recorded answer.
 pub fn right(t: Tally, asked: &[u8], recorded: bool, out: &mut [u8]) -> Tally {
-    let right = more(t.right);
-    let all = more(t.all);
+    let mut u = t;
+    u.right = more(t.right);
+    u.all = more(t.all);
     if recorded {
-        return Tally {
-            right,
-            all,
-            used: t.used,
-        };
+        return u;
     }
-    let used = line(b"ok ", asked, out, t.used);
-    Tally { right, all, used }
+    u.used = line(b"ok ", asked, out, t.used);
+    u
 }
 
 // One that is not: what it should be, of a line that is too long its beginning, and what it is.
 pub fn wrong(t: Tally, s: &[u8], got: &[u8], out: &mut [u8]) -> Tally {
-    let mut used = line(b"WRONG ", lines::cut(s, 8192), out, t.used);
-    used = line(b"  is ", got, out, used);
-    Tally {
-        right: t.right,
-        all: more(t.all),
-        used,
-    }
+    let mut u = t;
+    u.all = more(t.all);
+    let used = line(b"WRONG ", lines::cut(s, 8192), out, t.used);
+    u.used = line(b"  is ", got, out, used);
+    u
 }
 
 // The last line.

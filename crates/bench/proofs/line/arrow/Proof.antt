@@ -1,58 +1,49 @@
+-- `arrow`: the place looked at is within the text.
+-- Assumes nothing.
+use Prim.Native.Nat.{_-_, _≤_}
+use lib.ListN.{length}
+use borrow.Author.Needs.{needs}
 use Rattle.bench.proofs.line.arrow.Statement.{statement}
 use Rattle.bench.proofs.line.arrow.Tie as tie
-use Rattle.bench.proofs.line.arrow.Reads as reads
-use Rattle.bench.proofs.line.arrow.Lts as lts
-use Rattle.bench.proofs.line.starts.Reads as starts-reads
 
 abbrev Inv-loop : tie.InvT-loop
-Inv-loop s i₀ t3 i = ?
+Inv-loop s i₀ t3 i = i ≤ length s
 
 abbrev μ-loop : tie.MeasureT-loop
-μ-loop s i₀ t3 i = ?
+μ-loop s i₀ t3 i = length s - i
 
--- src/line.rt:13:5
 loop-holds : tie.Need-loop-holds Inv-loop μ-loop
-loop-holds c = ?
+loop-holds c = search needs
 
--- src/line.rt:14:19
 sub-starts : tie.Need-sub-starts Inv-loop μ-loop
-sub-starts c = ?
+sub-starts c = search needs
 
--- src/line.rt:14:19
 part-starts-start : tie.Need-part-starts-start Inv-loop μ-loop
-part-starts-start c = ?
+part-starts-start c = search needs
 
--- src/line.rt:14:19
 part-starts-end : tie.Need-part-starts-end Inv-loop μ-loop
-part-starts-end c = ?
+part-starts-end c = search needs
 
--- src/line.rt:14:28
 slice-aggregate-starts : tie.Need-slice-aggregate-starts Inv-loop μ-loop
-slice-aggregate-starts c = ?
+slice-aggregate-starts c = search needs
 
--- src/line.rt:14:12
 starts-requires : tie.Need-starts-requires Inv-loop μ-loop
-starts-requires c κs = ?
+starts-requires c κs = search needs
 
--- src/line.rt:15:13
 returns : tie.Need-returns Inv-loop μ-loop
-returns c = ?
+returns c = search needs
 
--- src/line.rt:17:9
 add-i : tie.Need-add-i Inv-loop μ-loop
-add-i c = ?
+add-i c = search needs
 
--- src/line.rt:13:5
 loop-less : tie.Need-loop-less Inv-loop μ-loop
-loop-less c = ?
+loop-less c = search needs
 
--- src/line.rt:13:5
 loop-again : tie.Need-loop-again Inv-loop μ-loop
-loop-again c = ?
+loop-again c = search needs
 
--- src/line.rt:11:1
 returns-2 : tie.Need-returns-2 Inv-loop μ-loop
-returns-2 c = ?
+returns-2 c = search needs
 
 pub arrow-spec : {M : Type 1} → statement M
 arrow-spec =
