@@ -42,7 +42,7 @@ fn take(t: Tally, s: &[u8], out: &mut [u8]) -> Tally {
 
 // The same once there is room for what it prints.
 fn turn(t: Tally, s: &[u8], out: &mut [u8]) -> Tally {
-    let o = ask::with_room(out, t.used);
+    let o = stream::with_room(out, t.used);
     let mut u = t;
     u.used = o.used;
     u.lost = o.lost;
@@ -63,25 +63,25 @@ fn finish(failed: bool, t: Tally, out: &mut [u8]) {
         return;
     }
     let used = tell::totals(t, out);
-    if ask::flush(out, used).lost {
+    if stream::flush(out, used).lost {
         os::fail(b"unwritten");
     }
 }
 
 fn run(input: &mut [u8], out: &mut [u8]) {
-    let mut s = ask::start();
+    let mut s = stream::start();
     let mut t = tell::none();
     let mut turns: u64 = 0xffff_ffff_ffff_ffff;
     while 0 < turns {
         turns -= 1;
-        s = ask::next(8192, input, s);
+        s = stream::next(8192, input, s);
         if !s.line {
             finish(s.failed, t, out);
             return;
         }
-        t = turn(t, lines::cut(lines::tail(input, s.start), s.len), out);
+        t = turn(t, stream::in_hand(input, s), out);
         if t.lost {
-            finish(s.failed, t, out);
+            finish(false, t, out);
             return;
         }
     }

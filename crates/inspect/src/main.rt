@@ -16,28 +16,28 @@ fn finish(failed: bool, out: &[u8], used: usize) {
         os::fail(b"unread");
         return;
     }
-    if ask::flush(out, used).lost {
+    if stream::flush(out, used).lost {
         os::fail(b"unwritten");
     }
 }
 
 fn run(input: &mut [u8], out: &mut [u8]) {
-    let mut s = ask::start();
+    let mut s = stream::start();
     let mut used: usize = 0;
     let mut turns: u64 = 0xffff_ffff_ffff_ffff;
     while 0 < turns {
         turns -= 1;
-        s = ask::next(4096, input, s);
+        s = stream::next(4096, input, s);
         if !s.line {
             finish(s.failed, out, used);
             return;
         }
-        let o = ask::with_room(out, used);
+        let o = stream::with_room(out, used);
         if o.lost {
             os::fail(b"unwritten");
             return;
         }
-        used = answer(lines::cut(lines::tail(input, s.start), s.len), out, o.used);
+        used = answer(stream::in_hand(input, s), out, o.used);
     }
     finish(s.failed, out, used);
 }

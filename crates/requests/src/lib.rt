@@ -1,9 +1,6 @@
 // Any function asked by a line of text, and its answer in words: part of the programs inspect and bench. An answer starts with a
 // number, 0 or the refusal's; words `name=value` follow, but for lists, bounds and rows.
-mod angles;
 mod bounds;
-mod callsigns;
-mod list;
 mod read;
 mod write;
 
@@ -31,8 +28,8 @@ fn of_inspect(k: usize, s: &[u8], out: &mut [u8], at: usize) -> usize {
     match k {
         0 => read::answer(s, false, out, at),
         1 => read::answer(s, true, out, at),
-        2 => list::motion(s, out, at),
-        3 => list::longitude(s, out, at),
+        2 => leaves::list_motions(s, out, at),
+        3 => leaves::list_longitudes(s, out, at),
         4 => bounds::answer(s, out, at),
         _ => write::answer(s, out, at),
     }
@@ -49,25 +46,25 @@ fn of_packets(k: usize, s: &[u8], out: &mut [u8], at: usize) -> usize {
 
 fn of_angles(k: usize, s: &[u8], out: &mut [u8], at: usize) -> usize {
     match k {
-        10 => angles::latitude(s, out, at),
-        11 => angles::longitude(s, out, at),
-        12 => angles::latitude_text(s, out, at),
-        13 => angles::longitude_text(s, out, at),
-        14 => list::information(s, out, at),
-        15 => list::motions(s, out, at),
-        _ => list::longitudes(s, out, at),
+        10 => leaves::latitude(s, out, at),
+        11 => leaves::longitude(s, out, at),
+        12 => leaves::latitude_text(s, out, at),
+        13 => leaves::longitude_text(s, out, at),
+        14 => leaves::information(s, out, at),
+        15 => leaves::motions(s, out, at),
+        _ => leaves::longitudes(s, out, at),
     }
 }
 
 fn of_callsigns(k: usize, s: &[u8], out: &mut [u8], at: usize) -> usize {
     match k {
-        17 => callsigns::text(s, out, at),
-        18 => callsigns::address(s, out, at),
-        19 => callsigns::spelled(s, out, at),
-        20 => callsigns::to(s, out, at),
-        21 => callsigns::from(s, false, out, at),
-        22 => callsigns::from(s, true, out, at),
-        23 => callsigns::last_hop(s, out, at),
+        17 => leaves::text(s, out, at),
+        18 => leaves::address(s, out, at),
+        19 => leaves::spelled(s, out, at),
+        20 => leaves::to(s, out, at),
+        21 => leaves::from(s, false, out, at),
+        22 => leaves::from(s, true, out, at),
+        23 => leaves::last_hop(s, out, at),
         _ => at,
     }
 }

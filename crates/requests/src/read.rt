@@ -1,18 +1,14 @@
 // A line or a frame read and shown; and the listing's row of a line.
 use ask::Bytes;
 use numbers::Count;
-use packet::PacketRead;
 
-fn packet(read: PacketRead, line: &[u8], plain: bool, out: &mut [u8], at: usize) -> usize {
+// What a line, or a frame, reads as.
+pub fn shown(line: &[u8], framed: bool, plain: bool, out: &mut [u8], at: usize) -> usize {
+    let read = packet::read(line, framed);
     if read.refusal != 0 {
         return show::refusal(read.refusal, out, at);
     }
     show::record(read.record, line, plain, out, at)
-}
-
-// What a line, or a frame, reads as.
-pub fn shown(line: &[u8], framed: bool, plain: bool, out: &mut [u8], at: usize) -> usize {
-    packet(packet::read(line, framed), line, plain, out, at)
 }
 
 // `T HEX` and `F HEX`

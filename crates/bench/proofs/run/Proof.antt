@@ -39,11 +39,8 @@ same-length-2 c = search needs
 returns : tie.Need-returns Inv-loop μ-loop
 returns c = search needs
 
-tail-requires : tie.Need-tail-requires Inv-loop μ-loop
-tail-requires c κs = search needs
-
-cut-requires : tie.Need-cut-requires Inv-loop μ-loop
-cut-requires c κs = search needs
+in-hand-requires : tie.Need-in-hand-requires Inv-loop μ-loop
+in-hand-requires c κs = search needs
 
 turn-requires : tie.Need-turn-requires Inv-loop μ-loop
 turn-requires c κs = search needs
@@ -93,8 +90,7 @@ run-spec =
     same-length
     same-length-2
     returns
-    tail-requires
-    cut-requires
+    in-hand-requires
     turn-requires
     finish-requires-2
     same-length-3

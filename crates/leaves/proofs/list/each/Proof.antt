@@ -4,8 +4,8 @@ use mathlib.Core.Path.{_≡_}
 use Prim.Native.Nat.{_-_, _≤_}
 use lib.ListN.{length}
 use borrow.Author.Needs.{needs}
-use Rattle.requests.proofs.list.each.Statement.{statement}
-use Rattle.requests.proofs.list.each.Tie as tie
+use Rattle.leaves.proofs.list.each.Statement.{statement}
+use Rattle.leaves.proofs.list.each.Tie as tie
 
 abbrev Inv-loop : tie.InvT-loop
 Inv-loop w bytes out₀ at end₀ t₀ i₀ t11 out end t i = (i ≤ w .reported) × (length out ≡ length out₀)

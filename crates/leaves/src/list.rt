@@ -50,7 +50,7 @@ fn motion_of(speed: u32, s: &[u8], out: &mut [u8], at: usize) -> usize {
 }
 
 // `M SPEED COURSE ROOM`
-pub fn motion(s: &[u8], out: &mut [u8], at: usize) -> usize {
+pub fn list_motions(s: &[u8], out: &mut [u8], at: usize) -> usize {
     let read = numbers::read_count(lines::first(s), 0xffff_ffff);
     let Count::Is(speed) = read else {
         return at;
@@ -108,7 +108,7 @@ fn longitude_of(
 }
 
 // `L ANGLE OFFSET SIDE ROOM`
-pub fn longitude(s: &[u8], out: &mut [u8], at: usize) -> usize {
+pub fn list_longitudes(s: &[u8], out: &mut [u8], at: usize) -> usize {
     let read = numbers::read_number(lines::first(s));
     let Number::Is(angle) = read else {
         return at;

@@ -3,8 +3,8 @@
 use mathlib.Core.Path.{_≡_}
 use lib.ListN.{length}
 use borrow.Author.Needs.{needs}
-use Rattle.ask.proofs.stream.next.Statement.{statement}
-use Rattle.ask.proofs.stream.next.Tie as tie
+use Rattle.stream.proofs.next.Statement.{statement}
+use Rattle.stream.proofs.next.Tie as tie
 
 abbrev Inv-loop : tie.InvT-loop
 Inv-loop most input₀ t₀ turns₀ input t turns = length input ≡ length input₀

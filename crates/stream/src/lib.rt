@@ -1,10 +1,10 @@
-// Standard input a line at a time, of any length, and standard output in parts.
+// Standard input a line at a time, of any length, and standard output in parts. Part of the programs inspect and bench.
 
 // The line in hand, if there is one: where it starts in the buffer, and its length. What is held behind it goes from the place
 // `next` up to `held`. Passing: that is the rest of a line which was too long, and is passed over. Over: all was read.
 pub struct Input {
-    pub start: usize,
-    pub len: usize,
+    start: usize,
+    len: usize,
     next: usize,
     held: usize,
     passing: bool,
@@ -108,6 +108,11 @@ pub fn next(most: usize, input: &mut [u8], s: Input) -> Input {
         t = step(most, input, t);
     }
     t
+}
+
+// The line in hand.
+pub fn in_hand(input: &[u8], s: Input) -> &[u8] {
+    lines::cut(lines::tail(input, s.start), s.len)
 }
 
 // How many bytes of the output are in use, and whether some could not be written.

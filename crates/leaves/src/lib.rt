@@ -1,0 +1,20 @@
+// The leaves asked: angles, callsigns and lists of fields, each with its answer in words. Part of the programs inspect and bench.
+mod angles;
+mod callsigns;
+mod list;
+
+pub use angles::latitude;
+pub use angles::latitude_text;
+pub use angles::longitude;
+pub use angles::longitude_text;
+pub use callsigns::address;
+pub use callsigns::from;
+pub use callsigns::last_hop;
+pub use callsigns::spelled;
+pub use callsigns::text;
+pub use callsigns::to;
+pub use list::information;
+pub use list::list_longitudes;
+pub use list::list_motions;
+pub use list::longitudes;
+pub use list::motions;
