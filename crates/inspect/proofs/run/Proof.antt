@@ -54,11 +54,8 @@ same-length-4 c = search needs
 returns-2 : tie.Need-returns-2 Inv-loop μ-loop
 returns-2 c = search needs
 
-tail-requires : tie.Need-tail-requires Inv-loop μ-loop
-tail-requires c κs = search needs
-
-cut-requires : tie.Need-cut-requires Inv-loop μ-loop
-cut-requires c κs = search needs
+in-hand-requires : tie.Need-in-hand-requires Inv-loop μ-loop
+in-hand-requires c κs = search needs
 
 answer-requires : tie.Need-answer-requires Inv-loop μ-loop
 answer-requires c κs = search needs
@@ -101,8 +98,7 @@ run-spec =
     same-length-3
     same-length-4
     returns-2
-    tail-requires
-    cut-requires
+    in-hand-requires
     answer-requires
     loop-less
     loop-again
