@@ -1,15 +1,359 @@
-// What the words of a request mean. Part of the programs inspect and bench.
-mod made;
-mod word;
+// A record made by hand, its header and its body, each by their words: part of the programs inspect and bench. Words that make no
+// part of it give one that is not good.
+use body::Body;
+use body::Comment;
+use body::Kind;
+use body::Report;
+use callsign::Callsign;
+use header::Header;
+use header::Hop;
+use header::Path;
+use lonlat::Latitude;
+use lonlat::Longitude;
+use mic_e::Course;
+use mic_e::Message;
+use mic_e::Speed;
+use numbers::Count;
+use numbers::Number;
+use position::Place;
+use words::Bytes;
 
-pub use made::BodyWord;
-pub use made::HeaderWord;
-pub use made::body_word;
-pub use made::header_word;
-pub use word::Bytes;
-pub use word::byte;
-pub use word::either;
-pub use word::hex;
-pub use word::place;
-pub use word::plain;
-pub use word::skip;
+struct CallWord {
+    call: Callsign,
+    good: bool,
+}
+
+pub struct HeaderWord {
+    pub header: Header,
+    pub good: bool,
+}
+
+struct PlaceWord {
+    place: Place,
+    good: bool,
+}
+
+struct ReportWord {
+    report: Report,
+    good: bool,
+}
+
+pub struct BodyWord {
+    pub body: Body,
+    pub good: bool,
+}
+
+enum KindWord {
+    Is(Kind),
+    Bad,
+}
+
+enum MessageWord {
+    Is(Message),
+    Bad,
+}
+
+// ---- callsigns and hops
+
+fn no_call() -> CallWord {
+    let call = callsign::blank();
+    CallWord { call, good: false }
+}
+
+// Call and SSID as they were given. What a text of sixteen bytes cannot hold is cut off it: the lengths tell.
+fn joined(call: &[u8], ssid: &[u8]) -> CallWord {
+    let mut text = [0u8; 16];
+    let mut end = buffer::put(call, &mut text, 0);
+    end = buffer::put(lines::cut(b"-", ssid.len()), &mut text, end);
+    let room = if end <= 16 { 16 - end } else { 0 };
+    buffer::put(lines::cut(ssid, room), &mut text, end);
+    let call = Callsign {
+        text,
+        call_len: call.len(),
+        ssid_len: ssid.len(),
+    };
+    CallWord { call, good: true }
+}
+
+// `CALL/SSID`
+fn call_word(s: &[u8]) -> CallWord {
+    let slash = laws::find(s, b'/');
+    if slash == s.len() {
+        return no_call();
+    }
+    let mut call = [0u8; 16];
+    let mut ssid = [0u8; 16];
+    let read = words::hex(lines::cut(s, slash), &mut call);
+    let Bytes::Are(n) = read else {
+        return no_call();
+    };
+    let read = words::hex(lines::tail(lines::tail(s, slash), 1), &mut ssid);
+    let Bytes::Are(k) = read else {
+        return no_call();
+    };
+    if 16 < n {
+        return no_call();
+    }
+    if 16 - n < k {
+        return no_call();
+    }
+    joined(lines::cut(&call, n), lines::cut(&ssid, k))
+}
+
+// A callsign, and a star behind it where the hop is heard.
+fn hop_word(s: &[u8]) -> CallWord {
+    let star = laws::find(s, b'*');
+    if 1 < lines::tail(s, star).len() {
+        return no_call();
+    }
+    call_word(lines::cut(s, star))
+}
+
+fn no_header() -> HeaderWord {
+    let header = header::blank();
+    HeaderWord {
+        header,
+        good: false,
+    }
+}
+
+fn with_path(from: Callsign, to: Callsign, hops: [Hop; 8], count: usize) -> HeaderWord {
+    let path = Path { hops, count };
+    let header = Header { from, to, path };
+    HeaderWord { header, good: true }
+}
+
+// Hops joined by commas, or a dash for none.
+fn path_word(from: Callsign, to: Callsign, s: &[u8]) -> HeaderWord {
+    let none = header::blank();
+    let spare = none.path;
+    let mut hops = spare.hops;
+    if check::same(s, b"-") {
+        return with_path(from, to, hops, 0);
+    }
+    let mut t = s;
+    let mut i: usize = 0;
+    while i < 8 {
+        let comma = laws::find(t, b',');
+        let word = lines::cut(t, comma);
+        let made = hop_word(word);
+        if !made.good {
+            return no_header();
+        }
+        let call = made.call;
+        let hop = Hop {
+            call,
+            heard: laws::find(word, b'*') != word.len(),
+        };
+        hops[i] = hop;
+        i += 1;
+        if comma == t.len() {
+            return with_path(from, to, hops, i);
+        }
+        t = lines::tail(lines::tail(t, comma), 1);
+    }
+    no_header()
+}
+
+// `FROM TO HOPS`, and more behind it
+pub fn header_word(s: &[u8]) -> HeaderWord {
+    let made = call_word(lines::first(s));
+    if !made.good {
+        return no_header();
+    }
+    let from = made.call;
+    let s = lines::rest(s);
+    let made = call_word(lines::first(s));
+    if !made.good {
+        return no_header();
+    }
+    let to = made.call;
+    path_word(from, to, lines::first(lines::rest(s)))
+}
+
+// ---- the body
+
+fn kind_word(s: &[u8]) -> KindWord {
+    match words::place(s, b"unknown position mic-e") {
+        0 => KindWord::Is(Kind::Unknown),
+        1 => KindWord::Is(Kind::Position),
+        2 => KindWord::Is(Kind::MicE),
+        _ => KindWord::Bad,
+    }
+}
+
+fn standard(k: usize) -> MessageWord {
+    match k {
+        0 => MessageWord::Is(Message::M0),
+        1 => MessageWord::Is(Message::M1),
+        2 => MessageWord::Is(Message::M2),
+        3 => MessageWord::Is(Message::M3),
+        4 => MessageWord::Is(Message::M4),
+        5 => MessageWord::Is(Message::M5),
+        _ => MessageWord::Is(Message::M6),
+    }
+}
+
+fn custom(k: usize) -> MessageWord {
+    match k {
+        7 => MessageWord::Is(Message::C0),
+        8 => MessageWord::Is(Message::C1),
+        9 => MessageWord::Is(Message::C2),
+        10 => MessageWord::Is(Message::C3),
+        11 => MessageWord::Is(Message::C4),
+        12 => MessageWord::Is(Message::C5),
+        13 => MessageWord::Is(Message::C6),
+        14 => MessageWord::Is(Message::Emergency),
+        15 => MessageWord::Is(Message::Unknown),
+        _ => MessageWord::Bad,
+    }
+}
+
+// A message by its name; a dash for none, where there need be none.
+fn message_word(s: &[u8], needed: bool) -> MessageWord {
+    if check::same(s, b"-") {
+        if needed {
+            return MessageWord::Bad;
+        }
+        return MessageWord::Is(Message::M0);
+    }
+    let k = words::place(
+        s,
+        b"M0 M1 M2 M3 M4 M5 M6 C0 C1 C2 C3 C4 C5 C6 emergency unknown",
+    );
+    if k < 7 {
+        return standard(k);
+    }
+    custom(k)
+}
+
+fn no_place() -> PlaceWord {
+    PlaceWord {
+        place: Place {
+            latitude: Latitude(0),
+            longitude: Longitude(0),
+            blanks: 0,
+            table: 0,
+            code: 0,
+        },
+        good: false,
+    }
+}
+
+// `BLANKS TABLE CODE`, behind the angles
+fn symbol_word(latitude: i32, longitude: i32, s: &[u8]) -> PlaceWord {
+    let blanks = words::byte(lines::first(s));
+    let s = lines::rest(s);
+    let table = words::byte(lines::first(s));
+    let code = words::byte(lines::first(lines::rest(s)));
+    if 255 < blanks {
+        return no_place();
+    }
+    if 255 < table {
+        return no_place();
+    }
+    if 255 < code {
+        return no_place();
+    }
+    PlaceWord {
+        place: Place {
+            latitude: Latitude(latitude),
+            longitude: Longitude(longitude),
+            blanks: blanks as u8,
+            table: table as u8,
+            code: code as u8,
+        },
+        good: true,
+    }
+}
+
+// `LAT LON BLANKS TABLE CODE`, and more behind it
+fn place_word(s: &[u8]) -> PlaceWord {
+    let read = numbers::read_number(lines::first(s));
+    let Number::Is(latitude) = read else {
+        return no_place();
+    };
+    let s = lines::rest(s);
+    let read = numbers::read_number(lines::first(s));
+    let Number::Is(longitude) = read else {
+        return no_place();
+    };
+    symbol_word(latitude, longitude, lines::rest(s))
+}
+
+fn report_made(good: bool, message: Message, speed: u32, course: u32, current: bool) -> ReportWord {
+    ReportWord {
+        report: Report {
+            speed: Speed(speed),
+            course: Course(course),
+            message,
+            current,
+        },
+        good,
+    }
+}
+
+// `MESSAGE SPEED COURSE`, at the end; only Mic-E must have a message. The words of a later request go behind them.
+fn report_word(mic_e: bool, current: bool, s: &[u8]) -> ReportWord {
+    let read = message_word(lines::first(s), mic_e);
+    let MessageWord::Is(message) = read else {
+        return report_made(false, Message::M0, 0, 0, false);
+    };
+    let s = lines::rest(s);
+    let read = numbers::read_count(lines::first(s), 0xffff_ffff);
+    let Count::Is(speed) = read else {
+        return report_made(false, Message::M0, 0, 0, false);
+    };
+    let read = numbers::read_count(lines::rest(s), 0xffff_ffff);
+    let Count::Is(course) = read else {
+        return report_made(false, Message::M0, 0, 0, false);
+    };
+    report_made(true, message, speed, course, current)
+}
+
+fn no_body() -> BodyWord {
+    let body = body::blank();
+    BodyWord { body, good: false }
+}
+
+// The words of the place and of the report. The flag is Mic-E's own, or that a position takes messages.
+fn body_of(kind: Kind, mic_e: bool, flag: bool, s: &[u8]) -> BodyWord {
+    let placed = place_word(s);
+    if !placed.good {
+        return no_body();
+    }
+    let told = report_word(mic_e, mic_e & flag, words::skip(s, 5));
+    if !told.good {
+        return no_body();
+    }
+    let place = placed.place;
+    let report = told.report;
+    let comment = Comment { at: 0, len: 0 };
+    let body = Body {
+        place,
+        report,
+        comment,
+        messaging: !mic_e & flag,
+        kind,
+    };
+    BodyWord { body, good: true }
+}
+
+// `KIND FLAG`, the words of a header, and what follows
+pub fn body_word(s: &[u8]) -> BodyWord {
+    let name = lines::first(s);
+    let read = kind_word(name);
+    let KindWord::Is(kind) = read else {
+        return no_body();
+    };
+    let flag = words::either(lines::first(lines::rest(s)), b"0", b"1");
+    if 1 < flag {
+        return no_body();
+    }
+    body_of(
+        kind,
+        check::same(name, b"mic-e"),
+        flag == 1,
+        words::skip(s, 5),
+    )
+}

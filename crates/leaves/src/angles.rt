@@ -15,12 +15,12 @@ pub fn latitude(s: &[u8], out: &mut [u8], at: usize) -> usize {
             south,
             sixty,
         } => {
-            let mut end = show::number(b"0 lat=", latitude.0, out, at);
-            end = show::side(south, b" side=N", b" side=S", out, end);
-            end = show::count(b" blanks=", blanks as usize, out, end);
-            show::count(b" sixty=", sixty as usize, out, end)
+            let mut end = words::number(b"0 lat=", latitude.0, out, at);
+            end = words::side(south, b" side=N", b" side=S", out, end);
+            end = words::count(b" blanks=", blanks as usize, out, end);
+            words::count(b" sixty=", sixty as usize, out, end)
         }
-        LatitudeRead::Refused => show::refusal(8, out, at),
+        LatitudeRead::Refused => words::refusal(8, out, at),
     }
 }
 
@@ -32,18 +32,18 @@ fn longitude_in(s: &[u8], blanks: u8, out: &mut [u8], at: usize) -> usize {
             west,
             sixty,
         } => {
-            let mut end = show::number(b"0 lon=", longitude.0, out, at);
-            end = show::side(west, b" side=E", b" side=W", out, end);
-            show::count(b" sixty=", sixty as usize, out, end)
+            let mut end = words::number(b"0 lon=", longitude.0, out, at);
+            end = words::side(west, b" side=E", b" side=W", out, end);
+            words::count(b" sixty=", sixty as usize, out, end)
         }
-        LongitudeRead::Refused => show::refusal(9, out, at),
-        LongitudeRead::OutOfRange => show::refusal(15, out, at),
+        LongitudeRead::Refused => words::refusal(9, out, at),
+        LongitudeRead::OutOfRange => words::refusal(15, out, at),
     }
 }
 
 // `longitude BLANKS TEXT`
 pub fn longitude(s: &[u8], out: &mut [u8], at: usize) -> usize {
-    let blanks = ask::byte(lines::first(s));
+    let blanks = words::byte(lines::first(s));
     if 255 < blanks {
         return at;
     }
@@ -56,13 +56,13 @@ pub fn latitude_text(s: &[u8], out: &mut [u8], at: usize) -> usize {
     let Number::Is(angle) = read else {
         return at;
     };
-    let blanks = ask::byte(lines::rest(s));
+    let blanks = words::byte(lines::rest(s));
     if 255 < blanks {
         return at;
     }
     let mut text = [0u8; 16];
     let w = lonlat::write_latitude(Latitude(angle), blanks as u8, &mut text);
-    show::written(w, &text, out, at)
+    words::written(w, &text, out, at)
 }
 
 // `longitude-text ANGLE`
@@ -73,5 +73,5 @@ pub fn longitude_text(s: &[u8], out: &mut [u8], at: usize) -> usize {
     };
     let mut text = [0u8; 16];
     let w = lonlat::write_longitude(Longitude(angle), &mut text);
-    show::written(w, &text, out, at)
+    words::written(w, &text, out, at)
 }

@@ -2,41 +2,40 @@
 use callsign::AddressWritten;
 use callsign::Callsign;
 use callsign::Field;
-use numbers::Count;
 
 // The refusal, or 0 and the callsign.
 fn called(refusal: u8, c: Callsign, out: &mut [u8], at: usize) -> usize {
-    let end = show::refusal(refusal, out, at);
+    let end = words::refusal(refusal, out, at);
     if refusal != 0 {
         return end;
     }
-    show::call(b" call=", c, true, out, end)
+    words::call(b" call=", c, true, out, end)
 }
 
 // `callsign TEXT`
 pub fn text(s: &[u8], out: &mut [u8], at: usize) -> usize {
     let r = callsign::read_text(s);
     let mut end = called(r.refusal, r.call, out, at);
-    end = show::count(b" starred=", r.starred as usize, out, end);
-    show::count(b" zero=", r.zero as usize, out, end)
+    end = words::count(b" starred=", r.starred as usize, out, end);
+    words::count(b" zero=", r.zero as usize, out, end)
 }
 
 // `address BYTES`
 pub fn address(s: &[u8], out: &mut [u8], at: usize) -> usize {
     let r = callsign::read_address(s);
     let mut end = called(r.refusal, r.call, out, at);
-    end = show::count(b" heard=", r.heard as usize, out, end);
-    show::count(b" last=", r.last as usize, out, end)
+    end = words::count(b" heard=", r.heard as usize, out, end);
+    words::count(b" last=", r.last as usize, out, end)
 }
 
 // An address in hexadecimal.
 fn packed(w: AddressWritten, out: &mut [u8], at: usize) -> usize {
-    let end = show::refusal(w.refusal, out, at);
+    let end = words::refusal(w.refusal, out, at);
     if w.refusal != 0 {
         return end;
     }
     let bytes = w.bytes;
-    show::labelled(b" address=", &bytes, false, out, end)
+    words::labelled(b" address=", &bytes, false, out, end)
 }
 
 // `to TEXT`: the address of the callsign that the text reads as, as a destination
@@ -72,25 +71,15 @@ fn written(bytes: &[u8], call_len: usize, ssid_len: usize, out: &mut [u8], at: u
     };
     let mut line = [0u8; 32];
     let w = callsign::write_text(c, false, &mut line);
-    show::written(w, &line, out, at)
+    words::written(w, &line, out, at)
 }
 
 // `spelled CALL_LEN SSID_LEN BYTES`
 pub fn spelled(s: &[u8], out: &mut [u8], at: usize) -> usize {
-    let read = numbers::read_count(lines::first(s), 0xffff_ffff);
-    let Count::Is(call_len) = read else {
+    let t = lines::rest(s);
+    let n = words::counted(lines::first(s), lines::first(t));
+    if !n.good {
         return at;
-    };
-    let s = lines::rest(s);
-    let read = numbers::read_count(lines::first(s), 0xffff_ffff);
-    let Count::Is(ssid_len) = read else {
-        return at;
-    };
-    written(
-        lines::rest(s),
-        call_len as usize,
-        ssid_len as usize,
-        out,
-        at,
-    )
+    }
+    written(lines::rest(t), n.first as usize, n.second as usize, out, at)
 }

@@ -14,7 +14,5 @@ pub use callsigns::spelled;
 pub use callsigns::text;
 pub use callsigns::to;
 pub use list::information;
-pub use list::list_longitudes;
-pub use list::list_motions;
 pub use list::longitudes;
 pub use list::motions;

@@ -6,16 +6,16 @@ use position::BoundsAnswer;
 use position::PageBox;
 
 fn put_bounds(b: BoundsAnswer, page: PageBox, out: &mut [u8], at: usize) -> usize {
-    let mut end = show::count(b"", b.refusal as usize, out, at);
-    end = show::float(b.bounds.lower, out, end);
-    end = show::float(b.bounds.upper, out, end);
-    end = show::number(b" ", page.from, out, end);
-    show::number(b" ", page.to, out, end)
+    let mut end = words::count(b"", b.refusal as usize, out, at);
+    end = words::float(b.bounds.lower, out, end);
+    end = words::float(b.bounds.upper, out, end);
+    end = words::number(b" ", page.from, out, end);
+    words::number(b" ", page.to, out, end)
 }
 
 // `LIMIT`, the end of `B ANGLE BLANKS LIMIT`
 fn bounds_of(angle: i32, blanks: u8, limit: &[u8], out: &mut [u8], at: usize) -> usize {
-    let which = ask::either(limit, b"lat", b"lon");
+    let which = words::either(limit, b"lat", b"lon");
     if which == 0 {
         let bounds = position::latitude_bounds(Latitude(angle), blanks);
         return put_bounds(
@@ -44,7 +44,7 @@ pub fn answer(s: &[u8], out: &mut [u8], at: usize) -> usize {
         return at;
     };
     let s = lines::rest(s);
-    let blanks = ask::byte(lines::first(s));
+    let blanks = words::byte(lines::first(s));
     if 255 < blanks {
         return at;
     }

@@ -4,7 +4,7 @@ mod bounds;
 mod read;
 mod write;
 
-use ask::Bytes;
+use words::Bytes;
 
 // The questions. Those of docs/INSPECT.md, whose bytes are in hexadecimal:
 //   T, F, M, L, B, W
@@ -13,12 +13,12 @@ use ask::Bytes;
 //   row NUMBER LINE                      the listing's row
 //   latitude TEXT, longitude BLANKS TEXT read
 //   latitude-text ANGLE BLANKS, longitude-text ANGLE, information LONGITUDE SPEED COURSE   written
-//   motions SPEED COURSE, longitudes ANGLE ROOM   listed, the longitudes under offset 100, east
+//   motions SPEED COURSE ROOM, longitudes ANGLE OFFSET SIDE ROOM   as M and L, field by field
 //   callsign TEXT, address BYTES         read
 //   spelled CALL_LEN SSID_LEN BYTES      a callsign by its parts, written
 //   to, from, last-from, last-hop TEXT   the callsign's address as destination, source, last source, heard last hop
 fn question(word: &[u8]) -> usize {
-    ask::place(
+    words::place(
         word,
         b"T F M L B W text frame long row latitude longitude latitude-text longitude-text information motions longitudes callsign address spelled to from last-from last-hop",
     )
@@ -28,8 +28,8 @@ fn of_inspect(k: usize, s: &[u8], out: &mut [u8], at: usize) -> usize {
     match k {
         0 => read::answer(s, false, out, at),
         1 => read::answer(s, true, out, at),
-        2 => leaves::list_motions(s, out, at),
-        3 => leaves::list_longitudes(s, out, at),
+        2 => leaves::motions(s, false, out, at),
+        3 => leaves::longitudes(s, false, out, at),
         4 => bounds::answer(s, out, at),
         _ => write::answer(s, out, at),
     }
@@ -51,8 +51,8 @@ fn of_angles(k: usize, s: &[u8], out: &mut [u8], at: usize) -> usize {
         12 => leaves::latitude_text(s, out, at),
         13 => leaves::longitude_text(s, out, at),
         14 => leaves::information(s, out, at),
-        15 => leaves::motions(s, out, at),
-        _ => leaves::longitudes(s, out, at),
+        15 => leaves::motions(s, true, out, at),
+        _ => leaves::longitudes(s, true, out, at),
     }
 }
 
@@ -72,7 +72,7 @@ fn of_callsigns(k: usize, s: &[u8], out: &mut [u8], at: usize) -> usize {
 // The answer to one of the bench's own questions.
 fn of_bench(k: usize, s: &[u8], out: &mut [u8], at: usize) -> usize {
     let mut bytes = io::buffer();
-    let read = ask::plain(s, &mut bytes);
+    let read = words::plain(s, &mut bytes);
     let Bytes::Are(n) = read else {
         return at;
     };

@@ -1,12 +1,12 @@
 // A line or a frame read and shown; and the listing's row of a line.
-use ask::Bytes;
 use numbers::Count;
+use words::Bytes;
 
 // What a line, or a frame, reads as.
 pub fn shown(line: &[u8], framed: bool, plain: bool, out: &mut [u8], at: usize) -> usize {
     let read = packet::read(line, framed);
     if read.refusal != 0 {
-        return show::refusal(read.refusal, out, at);
+        return words::refusal(read.refusal, out, at);
     }
     show::record(read.record, line, plain, out, at)
 }
@@ -14,7 +14,7 @@ pub fn shown(line: &[u8], framed: bool, plain: bool, out: &mut [u8], at: usize) 
 // `T HEX` and `F HEX`
 pub fn answer(s: &[u8], framed: bool, out: &mut [u8], at: usize) -> usize {
     let mut bytes = [0u8; 2048];
-    let read = ask::hex(s, &mut bytes);
+    let read = words::hex(s, &mut bytes);
     let Bytes::Are(n) = read else {
         return at;
     };
@@ -40,7 +40,7 @@ pub fn row(s: &[u8], out: &mut [u8], at: usize) -> usize {
     };
     let mut bytes = [0u8; 256];
     let w = row::write_row(number as usize, lines::rest(s), &mut bytes);
-    let mut end = show::refusal(w.refusal, out, at);
+    let mut end = words::refusal(w.refusal, out, at);
     end = buffer::put_byte(b' ', out, end);
     buffer::put(lines::cut(&bytes, laws::find(&bytes, b'\n')), out, end)
 }

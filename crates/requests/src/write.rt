@@ -1,9 +1,9 @@
 // Request W: a record made by hand, written as a line or a frame.
-use ask::Bytes;
 use body::Body;
 use header::Header;
 use numbers::Count;
 use packet::Record;
+use words::Bytes;
 
 fn write_into(
     r: Record,
@@ -30,7 +30,7 @@ fn written(
 ) -> usize {
     let mut buffer = [0xaau8; 600];
     let w = write_into(Record { header, body }, framed, comment, &mut buffer, room);
-    show::whole(w, lines::cut(&buffer, room), out, at)
+    words::whole(w, lines::cut(&buffer, room), out, at)
 }
 
 // The words of the record
@@ -39,7 +39,7 @@ fn made(framed: bool, room: usize, comment: &[u8], s: &[u8], out: &mut [u8], at:
     if !told.good {
         return at;
     }
-    let named = ask::header_word(ask::skip(s, 2));
+    let named = ask::header_word(words::skip(s, 2));
     if !named.good {
         return at;
     }
@@ -49,7 +49,7 @@ fn made(framed: bool, room: usize, comment: &[u8], s: &[u8], out: &mut [u8], at:
 // `COMMENT` and what follows
 fn commented(framed: bool, room: usize, s: &[u8], out: &mut [u8], at: usize) -> usize {
     let mut comment = [0u8; 2048];
-    let read = ask::hex(lines::first(s), &mut comment);
+    let read = words::hex(lines::first(s), &mut comment);
     let Bytes::Are(n) = read else {
         return at;
     };
@@ -65,7 +65,7 @@ fn commented(framed: bool, room: usize, s: &[u8], out: &mut [u8], at: usize) -> 
 
 // `W WHERE ROOM COMMENT KIND FLAG FROM TO HOPS LAT LON BLANKS TABLE CODE MESSAGE SPEED COURSE`
 pub fn answer(s: &[u8], out: &mut [u8], at: usize) -> usize {
-    let form = ask::either(lines::first(s), b"text", b"frame");
+    let form = words::either(lines::first(s), b"text", b"frame");
     if 1 < form {
         return at;
     }

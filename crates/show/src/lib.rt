@@ -1,15 +1,159 @@
-// An answer in words: its pieces, and a record. Part of the programs inspect and bench.
-mod packets;
-mod put;
+// A record in words, and written again: `KIND from= to= hops= lat= lon= blanks= table= code= flag= message= speed= course= comment=
+// text= frame=`. Part of the programs inspect and bench.
+use body::Body;
+use body::Comment;
+use body::Kind;
+use body::Report;
+use header::Header;
+use header::Hop;
+use header::Path;
+use mic_e::Message;
+use packet::Record;
+use position::Place;
 
-pub use packets::call;
-pub use packets::record;
-pub use put::count;
-pub use put::decimals;
-pub use put::float;
-pub use put::labelled;
-pub use put::number;
-pub use put::refusal;
-pub use put::side;
-pub use put::whole;
-pub use put::written;
+// The answer 0 and the kind.
+fn kind(k: Kind, out: &mut [u8], at: usize) -> usize {
+    match k {
+        Kind::Unknown => buffer::put(b"0 unknown", out, at),
+        Kind::Position => buffer::put(b"0 position", out, at),
+        Kind::MicE => buffer::put(b"0 mic-e", out, at),
+    }
+}
+
+// One hop, a comma before it unless it is the first, and a star behind it if it is heard.
+fn hop(h: Hop, first: bool, plain: bool, out: &mut [u8], at: usize) -> usize {
+    let end = words::call(lines::cut(b",", !first as usize), h.call, plain, out, at);
+    buffer::put(lines::cut(b"*", h.heard as usize), out, end)
+}
+
+fn hops(path: Path, plain: bool, out: &mut [u8], at: usize) -> usize {
+    let mut end = buffer::put(b" hops=", out, at);
+    if path.count == 0 {
+        return buffer::put_byte(b'-', out, end);
+    }
+    let mut i: usize = 0;
+    while i < 8 {
+        if path.count <= i {
+            return end;
+        }
+        let h = path.hops[i];
+        end = hop(h, i == 0, plain, out, end);
+        i += 1;
+    }
+    end
+}
+
+// Callsigns and hops.
+fn header(h: Header, plain: bool, out: &mut [u8], at: usize) -> usize {
+    let from = h.from;
+    let to = h.to;
+    let path = h.path;
+    let mut end = words::call(b" from=", from, plain, out, at);
+    end = words::call(b" to=", to, plain, out, end);
+    hops(path, plain, out, end)
+}
+
+// Latitude, longitude and blanks.
+fn place(p: Place, out: &mut [u8], at: usize) -> usize {
+    let mut end = words::number(b" lat=", p.latitude.0, out, at);
+    end = words::number(b" lon=", p.longitude.0, out, end);
+    words::count(b" blanks=", p.blanks as usize, out, end)
+}
+
+// The symbol, and the flag: a position that takes messages, or current Mic-E.
+fn symbol(p: Place, flag: bool, out: &mut [u8], at: usize) -> usize {
+    let mut end = words::count(b" table=", p.table as usize, out, at);
+    end = words::count(b" code=", p.code as usize, out, end);
+    words::count(b" flag=", flag as usize, out, end)
+}
+
+fn message(m: Message, out: &mut [u8], at: usize) -> usize {
+    let n = mic_e::message_number(m);
+    if n < 14 {
+        let names = b"M0M1M2M3M4M5M6C0C1C2C3C4C5C6";
+        let from = (n as usize) * 2;
+        return buffer::put(lines::cut(lines::tail(names, from), 2), out, at);
+    }
+    if n == 14 {
+        return buffer::put(b"emergency", out, at);
+    }
+    buffer::put(b"unknown", out, at)
+}
+
+// Only Mic-E has a message.
+fn message_of(k: Kind, m: Message, out: &mut [u8], at: usize) -> usize {
+    let end = buffer::put(b" message=", out, at);
+    match k {
+        Kind::Unknown => buffer::put_byte(b'-', out, end),
+        Kind::Position => buffer::put_byte(b'-', out, end),
+        Kind::MicE => message(m, out, end),
+    }
+}
+
+// Speed and course.
+fn motion(r: Report, out: &mut [u8], at: usize) -> usize {
+    let end = words::count(b" speed=", r.speed.0 as usize, out, at);
+    words::count(b" course=", r.course.0 as usize, out, end)
+}
+
+// The comment's place and length.
+fn comment(c: Comment, out: &mut [u8], at: usize) -> usize {
+    let end = words::count(b" comment=", c.at, out, at);
+    words::count(b"+", c.len, out, end)
+}
+
+// What stands behind the header.
+fn body(b: Body, out: &mut [u8], at: usize) -> usize {
+    let p = b.place;
+    let report = b.report;
+    let k = b.kind;
+    let word = report.message;
+    let mut end = place(p, out, at);
+    end = symbol(p, b.messaging | report.current, out, end);
+    end = message_of(k, word, out, end);
+    end = motion(report, out, end);
+    comment(b.comment, out, end)
+}
+
+// ---- written again
+
+// What a writer answered, and what it wrote.
+fn written(
+    label: &[u8],
+    w: buffer::Answer,
+    bytes: &[u8],
+    plain: bool,
+    out: &mut [u8],
+    at: usize,
+) -> usize {
+    let end = words::count(label, w.refusal as usize, out, at);
+    if w.refusal != 0 {
+        return buffer::put(b":-", out, end);
+    }
+    words::labelled(b":", lines::cut(bytes, w.reported), plain, out, end)
+}
+
+// The record written again, both ways, with the comment that it was read with.
+fn again(r: Record, comment: &[u8], plain: bool, out: &mut [u8], at: usize) -> usize {
+    let mut bytes = [0u8; 512];
+    let w = packet::write_text(r, comment, &mut bytes);
+    let end = written(b" text=", w, &bytes, plain, out, at);
+    let w = packet::write_frame(r, comment, &mut bytes);
+    written(b" frame=", w, &bytes, plain, out, end)
+}
+
+fn comment_in(c: Comment, line: &[u8]) -> &[u8] {
+    lines::cut(lines::tail(line, c.at), c.len)
+}
+
+// A record in words, from the answer 0 on. The words of a later request go behind them.
+pub fn record(r: Record, line: &[u8], plain: bool, out: &mut [u8], at: usize) -> usize {
+    let h = r.header;
+    let b = r.body;
+    let k = b.kind;
+    let c = b.comment;
+    let mut end = kind(k, out, at);
+    end = header(h, plain, out, end);
+    end = body(b, out, end);
+    again(r, comment_in(c, line), plain, out, end)
+}

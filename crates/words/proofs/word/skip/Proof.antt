@@ -2,8 +2,8 @@
 -- Assumes nothing.
 use Prim.Native.Nat.{_-_, _≤_}
 use borrow.Author.Needs.{needs}
-use Rattle.ask.proofs.word.skip.Statement.{statement}
-use Rattle.ask.proofs.word.skip.Tie as tie
+use Rattle.words.proofs.word.skip.Statement.{statement}
+use Rattle.words.proofs.word.skip.Tie as tie
 
 abbrev Inv-loop : tie.InvT-loop
 Inv-loop s n t₀ i₀ t i = i ≤ n

@@ -6,8 +6,8 @@ use Prim.Native.Nat.{ℕ, _<_, _≤_}
 use native.Mathlib.Omega.{arith}
 use lib.ListN.{length, drop, length-drop}
 use borrow.Author.Needs.{needs}
-use Rattle.ask.proofs.word.plain.Statement.{statement}
-use Rattle.ask.proofs.word.plain.Tie as tie
+use Rattle.words.proofs.word.plain.Statement.{statement}
+use Rattle.words.proofs.word.plain.Tie as tie
 
 abbrev Inv-loop : tie.InvT-loop
 Inv-loop s out₀ t₀ n₀ out t n = length out ≡ length out₀

@@ -5,8 +5,8 @@ use Prim.Native.Nat.{_-_, _/_, _≤_}
 use native.Mathlib.Omega.{arith}
 use lib.ListN.{length, length-set}
 use borrow.Author.Needs.{needs}
-use Rattle.ask.proofs.word.hex.Statement.{statement}
-use Rattle.ask.proofs.word.hex.Tie as tie
+use Rattle.words.proofs.word.hex.Statement.{statement}
+use Rattle.words.proofs.word.hex.Tie as tie
 
 abbrev Inv-loop : tie.InvT-loop
 Inv-loop s out₀ n i₀ out i = (i ≤ n) × (length out ≡ length out₀) × (n ≡ length s / 2) × (n ≤ length out₀)

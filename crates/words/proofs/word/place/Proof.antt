@@ -2,8 +2,8 @@
 -- Assumes nothing.
 use Prim.Native.Nat.{_-_, _≤_}
 use borrow.Author.Needs.{needs}
-use Rattle.ask.proofs.word.place.Statement.{statement}
-use Rattle.ask.proofs.word.place.Tie as tie
+use Rattle.words.proofs.word.place.Statement.{statement}
+use Rattle.words.proofs.word.place.Tie as tie
 
 abbrev Inv-loop : tie.InvT-loop
 Inv-loop word list t₀ k₀ t k = k ≤ 255

@@ -1,5 +1,6 @@
 // The pieces of an answer: a piece goes behind the first `at` bytes of out, and the place after it is answered. What does
 // not fit is left out; the programs keep more room than any answer takes.
+use callsign::Callsign;
 
 // A label, and a number that has no sign.
 pub fn count(label: &[u8], n: usize, out: &mut [u8], at: usize) -> usize {
@@ -53,6 +54,13 @@ pub fn bytes(s: &[u8], plain: bool, out: &mut [u8], at: usize) -> usize {
 pub fn labelled(label: &[u8], s: &[u8], plain: bool, out: &mut [u8], at: usize) -> usize {
     let end = buffer::put(label, out, at);
     bytes(s, plain, out, end)
+}
+
+// A callsign's text: call, dash and SSID.
+pub fn call(label: &[u8], c: Callsign, plain: bool, out: &mut [u8], at: usize) -> usize {
+    let n = callsign::text_len(c);
+    let text = c.text;
+    labelled(label, lines::cut(&text, n), plain, out, at)
 }
 
 // One text, or the other.

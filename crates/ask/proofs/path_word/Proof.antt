@@ -3,8 +3,8 @@
 use Prim.Native.Nat.{_-_, _≤_}
 use native.Mathlib.Omega.{arith}
 use borrow.Author.Needs.{needs}
-use Rattle.ask.proofs.made.path_word.Statement.{statement}
-use Rattle.ask.proofs.made.path_word.Tie as tie
+use Rattle.ask.proofs.path_word.Statement.{statement}
+use Rattle.ask.proofs.path_word.Tie as tie
 
 abbrev Inv-loop : tie.InvT-loop
 Inv-loop from to s hops₀ t₀ i₀ hops t i = i ≤ 8

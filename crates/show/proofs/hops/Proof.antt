@@ -4,8 +4,8 @@ use mathlib.Core.Path.{_≡_}
 use Prim.Native.Nat.{_-_}
 use lib.ListN.{length}
 use borrow.Author.Needs.{needs}
-use Rattle.show.proofs.packets.hops.Statement.{statement}
-use Rattle.show.proofs.packets.hops.Tie as tie
+use Rattle.show.proofs.hops.Statement.{statement}
+use Rattle.show.proofs.hops.Tie as tie
 
 abbrev Inv-loop : tie.InvT-loop
 Inv-loop plain out₀ at path end₀ i₀ out end i = length out ≡ length out₀

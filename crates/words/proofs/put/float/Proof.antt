@@ -1,8 +1,8 @@
 -- `float`: a float that equals itself is no NaN, so that it has bits. Assumes nothing.
-use Rattle.show.proofs.Floats.{not-nan}
+use Rattle.words.proofs.Floats.{not-nan}
 use borrow.Author.Needs.{needs}
-use Rattle.show.proofs.put.float.Statement.{statement}
-use Rattle.show.proofs.put.float.Tie as tie
+use Rattle.words.proofs.put.float.Statement.{statement}
+use Rattle.words.proofs.put.float.Tie as tie
 
 returns : tie.Need-returns
 returns c = search needs

@@ -8,6 +8,13 @@ pub enum Bytes {
     Bad,
 }
 
+// Two numbers that have no sign; good where both words are some.
+pub struct Counts {
+    pub first: u32,
+    pub second: u32,
+    pub good: bool,
+}
+
 // What stands behind the first n words.
 pub fn skip(s: &[u8], n: usize) -> &[u8] {
     let mut t = s;
@@ -44,6 +51,31 @@ pub fn place(word: &[u8], list: &[u8]) -> usize {
         k += 1;
     }
     k
+}
+
+// The numbers of two words.
+pub fn counted(first: &[u8], second: &[u8]) -> Counts {
+    let one = numbers::read_count(first, 0xffff_ffff);
+    let other = numbers::read_count(second, 0xffff_ffff);
+    let Count::Is(first) = one else {
+        return Counts {
+            first: 0,
+            second: 0,
+            good: false,
+        };
+    };
+    let Count::Is(second) = other else {
+        return Counts {
+            first,
+            second: 0,
+            good: false,
+        };
+    };
+    Counts {
+        first,
+        second,
+        good: true,
+    }
 }
 
 // A number below 256, or 256 for a word that is none.
