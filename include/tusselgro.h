@@ -1,5 +1,5 @@
 /*
- * Tusselgro for C: APRS packets read and written, Mic-E fields listed, the bounds of a position.
+ * Tusselgro for C: APRS packets and their parts read and written, Mic-E fields listed, the bounds of a position.
  *
  * Link with the static library of the crate boundary (x86-64 Linux): `rt staticlib boundary` writes it to
  * target/staticlib/libboundary.a, and it needs only memcpy and memset of the C library. Every function is proved to end,
@@ -28,33 +28,56 @@ extern "C" {
  * refused.
  */
 
-/* The refusals. Each answer carries one; the first that applies is given. */
+/* The refusals. Each answer carries one; the first that applies is given. tusselgro_meaning says each in words. */
 enum {
-    TUSSELGRO_DONE = 0,                /* no refusal */
-    TUSSELGRO_TOO_LONG = 1,            /* input over 512 bytes, or output would be */
-    TUSSELGRO_FRAMING = 2,             /* no ':'; no '>' before the first ':'; frame ends inside an address;
-                                          destination is marked last; control pair wrong */
-    TUSSELGRO_CALLSIGN = 3,            /* a callsign or hop is malformed */
-    TUSSELGRO_CALLSIGN_TOO_LONG = 4,   /* callsign text over 16 bytes */
-    TUSSELGRO_TOO_MANY_HOPS = 5,       /* a ninth hop */
-    TUSSELGRO_Q_ELEMENT = 6,           /* a Q element: a textual hop of three bytes that starts qA */
-    TUSSELGRO_NOT_CARRIED = 7,         /* not carried: body starts ':' '>' '/' '@', or '!' '=' with a compressed
-                                          position */
-    TUSSELGRO_LATITUDE = 8,            /* latitude cannot be read */
-    TUSSELGRO_LONGITUDE = 9,           /* longitude cannot be read */
-    TUSSELGRO_POSITION_TOO_SHORT = 10, /* position under 19 bytes after its type byte */
-    TUSSELGRO_MIC_E_DESTINATION = 11,  /* Mic-E destination cannot be read */
-    TUSSELGRO_MIC_E_INFORMATION = 12,  /* Mic-E information cannot be read */
-    TUSSELGRO_NOT_AX25 = 13,           /* callsign cannot go into AX.25 */
-    TUSSELGRO_UNKNOWN_KIND = 14,       /* record of Unknown kind to be written */
-    TUSSELGRO_OUT_OF_RANGE = 15,       /* record, angle, blanks or list target out of range */
-    TUSSELGRO_NO_ROOM = 16             /* output buffer too short; the bytes needed are returned */
+    TUSSELGRO_DONE = 0,
+    TUSSELGRO_TOO_LONG = 1,
+    TUSSELGRO_FRAMING = 2,
+    TUSSELGRO_CALLSIGN = 3,
+    TUSSELGRO_CALLSIGN_TOO_LONG = 4,
+    TUSSELGRO_TOO_MANY_HOPS = 5,
+    TUSSELGRO_Q_ELEMENT = 6,
+    TUSSELGRO_NOT_CARRIED = 7,
+    TUSSELGRO_LATITUDE = 8,
+    TUSSELGRO_LONGITUDE = 9,
+    TUSSELGRO_POSITION_TOO_SHORT = 10,
+    TUSSELGRO_MIC_E_DESTINATION = 11,
+    TUSSELGRO_MIC_E_INFORMATION = 12,
+    TUSSELGRO_NOT_AX25 = 13,
+    TUSSELGRO_UNKNOWN_KIND = 14,
+    TUSSELGRO_OUT_OF_RANGE = 15,
+    TUSSELGRO_NO_ROOM = 16
 };
+
+/* What a refusal means. The text is never freed. */
+static inline const char *tusselgro_meaning(uint8_t refusal) {
+    static const char *const meanings[] = {
+        "no refusal",
+        "input over 512 bytes, or output would be",
+        "no ':'; no '>' before the first ':'; frame ends inside an address; destination is marked last; "
+        "control pair wrong",
+        "a callsign or hop is malformed",
+        "callsign text over 16 bytes",
+        "a ninth hop",
+        "a Q element: a textual hop of three bytes that starts qA",
+        "not carried: body starts ':' '>' '/' '@', or '!' '=' with a compressed position",
+        "latitude cannot be read",
+        "longitude cannot be read",
+        "position under 19 bytes after its type byte",
+        "Mic-E destination cannot be read",
+        "Mic-E information cannot be read",
+        "callsign cannot go into AX.25",
+        "record of Unknown kind to be written",
+        "record, angle, blanks or list target out of range",
+        "output buffer too short; the bytes needed are returned",
+    };
+    return refusal < sizeof meanings / sizeof meanings[0] ? meanings[refusal] : "no such refusal";
+}
 
 /* The kinds of a record. A writer refuses any other number with 15. */
 enum { TUSSELGRO_UNKNOWN = 0, TUSSELGRO_POSITION = 1, TUSSELGRO_MIC_E = 2 };
 
-/* The messages of a Mic-E record; other kinds have 0. M0 to M6 are 0 to 6, C0 to C6 are 7 to 13. A writer refuses a
+/* The messages of a Mic-E report; other kinds have 0. M0 to M6 are 0 to 6, C0 to C6 are 7 to 13. A writer refuses a
    number over 15 with 15. */
 enum {
     TUSSELGRO_M0 = 0,
@@ -99,34 +122,59 @@ typedef struct {
     size_t count;
 } tusselgro_path;
 
-/*
- * A packet. What its kind lacks is 0: an Unknown one has from, to and the path; a Mic-E one has no destination. A
- * record of zeros is the blank one. Angles are signed hundredths of a minute, north and east positive: at most 540000
- * and 1080000. 432 bytes.
- */
+/* Where a packet comes from, where it goes to, and its path; a Mic-E record has no destination. 392 bytes. */
 typedef struct {
-    uint8_t kind;       /* TUSSELGRO_UNKNOWN, .._POSITION or .._MIC_E */
-    bool messaging;     /* a position that starts '=' */
-    bool current;       /* a Mic-E report that is current, not old */
-    uint8_t message;    /* of a Mic-E report */
-    uint8_t blanks;     /* last digits of the latitude that are blank, 0 to 5 */
-    uint8_t table;      /* symbol table; a position with 128 or more is read and not written */
-    uint8_t code;       /* symbol code; the same */
-    int32_t latitude;
-    int32_t longitude;  /* of a Mic-E report to be written: short of 1080000 on either side */
-    uint32_t speed;     /* of a Mic-E report: knots, at most 799 */
-    uint32_t course;    /* and degrees, at most 360; 0 is an unknown one */
-    size_t comment_at;  /* the comment's place in the input that was read; writers ignore it */
-    size_t comment_len; /* and its length */
     tusselgro_callsign from;
     tusselgro_callsign to;
     tusselgro_path path;
+} tusselgro_header;
+
+/*
+ * Where something is. Angles are signed hundredths of a minute, north and east positive: at most 540000 and 1080000;
+ * a Mic-E longitude to be written is short of 1080000 on either side. 12 bytes.
+ */
+typedef struct {
+    int32_t latitude;
+    int32_t longitude;
+    uint8_t blanks; /* last digits of the latitude that are blank, 0 to 5 */
+    uint8_t table;  /* symbol table; a position with 128 or more is read and not written */
+    uint8_t code;   /* symbol code; the same */
+} tusselgro_place;
+
+/* What only a Mic-E report has. 12 bytes. */
+typedef struct {
+    uint32_t speed;  /* knots, at most 799 */
+    uint32_t course; /* degrees, at most 360; 0 is an unknown one */
+    uint8_t message; /* TUSSELGRO_M0 to .._MESSAGE_UNKNOWN */
+    bool current;    /* not old */
+} tusselgro_report;
+
+/* The comment's place in the input that was read, and its length; writers ignore both. 16 bytes. */
+typedef struct {
+    size_t at;
+    size_t len;
+} tusselgro_comment;
+
+/* What a packet says. 48 bytes. */
+typedef struct {
+    tusselgro_place place;
+    tusselgro_report report;
+    tusselgro_comment comment;
+    bool messaging; /* a position that starts '=' */
+    uint8_t kind;   /* TUSSELGRO_UNKNOWN, .._POSITION or .._MIC_E */
+} tusselgro_body;
+
+/* A packet. What its kind lacks is 0: an Unknown one has its header alone. A record of zeros is the blank one. 440
+   bytes. */
+typedef struct {
+    tusselgro_header header;
+    tusselgro_body body;
 } tusselgro_record;
 
-/* What reading gives: 0 and the record, or the refusal and the blank record (Unknown kind, all zeros). 440 bytes. */
+/* What reading gives: 0 and the record, or the refusal and the blank record (Unknown kind, all zeros). 448 bytes. */
 typedef struct {
-    uint8_t refusal;
     tusselgro_record record;
+    uint8_t refusal;
 } tusselgro_read;
 
 /*
@@ -140,19 +188,7 @@ typedef struct {
     size_t needed;
 } tusselgro_answer;
 
-/* The lower and upper bound of an angle in degrees; at a refusal (15) both are 0. 24 bytes. */
-typedef struct {
-    uint8_t refusal;
-    double lower;
-    double upper;
-} tusselgro_bounds;
-
-/* The lower and upper side of the page's box in half hundredths of a minute; at a refusal (15) both are 0. 12 bytes. */
-typedef struct {
-    uint8_t refusal;
-    int32_t lower;
-    int32_t upper;
-} tusselgro_box;
+/* ---- packets */
 
 /* Reads a line of text, without its line end. Refusals: 1 to 12. */
 tusselgro_read tusselgro_read_text(const uint8_t *line, size_t line_len);
@@ -169,12 +205,171 @@ tusselgro_answer tusselgro_write_text(tusselgro_record record, const uint8_t *co
 tusselgro_answer tusselgro_write_frame(tusselgro_record record, const uint8_t *comment, size_t comment_len,
                                        uint8_t *out, size_t out_len);
 
+/*
+ * ---- the parts of a packet, one by one
+ *
+ * A reader says all that it saw, also what a record does not keep; at a refusal all else is 0 or false.
+ */
+
+/* A callsign; whether a star followed it; whether its SSID was a lone '0', which is dropped. 40 bytes. */
+typedef struct {
+    tusselgro_callsign call;
+    bool starred;
+    bool zero;
+    uint8_t refusal;
+} tusselgro_callsign_read;
+
+/* Reads a callsign's text, with or without a star behind it. Refusals: 4, 3. */
+tusselgro_callsign_read tusselgro_read_callsign(const uint8_t *text, size_t text_len);
+
+/* Writes a callsign as text, with a star behind it if starred. Refusals: 15, 16. */
+tusselgro_answer tusselgro_write_callsign(tusselgro_callsign call, bool starred, uint8_t *out, size_t out_len);
+
+/* An AX.25 address as it was read, with the two flags of its seventh byte. 40 bytes. */
+typedef struct {
+    tusselgro_callsign call;
+    bool heard;
+    bool last;
+    uint8_t refusal;
+} tusselgro_address_read;
+
+/* An AX.25 address to be sent; at a refusal its bytes are 0. 8 bytes. */
+typedef struct {
+    uint8_t bytes[7];
+    uint8_t refusal;
+} tusselgro_address;
+
+/* The field of a frame that an address goes into. A writer refuses any other number with 15. */
+enum { TUSSELGRO_DESTINATION = 0, TUSSELGRO_SOURCE = 1, TUSSELGRO_HOP = 2, TUSSELGRO_HEARD_HOP = 3 };
+
+/* Reads the seven bytes of an AX.25 address. Refusal: 3. */
+tusselgro_address_read tusselgro_read_address(const uint8_t *address, size_t address_len);
+
+/* Writes a callsign as an AX.25 address in a field, marked last or not. Refusals: 15, 13. */
+tusselgro_address tusselgro_write_address(tusselgro_callsign call, uint8_t field, bool last);
+
+/* A latitude; the last digits that are blank; whether its letter is S, also at 0; whether its minutes, blanks as 0, are
+   60 or more. 8 bytes. */
+typedef struct {
+    int32_t latitude;
+    uint8_t blanks;
+    bool south;
+    bool sixty;
+    uint8_t refusal;
+} tusselgro_latitude_read;
+
+/* A longitude; whether its letter is W, also at 0; whether its minutes, discarded digits as 0, are 60 or more. 8
+   bytes. */
+typedef struct {
+    int32_t longitude;
+    bool west;
+    bool sixty;
+    uint8_t refusal;
+} tusselgro_longitude_read;
+
+/* Reads the eight bytes ddmm.hhN, or S; the last 0 to 5 digits may be blank. Refusal: 8. */
+tusselgro_latitude_read tusselgro_read_latitude(const uint8_t *text, size_t text_len);
+
+/* Reads the nine bytes dddmm.hhE, or W; the last digits, as many as blanks says, count as 0, whichever bytes stand
+   there. Refusals: 15 for more than five blanks, 9. */
+tusselgro_longitude_read tusselgro_read_longitude(const uint8_t *text, size_t text_len, uint8_t blanks);
+
+/* Writes those eight bytes; the digits that are blank are cut off. Refusals: 15, 16. */
+tusselgro_answer tusselgro_write_latitude(int32_t latitude, uint8_t blanks, uint8_t *out, size_t out_len);
+
+/* Writes those nine bytes, in full. Refusals: 15, 16. */
+tusselgro_answer tusselgro_write_longitude(int32_t longitude, uint8_t *out, size_t out_len);
+
+/* A place; the letters of its angles and their minutes, as above. 20 bytes. */
+typedef struct {
+    tusselgro_place place;
+    bool south;
+    bool west;
+    bool latitude_sixty;
+    bool longitude_sixty;
+    uint8_t refusal;
+} tusselgro_position_read;
+
+/* Reads a position, from the byte behind its type byte on: 19 bytes, and what follows them is the comment. Refusals: 7,
+   10, 8, 9. */
+tusselgro_position_read tusselgro_read_position(const uint8_t *text, size_t text_len);
+
+/* Writes those 19 bytes. Refusals: 15, 16. */
+tusselgro_answer tusselgro_write_position(tusselgro_place place, uint8_t *out, size_t out_len);
+
+/* What a Mic-E destination says: a latitude, as above, and a message; of the longitude that goes with it, whether its
+   offset is 100 and its side west. 12 bytes. */
+typedef struct {
+    int32_t latitude;
+    uint8_t message;
+    uint8_t blanks;
+    bool south;
+    bool hundred;
+    bool west;
+    bool sixty;
+    uint8_t refusal;
+} tusselgro_destination_read;
+
+/* The characters of a Mic-E destination; at a refusal they are 0. 7 bytes. */
+typedef struct {
+    uint8_t bytes[6];
+    uint8_t refusal;
+} tusselgro_destination;
+
+/* Reads the six call characters of a Mic-E destination; its SSID is no part of them. Refusal: 11. */
+tusselgro_destination_read tusselgro_read_destination(const uint8_t *call, size_t call_len);
+
+/* Writes the destination of a latitude with its blanks, a message, and a longitude, whose offset and side it carries.
+   Refusal: 15. */
+tusselgro_destination tusselgro_write_destination(int32_t latitude, uint8_t blanks, uint8_t message,
+                                                  int32_t longitude);
+
+/* What the information of a Mic-E report says: knots, degrees, and the symbol. 16 bytes. */
+typedef struct {
+    int32_t longitude;
+    uint32_t speed;
+    uint32_t course;
+    uint8_t code;
+    uint8_t table;
+} tusselgro_information;
+
+/* The same as it was read. 20 bytes. */
+typedef struct {
+    tusselgro_information information;
+    uint8_t refusal;
+} tusselgro_information_read;
+
+/* Reads the information behind the type byte, under the offset and the side that the destination gave: eight bytes, and
+   what follows them is the comment. Refusal: 12. */
+tusselgro_information_read tusselgro_read_information(const uint8_t *bytes, size_t bytes_len, bool hundred, bool west);
+
+/* Writes those eight bytes. Refusals: 15, 16. */
+tusselgro_answer tusselgro_write_information(tusselgro_information information, uint8_t *out, size_t out_len);
+
+/* ---- lists of Mic-E fields */
+
 /* Lists every Mic-E field of three bytes that means this speed and course, in ascending order. Refusals: 15, 16. */
 tusselgro_answer tusselgro_list_motion(uint32_t speed, uint32_t course, uint8_t *out, size_t out_len);
 
 /* Lists every Mic-E field of three bytes that means this longitude under a destination whose offset is 100 (hundred) or
    0, and whose side is west or east. There may be none, which is no refusal. Refusals: 15, 16. */
 tusselgro_answer tusselgro_list_longitude(int32_t longitude, bool hundred, bool west, uint8_t *out, size_t out_len);
+
+/* ---- bounds and boxes */
+
+/* The lower and upper bound of an angle in degrees; at a refusal (15) both are 0. 24 bytes. */
+typedef struct {
+    uint8_t refusal;
+    double lower;
+    double upper;
+} tusselgro_bounds;
+
+/* The lower and upper side of the page's box in half hundredths of a minute; at a refusal (15) both are 0. 12 bytes. */
+typedef struct {
+    uint8_t refusal;
+    int32_t lower;
+    int32_t upper;
+} tusselgro_box;
 
 /* The bounds of an angle some of whose last digits are blank, 0 to 5 of them. Refusal: 15. */
 tusselgro_bounds tusselgro_latitude_bounds(int32_t latitude, uint8_t blanks);
