@@ -41,6 +41,7 @@ pub struct Report {
 }
 
 // Where a comment stands in the input that was read, and its length. Writers ignore both.
+#[repr(C)]
 pub struct Comment {
     pub at: usize,
     pub len: usize,

@@ -1,5 +1,5 @@
 pub mod Numbers
-pub mod Flattening
+pub mod Records
 pub mod Writing
 pub mod Theorems
 pub mod Unique

@@ -1,4 +1,5 @@
--- What a flat record keeps: all of a record. The blank record is all zeros, and a record that was read is known to the writers.
+-- What a record as C has it keeps: all of a record. The blank record is all zeros, and a record that was read is known to the
+-- writers.
 -- Assumes nothing.
 use mathlib.Core.Path.{_≡_, refl, sym, ap, _∙_}
 use mathlib.Core.Bool.{true, false}
@@ -13,24 +14,24 @@ use Rattle.mic_e.specs.Message.{messageNumber}
 use Rattle.body.specs.Body.{noReport, noComment, blankBody}
 use Rattle.packet.specs.declared.Record.{Record}
 use Rattle.packet.specs.Record.{blankRecord}
-use Rattle.boundary.specs.declared.Flat.{Flat}
+use Rattle.boundary.specs.declared.CRecord.{CRecord}
 use Rattle.boundary.specs.Numbers.{kindNumber}
-use Rattle.boundary.specs.Flat.{flatOf, isKnown, standsFor}
+use Rattle.boundary.specs.Record.{reportInC, bodyInC, recordInC, isKnown, reportMeant, bodyMeant, recordMeant}
 use Rattle.boundary.proofs.Numbers.{kind-kept, message-kept}
 
--- a record made flat stands for itself, whatever it holds: nothing is lost
-pub back-again : (r : Record) → standsFor (flatOf r) ≡ r
-unfolding standsFor flatOf
+-- a record given to C means itself, whatever it holds: nothing is lost
+pub back-again : (r : Record) → recordMeant (recordInC r) ≡ r
+unfolding recordMeant bodyMeant reportMeant recordInC bodyInC reportInC
 back-again r = rw (kind-kept (r .body .kind) .0, message-kept (r .body .report .message) .0)
 
 -- so two records that are the same to C are the same
-pub flat-apart : (r s : Record) → flatOf r ≡ flatOf s → r ≡ s
-flat-apart r s e = sym (back-again r) ∙ ap (λ (f : Flat). standsFor f) e ∙ back-again s
+pub apart-in-c : (r s : Record) → recordInC r ≡ recordInC s → r ≡ s
+apart-in-c r s e = sym (back-again r) ∙ ap (λ (f : CRecord). recordMeant f) e ∙ back-again s
 
 -- what was read is known to a writer
-pub flat-known : (r : Record) → isKnown (flatOf r) ≡ true
-unfolding isKnown flatOf
-flat-known r = rw (kind-kept (r .body .kind) .1, message-kept (r .body .report .message) .1)
+pub known-in-c : (r : Record) → isKnown (recordInC r .body) ≡ true
+unfolding isKnown recordInC bodyInC reportInC
+known-in-c r = rw (kind-kept (r .body .kind) .1, message-kept (r .body .report .message) .1)
 
 abbrev pub noCall : Callsign
 noCall = record { text = replicate 16 0; «call_len» = 0; «ssid_len» = 0 }
@@ -39,31 +40,23 @@ abbrev pub noHop : Hop
 noHop = record { call = noCall; heard = false }
 
 -- every byte of a record, number by number, 0
-abbrev pub allZero : Flat
+abbrev pub allZero : CRecord
 allZero =
     record {
-      kind = 0;
-      messaging = false;
-      current = false;
-      message = 0;
-      blanks = 0;
-      table = 0;
-      code = 0;
-      latitude = pos 0;
-      longitude = pos 0;
-      speed = 0;
-      course = 0;
-      «comment_at» = 0;
-      «comment_len» = 0;
-      from = noCall;
-      to = noCall;
-      path = record { hops = replicate 8 noHop; count = 0 };
+      header = record { from = noCall; to = noCall; path = record { hops = replicate 8 noHop; count = 0 } };
+      body = record {
+        place = record { latitude = record { 0 = pos 0 }; longitude = record { 0 = pos 0 }; blanks = 0; table = 0; code = 0 };
+        report = record { speed = record { 0 = 0 }; course = record { 0 = 0 }; message = 0; current = false };
+        comment = record { at = 0; len = 0 };
+        messaging = false;
+        kind = 0;
+      };
     }
 
 -- "A refused decode returns the blank record: Unknown kind, all lengths and numbers 0."
-pub blank-is-zeros : flatOf blankRecord ≡ allZero
-unfolding flatOf blankRecord blankBody noReport noComment kindNumber messageNumber blankHeader headerOf pathOf blankHop blankCall made joined padTo
+pub blank-is-zeros : recordInC blankRecord ≡ allZero
+unfolding recordInC bodyInC reportInC blankRecord blankBody noReport noComment kindNumber messageNumber blankHeader headerOf pathOf blankHop blankCall made joined padTo
 blank-is-zeros = refl
 
-pub zeros-are-blank : standsFor allZero ≡ blankRecord
-zeros-are-blank = ap (λ (f : Flat). standsFor f) (sym blank-is-zeros) ∙ back-again blankRecord
+pub zeros-are-blank : recordMeant allZero ≡ blankRecord
+zeros-are-blank = ap (λ (f : CRecord). recordMeant f) (sym blank-is-zeros) ∙ back-again blankRecord

@@ -17,28 +17,28 @@ use Rattle.position.specs.Page.{boxOf}
 use Rattle.fields.specs.Lists.{listed, motionRefusal, motionFields, longitudeRefusal, longitudeFields}
 use Rattle.packet.specs.Packet.{readText, readFrame}
 use Rattle.packet.specs.Written.{textBytes, frameBytes}
-use Rattle.boundary.specs.declared.Flat.{Flat}
-use Rattle.boundary.specs.declared.FlatRead.{FlatRead}
-use Rattle.boundary.specs.Flat.{readOf, standsFor, flatTextRefusal, flatFrameRefusal}
+use Rattle.boundary.specs.declared.CRecord.{CRecord}
+use Rattle.boundary.specs.declared.CRead.{CRead}
+use Rattle.boundary.specs.Record.{readInC, recordMeant, textRefusalInC, frameRefusalInC}
 
-module _ (s : List ℕ) (r r′ : FlatRead) where
-  pub unique-tusselgro-read-text : r ≡ readOf (readText s) → r′ ≡ readOf (readText s) → r ≡ r′
-  unique-tusselgro-read-text = one-value r r′ (readOf (readText s))
+module _ (s : List ℕ) (r r′ : CRead) where
+  pub unique-tusselgro-read-text : r ≡ readInC (readText s) → r′ ≡ readInC (readText s) → r ≡ r′
+  unique-tusselgro-read-text = one-value r r′ (readInC (readText s))
 
-  pub unique-tusselgro-read-frame : r ≡ readOf (readFrame s) → r′ ≡ readOf (readFrame s) → r ≡ r′
-  unique-tusselgro-read-frame = one-value r r′ (readOf (readFrame s))
+  pub unique-tusselgro-read-frame : r ≡ readInC (readFrame s) → r′ ≡ readInC (readFrame s) → r ≡ r′
+  unique-tusselgro-read-frame = one-value r r′ (readInC (readFrame s))
 
 module _ (out : List ℕ) (a a′ : Answer) (o o′ : List ℕ) where
-  module _ (r : Flat) (comment : List ℕ) where
-    pub unique-tusselgro-write-text : ends a o ≡ wrote (flatTextRefusal r comment) (textBytes (standsFor r) comment) out
-        → ends a′ o′ ≡ wrote (flatTextRefusal r comment) (textBytes (standsFor r) comment) out
+  module _ (r : CRecord) (comment : List ℕ) where
+    pub unique-tusselgro-write-text : ends a o ≡ wrote (textRefusalInC r comment) (textBytes (recordMeant r) comment) out
+        → ends a′ o′ ≡ wrote (textRefusalInC r comment) (textBytes (recordMeant r) comment) out
         → (a ≡ a′) × (o ≡ o′)
-    unique-tusselgro-write-text = one-end a a′ o o′ (wrote (flatTextRefusal r comment) (textBytes (standsFor r) comment) out)
+    unique-tusselgro-write-text = one-end a a′ o o′ (wrote (textRefusalInC r comment) (textBytes (recordMeant r) comment) out)
 
-    pub unique-tusselgro-write-frame : ends a o ≡ wrote (flatFrameRefusal r comment) (frameBytes (standsFor r) comment) out
-        → ends a′ o′ ≡ wrote (flatFrameRefusal r comment) (frameBytes (standsFor r) comment) out
+    pub unique-tusselgro-write-frame : ends a o ≡ wrote (frameRefusalInC r comment) (frameBytes (recordMeant r) comment) out
+        → ends a′ o′ ≡ wrote (frameRefusalInC r comment) (frameBytes (recordMeant r) comment) out
         → (a ≡ a′) × (o ≡ o′)
-    unique-tusselgro-write-frame = one-end a a′ o o′ (wrote (flatFrameRefusal r comment) (frameBytes (standsFor r) comment) out)
+    unique-tusselgro-write-frame = one-end a a′ o o′ (wrote (frameRefusalInC r comment) (frameBytes (recordMeant r) comment) out)
 
   pub unique-tusselgro-list-motion : (speed course : ℕ) → ends a o ≡ listed (motionRefusal speed course) (motionFields speed course) out
       → ends a′ o′ ≡ listed (motionRefusal speed course) (motionFields speed course) out

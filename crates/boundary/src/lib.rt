@@ -1,5 +1,6 @@
 // The way in for C and Rust: packets read and written, fields listed, bounds and boxes, as functions of the C ABI over
-// lent bytes, numbers and flat records by value. No function asks more of its caller than its C type says.
+// lent bytes, numbers and records by value. A record is the library's own, but that an enum in it is a number. No function
+// asks more of its caller than its C type says.
 ghost use mathlib.Core.Path.{_≡_};
 ghost use mathlib.Core.Bool.{cond};
 ghost use Rattle.buffer.specs.Wrote.{ends, wrote};
@@ -10,14 +11,12 @@ ghost use Rattle.fields.specs.Lists.{listed, motionRefusal, motionFields, longi
 ghost use Rattle.packet.specs.Packet.{readText, readFrame};
 ghost use Rattle.packet.specs.Written.{textBytes, frameBytes};
 ghost use Rattle.boundary.specs.Numbers.{kindNumber, kindAt, messageAt};
-ghost use Rattle.boundary.specs.Flat.{flatOf, readOf, isKnown, standsFor, flatTextRefusal, flatFrameRefusal};
+ghost use Rattle.boundary.specs.Record.{reportInC, bodyInC, readInC, isKnown, reportMeant, bodyMeant, recordMeant, textRefusalInC, frameRefusalInC};
 use body::Body;
 use body::Comment;
 use body::Kind;
 use body::Report;
-use callsign::Callsign;
 use header::Header;
-use header::Path;
 use lonlat::Latitude;
 use lonlat::Longitude;
 use mic_e::Course;
@@ -29,32 +28,37 @@ use position::BoundsAnswer;
 use position::PageBox;
 use position::Place;
 
-// A record as C has it: the kind and the message are numbers, and the parts lie side by side.
+// A report as C has it: its message is a number.
 #[repr(C)]
-pub struct Flat {
-    pub kind: u8,
-    pub messaging: bool,
-    pub current: bool,
+pub struct CReport {
+    pub speed: Speed,
+    pub course: Course,
     pub message: u8,
-    pub blanks: u8,
-    pub table: u8,
-    pub code: u8,
-    pub latitude: i32,
-    pub longitude: i32,
-    pub speed: u32,
-    pub course: u32,
-    pub comment_at: usize,
-    pub comment_len: usize,
-    pub from: Callsign,
-    pub to: Callsign,
-    pub path: Path,
+    pub current: bool,
 }
 
-// What reading gives: the refusal's number and zeros, or 0 and the record.
+// A body as C has it: its kind is a number.
 #[repr(C)]
-pub struct FlatRead {
+pub struct CBody {
+    pub place: Place,
+    pub report: CReport,
+    pub comment: Comment,
+    pub messaging: bool,
+    pub kind: u8,
+}
+
+// A record as C has it.
+#[repr(C)]
+pub struct CRecord {
+    pub header: Header,
+    pub body: CBody,
+}
+
+// What reading gives: 0 and the record, or the refusal's number and zeros.
+#[repr(C)]
+pub struct CRead {
+    pub record: CRecord,
     pub refusal: u8,
-    pub flat: Flat,
 }
 
 // ---- numbers
@@ -102,148 +106,151 @@ fn message_at(n: u8) -> Message
     }
 }
 
-// ---- flat and back
+// ---- a record as C has it, and the record that is meant
 
-fn flattened(r: Record) -> Flat
-    ensures { λ a. ⌜ a ≡ flatOf r ⌝ }
+fn report_in_c(r: Report) -> CReport
+    ensures { λ a. ⌜ a ≡ reportInC r ⌝ }
 {
-    let header = r.header;
-    let body = r.body;
-    let k = body.kind;
-    let kind = kind_number(k);
-    let place = body.place;
-    let latitude = place.latitude;
-    let longitude = place.longitude;
-    let report = body.report;
-    let m = report.message;
+    let speed = r.speed;
+    let course = r.course;
+    let m = r.message;
     let message = mic_e::message_number(m);
-    let speed = report.speed;
-    let course = report.course;
-    let comment = body.comment;
-    let from = header.from;
-    let to = header.to;
-    let path = header.path;
-    Flat {
-        kind,
-        messaging: body.messaging,
-        current: report.current,
+    CReport {
+        speed,
+        course,
         message,
-        blanks: place.blanks,
-        table: place.table,
-        code: place.code,
-        latitude: latitude.0,
-        longitude: longitude.0,
-        speed: speed.0,
-        course: course.0,
-        comment_at: comment.at,
-        comment_len: comment.len,
-        from,
-        to,
-        path,
+        current: r.current,
     }
 }
 
-fn read_of(p: PacketRead) -> FlatRead
-    ensures { λ r. ⌜ r ≡ readOf p ⌝ }
+fn body_in_c(b: Body) -> CBody
+    ensures { λ a. ⌜ a ≡ bodyInC b ⌝ }
 {
-    let flat = flattened(p.record);
-    FlatRead {
+    let place = b.place;
+    let report = report_in_c(b.report);
+    let comment = b.comment;
+    let k = b.kind;
+    let kind = kind_number(k);
+    CBody {
+        place,
+        report,
+        comment,
+        messaging: b.messaging,
+        kind,
+    }
+}
+
+fn read_in_c(p: PacketRead) -> CRead
+    ensures { λ a. ⌜ a ≡ readInC p ⌝ }
+{
+    let r = p.record;
+    let header = r.header;
+    let body = body_in_c(r.body);
+    let record = CRecord { header, body };
+    CRead {
+        record,
         refusal: p.refusal,
-        flat,
     }
 }
 
 // Whether the numbers of kind and message stand for one.
-fn is_known(r: Flat) -> bool
-    ensures { λ a. ⌜ a ≡ isKnown r ⌝ }
+fn is_known(b: CBody) -> bool
+    ensures { λ a. ⌜ a ≡ isKnown b ⌝ }
 {
-    if 2 < r.kind {
+    if 2 < b.kind {
         return false;
     }
-    r.message <= 15
+    let report = b.report;
+    report.message <= 15
 }
 
-fn stands_for(r: Flat) -> Record
-    ensures { λ a. ⌜ a ≡ standsFor r ⌝ }
+fn report_meant(r: CReport) -> Report
+    ensures { λ a. ⌜ a ≡ reportMeant r ⌝ }
 {
-    let kind = kind_at(r.kind);
+    let speed = r.speed;
+    let course = r.course;
     let message = message_at(r.message);
-    let from = r.from;
-    let to = r.to;
-    let path = r.path;
-    let header = Header { from, to, path };
-    let place = Place {
-        latitude: Latitude(r.latitude),
-        longitude: Longitude(r.longitude),
-        blanks: r.blanks,
-        table: r.table,
-        code: r.code,
-    };
-    let report = Report {
-        speed: Speed(r.speed),
-        course: Course(r.course),
+    Report {
+        speed,
+        course,
         message,
         current: r.current,
-    };
-    let comment = Comment {
-        at: r.comment_at,
-        len: r.comment_len,
-    };
-    let body = Body {
+    }
+}
+
+fn body_meant(b: CBody) -> Body
+    ensures { λ a. ⌜ a ≡ bodyMeant b ⌝ }
+{
+    let place = b.place;
+    let report = report_meant(b.report);
+    let comment = b.comment;
+    let kind = kind_at(b.kind);
+    Body {
         place,
         report,
         comment,
-        messaging: r.messaging,
+        messaging: b.messaging,
         kind,
-    };
+    }
+}
+
+fn record_meant(r: CRecord) -> Record
+    ensures { λ a. ⌜ a ≡ recordMeant r ⌝ }
+{
+    let header = r.header;
+    let body = body_meant(r.body);
     Record { header, body }
 }
 
 // ---- packets
 
 // Reads a frame where framed, else a line of text. One function, so that it is compiled once and in one piece.
-fn read(s: &[u8], framed: bool) -> FlatRead
-    ensures { λ r. ⌜ r ≡ readOf (cond framed (readFrame (now (s .entry))) (readText (now (s .entry)))) ⌝ }
+fn read(s: &[u8], framed: bool) -> CRead
+    ensures { λ r. ⌜ r ≡ readInC (cond framed (readFrame (now (s .entry))) (readText (now (s .entry)))) ⌝ }
 {
-    read_of(packet::read(s, framed))
+    read_in_c(packet::read(s, framed))
 }
 
 // Reads a line of text: the record, or the number of its first fault and zeros.
 #[no_mangle]
-pub extern "C" fn tusselgro_read_text(line: &[u8]) -> FlatRead
-    ensures { λ r. ⌜ r ≡ readOf (readText (now (line .entry))) ⌝ }
+pub extern "C" fn tusselgro_read_text(line: &[u8]) -> CRead
+    ensures { λ r. ⌜ r ≡ readInC (readText (now (line .entry))) ⌝ }
 {
     read(line, false)
 }
 
 // Reads an AX.25 frame, from its destination to the end of its information: as tusselgro_read_text.
 #[no_mangle]
-pub extern "C" fn tusselgro_read_frame(frame: &[u8]) -> FlatRead
-    ensures { λ r. ⌜ r ≡ readOf (readFrame (now (frame .entry))) ⌝ }
+pub extern "C" fn tusselgro_read_frame(frame: &[u8]) -> CRead
+    ensures { λ r. ⌜ r ≡ readInC (readFrame (now (frame .entry))) ⌝ }
 {
     read(frame, true)
 }
 
 // Writes a record and a comment as a line of text; refused with 15, 14, 1 or 16. The record's comment is ignored.
 #[no_mangle]
-pub extern "C" fn tusselgro_write_text(r: Flat, comment: &[u8], out: &mut [u8]) -> buffer::Answer
-    ensures { λ a. ⌜ ends a (now (out .exit)) ≡ wrote (flatTextRefusal r (now (comment .entry))) (textBytes (standsFor r) (now (comment .entry))) (now (out .entry)) ⌝ }
+pub extern "C" fn tusselgro_write_text(r: CRecord, comment: &[u8], out: &mut [u8]) -> buffer::Answer
+    ensures { λ a. ⌜ ends a (now (out .exit)) ≡ wrote (textRefusalInC r (now (comment .entry))) (textBytes (recordMeant r) (now (comment .entry))) (now (out .entry)) ⌝ }
 {
-    if !is_known(r) {
+    if !is_known(r.body) {
         return buffer::refused(15);
     }
-    packet::write_text(stands_for(r), comment, out)
+    packet::write_text(record_meant(r), comment, out)
 }
 
 // Writes a record and a comment as an AX.25 frame; refused with 15, 14, 13, 1 or 16. The record's comment is ignored.
 #[no_mangle]
-pub extern "C" fn tusselgro_write_frame(r: Flat, comment: &[u8], out: &mut [u8]) -> buffer::Answer
-    ensures { λ a. ⌜ ends a (now (out .exit)) ≡ wrote (flatFrameRefusal r (now (comment .entry))) (frameBytes (standsFor r) (now (comment .entry))) (now (out .entry)) ⌝ }
+pub extern "C" fn tusselgro_write_frame(
+    r: CRecord,
+    comment: &[u8],
+    out: &mut [u8],
+) -> buffer::Answer
+    ensures { λ a. ⌜ ends a (now (out .exit)) ≡ wrote (frameRefusalInC r (now (comment .entry))) (frameBytes (recordMeant r) (now (comment .entry))) (now (out .entry)) ⌝ }
 {
-    if !is_known(r) {
+    if !is_known(r.body) {
         return buffer::refused(15);
     }
-    packet::write_frame(stands_for(r), comment, out)
+    packet::write_frame(record_meant(r), comment, out)
 }
 
 // ---- fields

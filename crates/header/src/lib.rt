@@ -33,6 +33,7 @@ pub struct Path {
 }
 
 // Source, destination and path.
+#[repr(C)]
 pub struct Header {
     pub from: Callsign,
     pub to: Callsign,

@@ -14,9 +14,11 @@ ghost use Rattle.lonlat.specs.Longitude.{longitudeIn, readLongitude, lon
 use numbers::Number;
 
 // A latitude: signed hundredths of a minute, north positive.
+#[repr(C)]
 pub struct Latitude(pub i32);
 
 // A longitude: signed hundredths of a minute, east positive.
+#[repr(C)]
 pub struct Longitude(pub i32);
 
 // A longitude put together, or the refusal of one past 180 degrees.

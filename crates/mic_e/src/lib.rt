@@ -24,9 +24,11 @@ use lonlat::LongitudeMade;
 use numbers::Sides;
 
 // A speed in knots, at most 799.
+#[repr(C)]
 pub struct Speed(pub u32);
 
 // A course in degrees, at most 360; 0 is an unknown one.
+#[repr(C)]
 pub struct Course(pub u32);
 
 // Three bytes of information: a longitude or a motion.
@@ -49,6 +51,7 @@ pub enum LongitudeField {
 }
 
 // What the eight bytes say: the symbol's code byte stands before its table byte.
+#[repr(C)]
 pub struct Information {
     pub longitude: Longitude,
     pub speed: Speed,
@@ -102,6 +105,7 @@ pub enum DestinationRead {
 }
 
 // The six characters, or zeros with the refusal 15.
+#[repr(C)]
 pub struct DestinationWritten {
     pub bytes: [u8; 6],
     pub refusal: u8,

@@ -19,6 +19,7 @@ use lonlat::Longitude;
 use lonlat::LongitudeRead;
 
 // Where something is: its angles, how many of their last digits are blank, and its symbol.
+#[repr(C)]
 pub struct Place {
     pub latitude: Latitude,
     pub longitude: Longitude,
@@ -29,6 +30,7 @@ pub struct Place {
 
 // What a position reads as: the refusal's number or 0, the place, whether its letters are S and W, also at 0, and which of its
 // angles has minutes of 60 or more.
+#[repr(C)]
 pub struct PositionRead {
     pub place: Place,
     pub south: bool,

@@ -52,7 +52,7 @@ static uint8_t *output_page(void) {
     return page ? page : (page = lent_page());
 }
 
-static uint8_t *lend_input(const uint8_t *bytes, size_t size, int side) {
+uint8_t *lend_input(const uint8_t *bytes, size_t size, int side) {
     uint8_t *lent = place(input_page(), size, side);
     memset(input_page(), GUARD, PAGE);
     if (size > 0) memcpy(lent, bytes, size);
@@ -64,7 +64,7 @@ static bool unchanged(const uint8_t *from, const uint8_t *to) {
     return from >= to;
 }
 
-static bool input_kept(const uint8_t *lent, const uint8_t *bytes, size_t size) {
+bool input_kept(const uint8_t *lent, const uint8_t *bytes, size_t size) {
     return unchanged(input_page(), lent) && (size == 0 || memcmp(lent, bytes, size) == 0) &&
            unchanged(lent + size, input_page() + PAGE);
 }
@@ -115,12 +115,12 @@ tusselgro_answer write_lent(writer *function, tusselgro_record record, const uin
     return answer[0];
 }
 
-tusselgro_answer list_lent(lister *function, const void *target, size_t room) {
+tusselgro_answer fill_lent(filler *function, const void *what, size_t width, size_t room) {
     tusselgro_answer answer[2];
     for (int side = 0; side < 2; side++) {
         uint8_t *out = lend_output(room, side);
-        answer[side] = function(target, out, room);
-        HOLDS(output_kept(out, room, 3 * answer[side].reported));
+        answer[side] = function(what, out, room);
+        HOLDS(output_kept(out, room, width * answer[side].reported));
     }
     HOLDS(same_answer(answer[0], answer[1]));
     HOLDS(answer[0].refusal == 0 || answer[0].reported == 0);
@@ -143,12 +143,24 @@ static bool same_path(const tusselgro_path *a, const tusselgro_path *b) {
     return same;
 }
 
+static bool same_place(const tusselgro_place *a, const tusselgro_place *b) {
+    return a->latitude == b->latitude && a->longitude == b->longitude && a->blanks == b->blanks &&
+           a->table == b->table && a->code == b->code;
+}
+
+static bool same_report(const tusselgro_report *a, const tusselgro_report *b) {
+    return a->speed == b->speed && a->course == b->course && a->message == b->message && a->current == b->current;
+}
+
+static bool same_body(const tusselgro_body *a, const tusselgro_body *b) {
+    return same_place(&a->place, &b->place) && same_report(&a->report, &b->report) &&
+           a->comment.at == b->comment.at && a->comment.len == b->comment.len && a->messaging == b->messaging &&
+           a->kind == b->kind;
+}
+
 bool same_record(const tusselgro_record *a, const tusselgro_record *b) {
-    return a->kind == b->kind && a->messaging == b->messaging && a->current == b->current &&
-           a->message == b->message && a->blanks == b->blanks && a->table == b->table && a->code == b->code &&
-           a->latitude == b->latitude && a->longitude == b->longitude && a->speed == b->speed &&
-           a->course == b->course && a->comment_at == b->comment_at && a->comment_len == b->comment_len &&
-           same_callsign(&a->from, &b->from) && same_callsign(&a->to, &b->to) && same_path(&a->path, &b->path);
+    return same_callsign(&a->header.from, &b->header.from) && same_callsign(&a->header.to, &b->header.to) &&
+           same_path(&a->header.path, &b->header.path) && same_body(&a->body, &b->body);
 }
 
 bool is_blank(const tusselgro_record *record) {
@@ -159,7 +171,6 @@ bool is_blank(const tusselgro_record *record) {
 bool any_fault(void) { return faults > 0; }
 
 static void check_all(void) {
-    check_sizes();
     check_reading();
     check_writing();
     check_listing();

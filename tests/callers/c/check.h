@@ -17,16 +17,21 @@ void refused(int refusal, int expected, const char *file, int line);
 
 typedef tusselgro_read reader(const uint8_t *, size_t);
 typedef tusselgro_answer writer(tusselgro_record, const uint8_t *, size_t, uint8_t *, size_t);
-typedef tusselgro_answer lister(const void *target, uint8_t *, size_t);
+typedef tusselgro_answer filler(const void *what, uint8_t *, size_t);
 
 /*
  * Each calls a function twice: its memory ends where a page begins that nobody may touch, then starts where one ends.
- * Both calls must answer the same, leave their input alone, and change no byte of the output but those reported.
+ * Both calls must answer the same, leave their input alone, and change no byte of the output but those reported. A filler
+ * reports things of so many bytes: fields of 3, or bytes.
  */
 tusselgro_read read_lent(reader *function, const uint8_t *bytes, size_t size);
 tusselgro_answer write_lent(writer *function, tusselgro_record record, const uint8_t *comment, size_t size,
                             size_t room);
-tusselgro_answer list_lent(lister *function, const void *target, size_t room);
+tusselgro_answer fill_lent(filler *function, const void *what, size_t width, size_t room);
+
+/* Lends a copy of the bytes, at the end of a guarded page on side 0, at its start on side 1; and whether it was left alone. */
+uint8_t *lend_input(const uint8_t *bytes, size_t size, int side);
+bool input_kept(const uint8_t *lent, const uint8_t *bytes, size_t size);
 
 /* The first bytes of the output of the call before. */
 extern uint8_t written[1024];
@@ -37,7 +42,6 @@ bool wrote(tusselgro_answer answer, const uint8_t *bytes, size_t size);
 bool same_record(const tusselgro_record *a, const tusselgro_record *b);
 bool is_blank(const tusselgro_record *record);
 
-void check_sizes(void);
 void check_reading(void);
 void check_writing(void);
 void check_listing(void);

@@ -23,11 +23,11 @@ static tusselgro_answer by_longitude(const void *target, uint8_t *out, size_t ro
 }
 
 static tusselgro_answer list_motion(uint32_t speed, uint32_t course, size_t room) {
-    return list_lent(by_motion, &(motion){speed, course}, room);
+    return fill_lent(by_motion, &(motion){speed, course}, 3, room);
 }
 
 static tusselgro_answer list_longitude(int32_t longitude, bool hundred, bool west, size_t room) {
-    return list_lent(by_longitude, &(meridian){longitude, hundred, west}, room);
+    return fill_lent(by_longitude, &(meridian){longitude, hundred, west}, 3, room);
 }
 
 /* "All fields for 0 knots, course 0, sixteen" */

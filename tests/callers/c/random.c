@@ -94,21 +94,21 @@ static void any_read(void) {
     size_t size = frame ? any_frame(bytes) : any_line(bytes);
     tusselgro_read read = read_lent(frame ? tusselgro_read_frame : tusselgro_read_text, bytes, size);
     HOLDS(read.refusal <= 12);
-    HOLDS(read.record.comment_at <= size && read.record.comment_len <= size - read.record.comment_at);
-    HOLDS(read.record.path.count <= TUSSELGRO_MOST_HOPS);
+    tusselgro_comment comment = read.record.body.comment;
+    HOLDS(comment.at <= size && comment.len <= size - comment.at);
+    HOLDS(read.record.header.path.count <= TUSSELGRO_MOST_HOPS);
     if (read.refusal != 0) return;
-    const uint8_t *comment = bytes + read.record.comment_at;
-    write_lent(tusselgro_write_text, read.record, comment, read.record.comment_len, below(MOST));
-    write_lent(tusselgro_write_frame, read.record, comment, read.record.comment_len, below(MOST));
+    write_lent(tusselgro_write_text, read.record, bytes + comment.at, comment.len, below(MOST));
+    write_lent(tusselgro_write_frame, read.record, bytes + comment.at, comment.len, below(MOST));
 }
 
 /* any bytes at all, but for a bool, which C holds to false or true */
 static tusselgro_record wild_record(void) {
     tusselgro_record record;
     any_bytes((uint8_t *)&record, sizeof record);
-    memset(&record.messaging, one_in(2), 1);
-    memset(&record.current, one_in(2), 1);
-    for (int at = 0; at < TUSSELGRO_MOST_HOPS; at++) memset(&record.path.hops[at].heard, one_in(2), 1);
+    memset(&record.body.messaging, one_in(2), 1);
+    memset(&record.body.report.current, one_in(2), 1);
+    for (int at = 0; at < TUSSELGRO_MOST_HOPS; at++) memset(&record.header.path.hops[at].heard, one_in(2), 1);
     return record;
 }
 
@@ -117,15 +117,15 @@ static tusselgro_record near_record(void) {
     uint8_t bytes[MOST + 8];
     tusselgro_record record = tusselgro_read_text(bytes, any_line(bytes)).record;
     switch (below(9)) {
-        case 0: record.kind = (uint8_t)below(5); break;
-        case 1: record.message = (uint8_t)below(20); break;
-        case 2: record.blanks = (uint8_t)below(8); break;
-        case 3: record.latitude = (int32_t)below(1100000) - 550000; break;
-        case 4: record.longitude = (int32_t)below(2200000) - 1100000; break;
-        case 5: record.speed = (uint32_t)below(900); break;
-        case 6: record.path.count = below(12); break;
-        case 7: record.from.call_len = below(20); break;
-        default: record.to.ssid_len = one_in(2) ? below(20) : (size_t)next(); break;
+        case 0: record.body.kind = (uint8_t)below(5); break;
+        case 1: record.body.report.message = (uint8_t)below(20); break;
+        case 2: record.body.place.blanks = (uint8_t)below(8); break;
+        case 3: record.body.place.latitude = (int32_t)below(1100000) - 550000; break;
+        case 4: record.body.place.longitude = (int32_t)below(2200000) - 1100000; break;
+        case 5: record.body.report.speed = (uint32_t)below(900); break;
+        case 6: record.header.path.count = below(12); break;
+        case 7: record.header.from.call_len = below(20); break;
+        default: record.header.to.ssid_len = one_in(2) ? below(20) : (size_t)next(); break;
     }
     return record;
 }
@@ -156,7 +156,7 @@ static tusselgro_answer longitude_fields(const void *target, uint8_t *out, size_
 static void any_list(void) {
     setting s = {(uint32_t)below(810), (uint32_t)below(370), (int32_t)below(2200000) - 1100000, one_in(2), one_in(2)};
     if (one_in(8)) s = (setting){(uint32_t)next(), (uint32_t)next(), (int32_t)next(), one_in(2), one_in(2)};
-    tusselgro_answer answer = list_lent(one_in(2) ? motion_fields : longitude_fields, &s, below(130));
+    tusselgro_answer answer = fill_lent(one_in(2) ? motion_fields : longitude_fields, &s, 3, below(130));
     for (size_t at = 3; at < 3 * answer.reported; at += 3) HOLDS(memcmp(written + at - 3, written + at, 3) < 0);
 }
 

@@ -6,14 +6,6 @@
 #define LINE(string) read_lent(tusselgro_read_text, BYTES(string))
 #define FRAME(string) read_lent(tusselgro_read_frame, BYTES(string))
 
-void check_sizes(void) {
-    HOLDS(sizeof(tusselgro_callsign) == 32 && sizeof(tusselgro_hop) == 40 && sizeof(tusselgro_path) == 328);
-    HOLDS(sizeof(tusselgro_record) == 432 && sizeof(tusselgro_read) == 440 && sizeof(tusselgro_answer) == 24);
-    HOLDS(sizeof(tusselgro_bounds) == 24 && sizeof(tusselgro_box) == 12);
-    HOLDS(offsetof(tusselgro_record, latitude) == 8 && offsetof(tusselgro_record, comment_at) == 24);
-    HOLDS(offsetof(tusselgro_record, from) == 40 && offsetof(tusselgro_record, path) == 104);
-}
-
 static bool is_call(tusselgro_callsign callsign, const char *call, const char *ssid) {
     size_t call_len = strlen(call), ssid_len = strlen(ssid);
     return callsign.call_len == call_len && callsign.ssid_len == ssid_len &&
@@ -25,57 +17,62 @@ static bool is_call(tusselgro_callsign callsign, const char *call, const char *s
 /* The first line of the listing: every part of a position. */
 static void check_position(void) {
     tusselgro_read read = LINE("N0CALL-01>APRS,WIDE1-1,WIDE2-2*,K1A:!4903.50N/07201.75W-Test");
-    tusselgro_record r = read.record;
+    tusselgro_header h = read.record.header;
+    tusselgro_body b = read.record.body;
     REFUSED(read, 0);
-    HOLDS(r.kind == TUSSELGRO_POSITION && !r.messaging && !r.current && r.message == 0);
-    HOLDS(r.latitude == 294350 && r.longitude == -432175 && r.blanks == 0);
-    HOLDS(r.table == '/' && r.code == '-' && r.speed == 0 && r.course == 0);
-    HOLDS(r.comment_at == 56 && r.comment_len == 4);
-    HOLDS(is_call(r.from, "N0CALL", "01") && is_call(r.to, "APRS", ""));
-    HOLDS(r.path.count == 3 && is_call(r.path.hops[0].call, "WIDE1", "1") && is_call(r.path.hops[2].call, "K1A", ""));
-    HOLDS(r.path.hops[0].heard && r.path.hops[1].heard && !r.path.hops[2].heard);
-    read = LINE("A>B:=49  .  N/072  .  W-");
-    HOLDS(read.record.messaging && read.record.blanks == 4);
-    HOLDS(read.record.latitude == 294000 && read.record.longitude == -432000);
+    HOLDS(b.kind == TUSSELGRO_POSITION && !b.messaging && !b.report.current && b.report.message == 0);
+    HOLDS(b.place.latitude == 294350 && b.place.longitude == -432175 && b.place.blanks == 0);
+    HOLDS(b.place.table == '/' && b.place.code == '-' && b.report.speed == 0 && b.report.course == 0);
+    HOLDS(b.comment.at == 56 && b.comment.len == 4);
+    HOLDS(is_call(h.from, "N0CALL", "01") && is_call(h.to, "APRS", ""));
+    HOLDS(h.path.count == 3 && is_call(h.path.hops[0].call, "WIDE1", "1") && is_call(h.path.hops[2].call, "K1A", ""));
+    HOLDS(h.path.hops[0].heard && h.path.hops[1].heard && !h.path.hops[2].heard);
+    b = LINE("A>B:=49  .  N/072  .  W-").record.body;
+    HOLDS(b.messaging && b.place.blanks == 4 && b.place.latitude == 294000 && b.place.longitude == -432000);
     read = LINE("A>B:");
     REFUSED(read, 0);
-    HOLDS(read.record.kind == TUSSELGRO_UNKNOWN && is_call(read.record.from, "A", "") && read.record.path.count == 0);
+    HOLDS(read.record.body.kind == TUSSELGRO_UNKNOWN);
+    HOLDS(is_call(read.record.header.from, "A", "") && read.record.header.path.count == 0);
+}
+
+static bool is_still(tusselgro_read read) {
+    return read.refusal == 0 && read.record.body.report.speed == 0 && read.record.body.report.course == 0;
 }
 
 /* P1 to P9: motion, longitude and destination of Mic-E lines. */
 static void check_mic_e(void) {
     tusselgro_read read = LINE("A>S32U6T:`(_fn\"Oj/Comment");
-    tusselgro_record r = read.record;
+    tusselgro_body b = read.record.body;
     REFUSED(read, 0);
-    HOLDS(r.kind == TUSSELGRO_MIC_E && r.current && !r.messaging && is_call(r.to, "", ""));
-    HOLDS(r.latitude == 200564 && r.longitude == -72774 && r.blanks == 0 && r.message == TUSSELGRO_M3);
-    HOLDS(r.speed == 20 && r.course == 251 && r.code == 'j' && r.table == '/');
-    HOLDS(r.comment_at == 18 && r.comment_len == 7);
+    HOLDS(b.kind == TUSSELGRO_MIC_E && !b.messaging && is_call(read.record.header.to, "", ""));
+    HOLDS(b.place.latitude == 200564 && b.place.longitude == -72774 && b.place.blanks == 0);
+    HOLDS(b.place.code == 'j' && b.place.table == '/');
+    HOLDS(b.report.message == TUSSELGRO_M3 && b.report.speed == 20 && b.report.course == 251 && b.report.current);
+    HOLDS(b.comment.at == 18 && b.comment.len == 7);
 
     read = LINE("A>S32U6T:'(_fl \x1cj/");
-    HOLDS(read.refusal == 0 && !read.record.current && read.record.speed == 0 && read.record.course == 0);
-    read = LINE("A>S32U6T:'(_f\x1c\x1c\x1cj/");
-    HOLDS(read.refusal == 0 && read.record.speed == 0 && read.record.course == 0);
+    HOLDS(is_still(read) && !read.record.body.report.current);
+    HOLDS(is_still(LINE("A>S32U6T:'(_f\x1c\x1c\x1cj/")));
     REFUSED(LINE("A>S32U6T:'(_f\x1b\x1c\x1cj/"), 12);
     REFUSED(LINE("A>S32U6T:'(_f\x1c%\x1cj/"), 12);
     read = LINE("A>S32UVT:`vX\x1c\x1c\x1c\x1cj/");
-    HOLDS(read.refusal == 0 && read.record.longitude == 0);
+    HOLDS(read.refusal == 0 && read.record.body.place.longitude == 0);
     REFUSED(LINE("A>LLLLLL:`(_fn\"Oj/"), 11);
     read = LINE("A>4LLLLL:`(_fn\"Oj/");
-    HOLDS(read.refusal == 0 && read.record.latitude == -240000 && read.record.blanks == 5);
-    HOLDS(read.record.message == TUSSELGRO_EMERGENCY);
+    HOLDS(read.refusal == 0 && read.record.body.place.latitude == -240000 && read.record.body.place.blanks == 5);
+    HOLDS(read.record.body.report.message == TUSSELGRO_EMERGENCY);
     read = LINE("A>PALLLL:`(_fn\"Oj/");
-    HOLDS(read.refusal == 0 && read.record.message == TUSSELGRO_MESSAGE_UNKNOWN);
+    HOLDS(read.refusal == 0 && read.record.body.report.message == TUSSELGRO_MESSAGE_UNKNOWN);
     read = LINE("A>AAA000:`(_fn\"Oj/");
-    HOLDS(read.refusal == 0 && read.record.message == TUSSELGRO_C0);
+    HOLDS(read.refusal == 0 && read.record.body.report.message == TUSSELGRO_C0);
 }
 
 /* P11 and P12. */
 static void check_values(void) {
-    tusselgro_read read = LINE("X>Y,A,B*,C:");
-    HOLDS(read.record.path.hops[0].heard && read.record.path.hops[1].heard && !read.record.path.hops[2].heard);
-    HOLDS(LINE("A>B:!9000.00N/00000.00E-").record.latitude == 540000);
-    HOLDS(LINE("A>B:!8960.00N/00000.00E-").record.latitude == 540000);
+    tusselgro_path path = LINE("X>Y,A,B*,C:").record.header.path;
+    HOLDS(path.hops[0].heard && path.hops[1].heard && !path.hops[2].heard);
+    HOLDS(LINE("A>B:!9000.00N/00000.00E-").record.body.place.latitude == 540000);
+    HOLDS(LINE("A>B:!8960.00N/00000.00E-").record.body.place.latitude == 540000);
     REFUSED(LINE("A>B:!9000.01N/00000.00E-"), 8);
 }
 
@@ -114,10 +111,10 @@ static void check_line_refusals(void) {
 static void check_frames(void) {
     tusselgro_read read = FRAME(TO FROM LAST_HOP PAIR "!4903.50N/07201.75W-Test");
     REFUSED(read, 0);
-    HOLDS(read.record.kind == TUSSELGRO_POSITION && read.record.latitude == 294350);
-    HOLDS(is_call(read.record.from, "N0CALL", "1") && is_call(read.record.to, "APRS", ""));
-    HOLDS(read.record.path.count == 1 && read.record.path.hops[0].heard);
-    HOLDS(is_call(read.record.path.hops[0].call, "N0CALL", "1") && read.record.comment_at == 43);
+    tusselgro_header h = read.record.header;
+    HOLDS(read.record.body.kind == TUSSELGRO_POSITION && read.record.body.place.latitude == 294350);
+    HOLDS(is_call(h.from, "N0CALL", "1") && is_call(h.to, "APRS", "") && h.path.count == 1);
+    HOLDS(is_call(h.path.hops[0].call, "N0CALL", "1") && h.path.hops[0].heard && read.record.body.comment.at == 43);
     REFUSED(FRAME(MIC_E_TO LAST_FROM PAIR "`(_fn\"Oj/"), 0);
     REFUSED(tusselgro_read_frame(NULL, 0), 2);
     REFUSED(FRAME("\x82\xa0\xa4\xa6@@"), 2);

@@ -18,8 +18,8 @@ static tusselgro_record read_record(const char *line) {
 static void check_round(void) {
     tusselgro_record r = read_record(position_line);
     HOLDS(wrote(TEXT(r, "Test", 512), BYTES("N0CALL-01>APRS,WIDE1-1,WIDE2-2*,K1A:!4903.50N/07201.75W-Test")));
-    r.comment_at = (size_t)-1;
-    r.comment_len = (size_t)-1;
+    r.body.comment.at = (size_t)-1;
+    r.body.comment.len = (size_t)-1;
     HOLDS(wrote(TEXT(r, "", 512), BYTES("N0CALL-01>APRS,WIDE1-1,WIDE2-2*,K1A:!4903.50N/07201.75W-")));
     HOLDS(wrote(TEXT(read_record(mic_e_line), "", 512), BYTES("A>S32U6T:`(_fn\"Oj/")));
     HOLDS(wrote(TEXT(READ("X>Y,A,B*,C:=0000.00N/00000.00E-"), "", 512), BYTES("X>Y,A,B*,C:=0000.00N/00000.00E-")));
@@ -28,9 +28,9 @@ static void check_round(void) {
 /* P4: 799 knots, course 360. P7: 105 degrees east. P10: a hop of a frame that is heard and last. */
 static void check_values(void) {
     tusselgro_record r = read_record(mic_e_line);
-    r.speed = 799;
-    r.course = 360;
-    r.longitude = 630000;
+    r.body.report.speed = 799;
+    r.body.report.course = 360;
+    r.body.place.longitude = 630000;
     tusselgro_answer answer = TEXT(r, "", 512);
     HOLDS(answer.refusal == 0 && answer.reported == 18);
     HOLDS(memcmp(written + 10, "\x71\x58\x1c\x6b\x7d\x58", 6) == 0);
@@ -41,7 +41,7 @@ static void check_values(void) {
     answer = FRAME(read_record(position_line), "Test", 512);
     REFUSED(answer, 0);
     tusselgro_read back = tusselgro_read_frame(written, answer.reported);
-    HOLDS(back.refusal == 0 && back.record.latitude == 294350 && back.record.path.count == 3);
+    HOLDS(back.refusal == 0 && back.record.body.place.latitude == 294350 && back.record.header.path.count == 3);
 }
 
 static void check_refusals(void) {
@@ -78,50 +78,50 @@ static void check_refusals(void) {
     } while (0)
 
 static void check_range(void) {
-    SPOILT(position_line, r.kind = 3);
-    SPOILT(position_line, r.kind = 255);
-    SPOILT(position_line, r.kind = TUSSELGRO_UNKNOWN);
-    SPOILT(position_line, r.latitude = 540001);
-    SPOILT(position_line, r.latitude = INT32_MIN);
-    SPOILT(position_line, r.longitude = -1080001);
-    SPOILT(position_line, r.blanks = 6);
-    SPOILT(position_line, r.table = 128);
-    SPOILT(position_line, r.code = 255);
-    SPOILT(position_line, r.message = TUSSELGRO_M1);
-    SPOILT(position_line, r.message = 16);
-    SPOILT(position_line, r.speed = 1);
-    SPOILT(position_line, r.current = true);
-    SPOILT(position_line, r.path.count = 9);
-    SPOILT(position_line, r.path.count = (size_t)-1);
-    SPOILT(position_line, r.path.count = 2);
-    SPOILT(position_line, r.path.hops[7].heard = true);
-    SPOILT(position_line, r.from.call_len = (size_t)-1);
-    SPOILT(position_line, r.from.ssid_len = (size_t)-1);
-    SPOILT(position_line, r.from.call_len = 17);
-    SPOILT(position_line, r.from.text[0] = 0xff);
-    SPOILT(position_line, r.from.text[15] = 'x');
+    SPOILT(position_line, r.body.kind = 3);
+    SPOILT(position_line, r.body.kind = 255);
+    SPOILT(position_line, r.body.kind = TUSSELGRO_UNKNOWN);
+    SPOILT(position_line, r.body.place.latitude = 540001);
+    SPOILT(position_line, r.body.place.latitude = INT32_MIN);
+    SPOILT(position_line, r.body.place.longitude = -1080001);
+    SPOILT(position_line, r.body.place.blanks = 6);
+    SPOILT(position_line, r.body.place.table = 128);
+    SPOILT(position_line, r.body.place.code = 255);
+    SPOILT(position_line, r.body.report.message = TUSSELGRO_M1);
+    SPOILT(position_line, r.body.report.message = 16);
+    SPOILT(position_line, r.body.report.speed = 1);
+    SPOILT(position_line, r.body.report.current = true);
+    SPOILT(position_line, r.header.path.count = 9);
+    SPOILT(position_line, r.header.path.count = (size_t)-1);
+    SPOILT(position_line, r.header.path.count = 2);
+    SPOILT(position_line, r.header.path.hops[7].heard = true);
+    SPOILT(position_line, r.header.from.call_len = (size_t)-1);
+    SPOILT(position_line, r.header.from.ssid_len = (size_t)-1);
+    SPOILT(position_line, r.header.from.call_len = 17);
+    SPOILT(position_line, r.header.from.text[0] = 0xff);
+    SPOILT(position_line, r.header.from.text[15] = 'x');
     static const tusselgro_callsign zero_ssid = {"A-0", 1, 1};
-    SPOILT(position_line, r.to = zero_ssid);
-    SPOILT(mic_e_line, r.message = 16);
-    SPOILT(mic_e_line, r.message = 255);
-    SPOILT(mic_e_line, r.longitude = 1080000);
-    SPOILT(mic_e_line, r.speed = 800);
-    SPOILT(mic_e_line, r.course = 361);
-    SPOILT(mic_e_line, r.messaging = true);
-    SPOILT(mic_e_line, r.to = r.from);
-    SPOILT("A>B:", r.latitude = 1);
-    SPOILT("A>B:", r.messaging = true);
+    SPOILT(position_line, r.header.to = zero_ssid);
+    SPOILT(mic_e_line, r.body.report.message = 16);
+    SPOILT(mic_e_line, r.body.report.message = 255);
+    SPOILT(mic_e_line, r.body.place.longitude = 1080000);
+    SPOILT(mic_e_line, r.body.report.speed = 800);
+    SPOILT(mic_e_line, r.body.report.course = 361);
+    SPOILT(mic_e_line, r.body.messaging = true);
+    SPOILT(mic_e_line, r.header.to = r.header.from);
+    SPOILT("A>B:", r.body.place.latitude = 1);
+    SPOILT("A>B:", r.body.messaging = true);
 }
 
 /* Every message goes out and comes back. */
 static void check_messages(void) {
     for (uint8_t message = 0; message <= 15; message++) {
         tusselgro_record r = read_record(mic_e_line);
-        r.message = message;
+        r.body.report.message = message;
         tusselgro_answer answer = TEXT(r, "", 512);
         REFUSED(answer, 0);
         tusselgro_read back = tusselgro_read_text(written, answer.reported);
-        HOLDS(back.refusal == 0 && back.record.message == message);
+        HOLDS(back.refusal == 0 && back.record.body.report.message == message);
     }
 }
 

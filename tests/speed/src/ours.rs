@@ -45,7 +45,7 @@ mod linked {
             return 0;
         }
         let record = read.record;
-        let comment = &line[record.comment_at..][..record.comment_len];
+        let comment = &line[record.body.comment.at..][..record.body.comment.len];
         // SAFETY: each pointer and its length are those of one slice, and the slices do not overlap.
         let answer = unsafe {
             ffi::tusselgro_write_text(
@@ -62,7 +62,7 @@ mod linked {
 
     pub fn class(line: &[u8]) -> Class {
         let read = read(line);
-        match (read.refusal, read.record.kind) {
+        match (read.refusal, read.record.body.kind) {
             (0, ffi::POSITION) => Class::Position,
             (0, ffi::MIC_E) => Class::MicE,
             (0, _) => Class::Unknown,

@@ -1,6 +1,6 @@
 -- Two numbers, each within its list. Assumes nothing.
 use Rattle.laws.proofs.Picks.{picks}
-use Rattle.boundary.specs.Flat.{isKnown}
+use Rattle.boundary.specs.Record.{isKnown}
 use Rattle.boundary.proofs.is_known.Statement.{statement}
 use Rattle.boundary.proofs.is_known.Tie as tie
 

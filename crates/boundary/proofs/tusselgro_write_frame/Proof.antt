@@ -13,8 +13,8 @@ refused-requires c κs = search needs
 returns : tie.Need-returns
 returns c = search frame-unknown
 
-stands-for-requires : tie.Need-stands-for-requires
-stands-for-requires c κs = search needs
+record-meant-requires : tie.Need-record-meant-requires
+record-meant-requires c κs = search needs
 
 write-frame-requires : tie.Need-write-frame-requires
 write-frame-requires c κs = search needs
@@ -26,4 +26,4 @@ returns-2 : tie.Need-returns-2
 returns-2 c = search frame-known
 
 pub tusselgro-write-frame-spec : {M : Type 1} → statement M
-tusselgro-write-frame-spec = tie.close (tie.spec is-known-requires refused-requires returns stands-for-requires write-frame-requires same-length returns-2)
+tusselgro-write-frame-spec = tie.close (tie.spec is-known-requires refused-requires returns record-meant-requires write-frame-requires same-length returns-2)

@@ -13,8 +13,8 @@ refused-requires c κs = search needs
 returns : tie.Need-returns
 returns c = search text-unknown
 
-stands-for-requires : tie.Need-stands-for-requires
-stands-for-requires c κs = search needs
+record-meant-requires : tie.Need-record-meant-requires
+record-meant-requires c κs = search needs
 
 write-text-requires : tie.Need-write-text-requires
 write-text-requires c κs = search needs
@@ -26,4 +26,4 @@ returns-2 : tie.Need-returns-2
 returns-2 c = search text-known
 
 pub tusselgro-write-text-spec : {M : Type 1} → statement M
-tusselgro-write-text-spec = tie.close (tie.spec is-known-requires refused-requires returns stands-for-requires write-text-requires same-length returns-2)
+tusselgro-write-text-spec = tie.close (tie.spec is-known-requires refused-requires returns record-meant-requires write-text-requires same-length returns-2)
