@@ -1,5 +1,6 @@
 pub mod Numbers
 pub mod Records
 pub mod Writing
+pub mod Parts
 pub mod Theorems
 pub mod Unique

@@ -173,8 +173,10 @@ bool any_fault(void) { return faults > 0; }
 static void check_all(void) {
     check_reading();
     check_writing();
+    check_parts();
     check_listing();
     check_bounds();
+    check_meanings();
     for (int refusal = 0; refusal <= 16; refusal++) {
         if (!met[refusal]) printf("refusal %d was never met\n", refusal);
         HOLDS(met[refusal]);

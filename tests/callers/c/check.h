@@ -44,8 +44,10 @@ bool is_blank(const tusselgro_record *record);
 
 void check_reading(void);
 void check_writing(void);
+void check_parts(void);
 void check_listing(void);
 void check_bounds(void);
+void check_meanings(void);
 
 /* Random calls for so many seconds, from a turn on; for 0 seconds that turn alone. Stops at the first fault. */
 void check_random(uint64_t seed, uint64_t first, unsigned seconds);

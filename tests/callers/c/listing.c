@@ -1,4 +1,4 @@
-/* Fields listed, bounds and boxes: document 01's values. */
+/* Fields listed, bounds and boxes: document 01's values. What a refusal means, in words. */
 #include "check.h"
 
 #include <string.h>
@@ -86,4 +86,13 @@ void check_bounds(void) {
     bounds = tusselgro_longitude_bounds(0, 6);
     REFUSED(bounds, 15);
     HOLDS(is_none(bounds, tusselgro_longitude_box(INT32_MIN, 255)));
+}
+
+/* tests/refusals holds each of the words to docs/refusals.txt. */
+void check_meanings(void) {
+    HOLDS(strcmp(tusselgro_meaning(TUSSELGRO_DONE), "no refusal") == 0);
+    HOLDS(strcmp(tusselgro_meaning(TUSSELGRO_TOO_MANY_HOPS), "a ninth hop") == 0);
+    HOLDS(strncmp(tusselgro_meaning(TUSSELGRO_NO_ROOM), "output buffer too short", 23) == 0);
+    HOLDS(strcmp(tusselgro_meaning(TUSSELGRO_NO_ROOM + 1), "no such refusal") == 0);
+    HOLDS(strcmp(tusselgro_meaning(255), "no such refusal") == 0);
 }

@@ -1,5 +1,5 @@
 /*
- * Random calls: lines, frames, records and list targets of any content, good ones damaged among them. What is held is what
+ * Random calls: lines, frames, records, parts and list targets of any content, good ones damaged among them. What is held is what
  * every call must keep to: it ends, without a signal, answers within its bounds, and leaves alone what it may not change.
  */
 #include "check.h"
@@ -137,6 +137,112 @@ static void any_write(void) {
     write_lent(one_in(2) ? tusselgro_write_frame : tusselgro_write_text, record, comment, size, below(MOST));
 }
 
+/* ---- the parts of a packet: what is read of one can be written, and reads as the same again */
+
+static const char *const parts[] = {
+    "N0CALL-01*", "\x9c\x60\x86\x82\x98\x98\xe3", "4903.50N", "07201.75W", "4903.50N/07201.75W-Test", "S32U6T", "(_fn\"Oj/",
+};
+
+static void callsign_again(const uint8_t *bytes, size_t size) {
+    tusselgro_callsign_read r = tusselgro_read_callsign(bytes, size);
+    HOLDS(r.refusal == 0 || r.refusal == 3 || r.refusal == 4);
+    if (r.refusal != 0) return;
+    uint8_t out[17];
+    tusselgro_answer answer = tusselgro_write_callsign(r.call, r.starred, out, sizeof out);
+    tusselgro_callsign_read again = tusselgro_read_callsign(out, answer.reported);
+    HOLDS(answer.refusal == 0 && again.refusal == 0 && again.starred == r.starred);
+    HOLDS(memcmp(&again.call, &r.call, sizeof r.call) == 0);
+}
+
+static void address_again(const uint8_t *bytes, size_t size) {
+    tusselgro_address_read r = tusselgro_read_address(bytes, size);
+    HOLDS(r.refusal == 0 || r.refusal == 3);
+    if (r.refusal != 0) return;
+    uint8_t field = r.heard ? TUSSELGRO_HEARD_HOP : TUSSELGRO_HOP;
+    tusselgro_address written = tusselgro_write_address(r.call, field, r.last);
+    tusselgro_address_read again = tusselgro_read_address(written.bytes, 7);
+    HOLDS(written.refusal == 0 && again.refusal == 0 && again.heard == r.heard && again.last == r.last);
+    HOLDS(memcmp(&again.call, &r.call, sizeof r.call) == 0);
+}
+
+static void latitude_again(const uint8_t *bytes, size_t size) {
+    tusselgro_latitude_read r = tusselgro_read_latitude(bytes, size);
+    HOLDS(r.refusal == 0 || r.refusal == 8);
+    if (r.refusal != 0) return;
+    uint8_t out[8];
+    HOLDS(tusselgro_write_latitude(r.latitude, r.blanks, out, 8).refusal == 0);
+    tusselgro_latitude_read again = tusselgro_read_latitude(out, 8);
+    HOLDS(again.refusal == 0 && again.latitude == r.latitude && again.blanks == r.blanks);
+}
+
+static void longitude_again(const uint8_t *bytes, size_t size) {
+    uint8_t blanks = (uint8_t)below(7), out[9];
+    tusselgro_longitude_read r = tusselgro_read_longitude(bytes, size, blanks);
+    HOLDS(blanks > 5 ? r.refusal == 15 : r.refusal == 0 || r.refusal == 9);
+    if (r.refusal != 0) return;
+    HOLDS(tusselgro_write_longitude(r.longitude, out, 9).refusal == 0);
+    tusselgro_longitude_read again = tusselgro_read_longitude(out, 9, blanks);
+    HOLDS(again.refusal == 0 && again.longitude == r.longitude);
+}
+
+static void position_again(const uint8_t *bytes, size_t size) {
+    tusselgro_position_read r = tusselgro_read_position(bytes, size);
+    HOLDS(r.refusal == 0 || (r.refusal >= 7 && r.refusal <= 10));
+    if (r.refusal != 0) return;
+    uint8_t out[19];
+    tusselgro_answer answer = tusselgro_write_position(r.place, out, 19);
+    if (r.place.table >= 128 || r.place.code >= 128) {
+        HOLDS(answer.refusal == 15);
+        return;
+    }
+    tusselgro_place again = tusselgro_read_position(out, 19).place;
+    HOLDS(again.latitude == r.place.latitude && again.longitude == r.place.longitude);
+    HOLDS(again.blanks == r.place.blanks && again.table == r.place.table && again.code == r.place.code);
+}
+
+static void destination_again(const uint8_t *bytes, size_t size) {
+    tusselgro_destination_read r = tusselgro_read_destination(bytes, size);
+    HOLDS(r.refusal == 0 || r.refusal == 11);
+    if (r.refusal != 0) return;
+    tusselgro_destination written = tusselgro_write_destination(r.latitude, r.blanks, r.message, r.west ? -1 : 1);
+    tusselgro_destination_read again = tusselgro_read_destination(written.bytes, 6);
+    HOLDS(written.refusal == 0 && again.refusal == 0 && again.latitude == r.latitude);
+    HOLDS(again.message == r.message && again.blanks == r.blanks && again.west == r.west);
+}
+
+static void information_again(const uint8_t *bytes, size_t size) {
+    tusselgro_information_read r = tusselgro_read_information(bytes, size, one_in(2), one_in(2));
+    tusselgro_information i = r.information;
+    HOLDS(r.refusal == 0 || r.refusal == 12);
+    if (r.refusal != 0) return;
+    uint8_t out[8];
+    tusselgro_answer answer = tusselgro_write_information(i, out, 8);
+    tusselgro_destination to = tusselgro_write_destination(0, 0, 0, i.longitude);
+    if (i.longitude == 1080000 || i.longitude == -1080000) {
+        HOLDS(answer.refusal == 15 && to.refusal == 15);
+        return;
+    }
+    tusselgro_destination_read d = tusselgro_read_destination(to.bytes, 6);
+    tusselgro_information again = tusselgro_read_information(out, 8, d.hundred, d.west).information;
+    HOLDS(again.longitude == i.longitude && again.speed == i.speed && again.course == i.course);
+    HOLDS(again.code == i.code && again.table == i.table);
+}
+
+static void any_part(void) {
+    static void (*const again[])(const uint8_t *, size_t) = {
+        callsign_again, address_again, latitude_again, longitude_again, position_again, destination_again, information_again,
+    };
+    uint8_t bytes[MOST + 8];
+    size_t which = below(sizeof parts / sizeof *parts), size = strlen(parts[which]);
+    memcpy(bytes, parts[which], size);
+    size = one_in(8) ? any_bytes(bytes, below(32)) : damaged(bytes, size);
+    const uint8_t *lent = lend_input(bytes, size, one_in(2));
+    again[which](lent, size);
+    HOLDS(input_kept(lent, bytes, size));
+}
+
+/* ---- lists, bounds and boxes */
+
 typedef struct {
     uint32_t speed, course;
     int32_t longitude;
@@ -182,10 +288,11 @@ static void ended(int signal) {
 
 static void one_turn(void) {
     state = seed * 0x100000001b3u + turn;
-    switch (below(8)) {
+    switch (below(10)) {
         case 0: case 1: case 2: any_read(); break;
         case 3: case 4: case 5: any_write(); break;
-        case 6: any_bounds(); break;
+        case 6: case 7: any_part(); break;
+        case 8: any_bounds(); break;
         default: any_list(); break;
     }
 }
