@@ -1,25 +1,83 @@
 // A callsign: the call, and the SSID as it was written.
 
 use crate::ffi;
+use crate::out::to_vec;
+use crate::refusal::Refusal;
+use std::cmp::Ordering;
 use std::fmt;
+use std::str::FromStr;
 
-#[derive(Clone, Copy, Debug, PartialEq, Eq)]
-pub struct Callsign(pub(crate) ffi::Callsign);
+/// A callsign: the call, and the SSID as it was written, `01` as `01`.
+///
+/// ```
+/// use tusselgro::Callsign;
+///
+/// let callsign: Callsign = "N0CALL-01".parse()?;
+/// assert_eq!((callsign.call(), callsign.ssid()), ("N0CALL", Some("01")));
+/// assert_eq!(callsign.to_string(), "N0CALL-01");
+/// assert_ne!(callsign, Callsign::new("N0CALL-1")?);
+/// # Ok::<(), tusselgro::Refusal>(())
+/// ```
+///
+/// It is in the order of its text's bytes, and `Default` is the empty one, which a line may have. Unlike that of
+/// aprs-parser it is `Copy`, has at most 16 bytes of text, and each way to make one may refuse.
+#[derive(Clone, Copy, Default, PartialEq, Eq, Hash)]
+pub struct Callsign(ffi::Callsign);
 
 impl Callsign {
-    /// The bytes of a part; none where the lengths of a record made by hand reach past the text.
-    fn part(&self, from: usize, length: usize) -> &[u8] {
-        let end = from.saturating_add(length);
-        self.0.text.get(from..end).unwrap_or_default()
+    /// A callsign from its text, as in `N0CALL` or `N0CALL-1`. The first dash splits it, an SSID `0` is dropped.
+    ///
+    /// A star behind the text is no part of a callsign and refused; [`decode_textual`](Self::decode_textual) reports
+    /// it. Where aprs-parser answers `None`, this says why.
+    pub fn new(text: impl AsRef<str>) -> Result<Self, Refusal> {
+        match Self::decode_textual(text.as_ref().as_bytes())? {
+            (callsign, false) => Ok(callsign),
+            (_, true) => Err(Refusal::Callsign),
+        }
     }
 
-    /// The call's bytes, which may be none.
-    pub fn call(&self) -> &[u8] {
+    /// A callsign without an SSID; a call with a dash in it is refused.
+    pub fn new_no_ssid(call: impl AsRef<str>) -> Result<Self, Refusal> {
+        Self::new(&call)?.with_call(call.as_ref())
+    }
+
+    /// A callsign of a call and an SSID; `0` is none, and an empty one is refused.
+    pub fn new_with_ssid(call: impl AsRef<str>, ssid: impl AsRef<str>) -> Result<Self, Refusal> {
+        let call = call.as_ref();
+        Self::new(format!("{call}-{}", ssid.as_ref()))?.with_call(call)
+    }
+
+    /// Itself, if this is its call.
+    fn with_call(self, call: &str) -> Result<Self, Refusal> {
+        if self.call() == call {
+            Ok(self)
+        } else {
+            Err(Refusal::Callsign)
+        }
+    }
+
+    /// Reads a callsign's text; whether a star followed it, which a heard hop has.
+    pub fn decode_textual(text: &[u8]) -> Result<(Self, bool), Refusal> {
+        // SAFETY: the pointer and the length are those of one slice.
+        let read = unsafe { ffi::tusselgro_read_callsign(text.as_ptr(), text.len()) };
+        Refusal::check(read.refusal).map(|()| (Callsign(read.call), read.starred))
+    }
+
+    /// Appends the text, and a star where `heard`.
+    pub fn encode_textual(&self, heard: bool, out: &mut Vec<u8>) -> Result<(), Refusal> {
+        // SAFETY: the pointer and the length are those of one slice that is lent to nobody else.
+        to_vec(out, |at, length| unsafe {
+            ffi::tusselgro_write_callsign(self.0, heard, at, length)
+        })
+    }
+
+    /// The call, which may be empty.
+    pub fn call(&self) -> &str {
         self.part(0, self.0.call_len)
     }
 
-    /// The SSID's bytes without the dash; `01` stays `01`.
-    pub fn ssid(&self) -> Option<&[u8]> {
+    /// The SSID without its dash.
+    pub fn ssid(&self) -> Option<&str> {
         match self.0.ssid_len {
             0 => None,
             length => Some(self.part(self.0.call_len.saturating_add(1), length)),
@@ -27,56 +85,198 @@ impl Callsign {
     }
 
     /// Call, dash and SSID.
-    pub fn text(&self) -> &[u8] {
+    pub fn as_str(&self) -> &str {
         let tail = match self.0.ssid_len {
             0 => 0,
             length => length.saturating_add(1),
         };
         self.part(0, self.0.call_len.saturating_add(tail))
     }
+
+    /// A part of the text; nothing where the record of it is not in range, whatever it holds.
+    fn part(&self, from: usize, length: usize) -> &str {
+        let end = from.saturating_add(length);
+        let bytes = self.0.text.get(from..end).unwrap_or_default();
+        std::str::from_utf8(bytes).unwrap_or_default()
+    }
+
+    pub(crate) fn of(raw: ffi::Callsign) -> Self {
+        Callsign(raw)
+    }
+
+    pub(crate) fn raw(&self) -> ffi::Callsign {
+        self.0
+    }
 }
 
+impl FromStr for Callsign {
+    type Err = Refusal;
+
+    fn from_str(text: &str) -> Result<Self, Refusal> {
+        Self::new(text)
+    }
+}
+
+impl TryFrom<&str> for Callsign {
+    type Error = Refusal;
+
+    fn try_from(text: &str) -> Result<Self, Refusal> {
+        Self::new(text)
+    }
+}
+
+/// Call, dash and SSID, its zeros kept.
 impl fmt::Display for Callsign {
     fn fmt(&self, f: &mut fmt::Formatter<'_>) -> fmt::Result {
-        f.write_str(&String::from_utf8_lossy(self.text()))
+        f.pad(self.as_str())
+    }
+}
+
+impl fmt::Debug for Callsign {
+    fn fmt(&self, f: &mut fmt::Formatter<'_>) -> fmt::Result {
+        f.debug_tuple("Callsign").field(&self.as_str()).finish()
+    }
+}
+
+/// By the bytes of the text; of two that print the same, the one with the shorter call comes first.
+impl Ord for Callsign {
+    fn cmp(&self, other: &Self) -> Ordering {
+        let key = |callsign: &Callsign| (callsign.0.text, callsign.0.call_len, callsign.0.ssid_len);
+        key(self).cmp(&key(other))
+    }
+}
+
+impl PartialOrd for Callsign {
+    fn partial_cmp(&self, other: &Self) -> Option<Ordering> {
+        Some(self.cmp(other))
     }
 }
 
 #[cfg(test)]
 mod tests {
     use super::*;
+    use std::collections::HashSet;
 
-    fn made(text: &[u8], call_len: usize, ssid_len: usize) -> Callsign {
-        let mut raw = ffi::Callsign {
-            call_len,
-            ssid_len,
-            ..Default::default()
-        };
-        raw.text[..text.len()].copy_from_slice(text);
-        Callsign(raw)
+    fn new(text: &str) -> Callsign {
+        Callsign::new(text).unwrap()
     }
 
     #[test]
     fn an_ssid_keeps_its_zeros() {
-        let callsign = made(b"N0CALL-01", 6, 2);
-        assert_eq!(
-            (callsign.call(), callsign.ssid()),
-            (&b"N0CALL"[..], Some(&b"01"[..]))
-        );
+        let callsign = new("N0CALL-01");
+        assert_eq!(callsign.call(), "N0CALL");
+        assert_eq!(callsign.ssid(), Some("01"));
         assert_eq!(callsign.to_string(), "N0CALL-01");
+        assert_eq!(format!("{callsign:?}"), "Callsign(\"N0CALL-01\")");
+        assert_eq!(new("A-00").ssid(), Some("00"));
     }
 
     #[test]
     fn without_an_ssid_there_is_no_dash() {
-        let callsign = made(b"APRS", 4, 0);
-        assert_eq!((callsign.text(), callsign.ssid()), (&b"APRS"[..], None));
-        assert_eq!(made(b"", 0, 0).text(), b"");
+        for text in ["APRS", "APRS-0"] {
+            assert_eq!((new(text).as_str(), new(text).ssid()), ("APRS", None));
+        }
+        assert_eq!(new(""), Callsign::default());
+        assert_eq!(new("").to_string(), "");
     }
 
     #[test]
-    fn wild_lengths_give_no_bytes() {
-        let callsign = made(b"APRS", usize::MAX, usize::MAX);
-        assert_eq!((callsign.text(), callsign.call()), (&b""[..], &b""[..]));
-        assert_eq!(callsign.ssid(), Some(&b""[..]));
+    fn two_parts_make_what_one_text_makes() {
+        assert_eq!(
+            Callsign::new_with_ssid("N0CALL", "01"),
+            Ok(new("N0CALL-01"))
+        );
+        assert_eq!(Callsign::new_with_ssid("APRS", "0"), Ok(new("APRS")));
+        assert_eq!(Callsign::new_no_ssid("APRS"), Ok(new("APRS")));
+        assert_eq!(Callsign::new_with_ssid("A", "B-C"), Ok(new("A-B-C")));
+    }
+
+    #[test]
+    fn what_is_no_callsign_is_refused() {
+        for text in ["A-", "-1", "-", "A*", "A-1*", "-*"] {
+            assert_eq!(text.parse::<Callsign>(), Err(Refusal::Callsign), "{text}");
+        }
+        let long = Err(Refusal::CallsignTooLong);
+        assert_eq!(Callsign::new("ABCDEFGHIJKLMNO-0"), long);
+        assert_eq!(Callsign::new_with_ssid("ABCDEFGHIJKLMNO", "1"), long);
+        assert_eq!(Callsign::new_no_ssid("ABCDEFGHIJKLMNOPQ"), long);
+        assert!(Callsign::new_no_ssid("ABCDEFGHIJKLMNOP").is_ok());
+        for refused in [
+            Callsign::new_no_ssid("A-1"),
+            Callsign::new_no_ssid("A-0"),
+            Callsign::new_with_ssid("A-B", "1"),
+            Callsign::new_with_ssid("A", ""),
+            Callsign::new_with_ssid("", "1"),
+            Callsign::new_with_ssid("A", "1*"),
+        ] {
+            assert_eq!(refused, Err(Refusal::Callsign));
+        }
+    }
+
+    #[test]
+    fn the_star_of_a_text_is_reported() {
+        assert_eq!(
+            Callsign::decode_textual(b"WIDE2-2*"),
+            Ok((new("WIDE2-2"), true))
+        );
+        assert_eq!(Callsign::decode_textual(b"K1A"), Ok((new("K1A"), false)));
+        assert_eq!(Callsign::decode_textual(b"\xff"), Err(Refusal::Callsign));
+    }
+
+    #[test]
+    fn a_text_goes_behind_what_is_there() {
+        let mut out = b"A>B,".to_vec();
+        new("WIDE2-2").encode_textual(true, &mut out).unwrap();
+        new("K1A").encode_textual(false, &mut out).unwrap();
+        assert_eq!(out, b"A>B,WIDE2-2*K1A");
+    }
+
+    #[test]
+    fn characters_of_many_bytes_are_kept_whole() {
+        let callsign = new("\u{d8}-\u{20ac}");
+        assert_eq!(
+            (callsign.call(), callsign.ssid()),
+            ("\u{d8}", Some("\u{20ac}"))
+        );
+    }
+
+    #[test]
+    fn the_order_is_that_of_the_text() {
+        let mut some = ["B", "A-2", "A-10", "A", "A-01", "", "A-1"].map(new);
+        some.sort();
+        assert_eq!(some, ["", "A", "A-01", "A-1", "A-10", "A-2", "B"].map(new));
+        assert_eq!(some.iter().collect::<HashSet<_>>().len(), 7);
+    }
+
+    #[test]
+    fn a_column_is_as_wide_as_it_is_asked_to_be() {
+        assert_eq!(
+            format!("{:<7}|{:>5}|", new("K1A"), new("B")),
+            "K1A    |    B|"
+        );
+    }
+
+    #[test]
+    fn a_record_out_of_range_has_no_text() {
+        let made = |text: u8, call_len, ssid_len| {
+            let text = [text; 16];
+            Callsign(ffi::Callsign {
+                text,
+                call_len,
+                ssid_len,
+            })
+        };
+        for wild in [made(b'A', usize::MAX, usize::MAX), made(0xff, 4, 2)] {
+            assert_eq!(
+                (wild.as_str(), wild.call(), wild.ssid()),
+                ("", "", Some(""))
+            );
+            let mut out = vec![7];
+            assert_eq!(
+                wild.encode_textual(false, &mut out),
+                Err(Refusal::OutOfRange)
+            );
+            assert_eq!(out, [7]);
+        }
     }
 }

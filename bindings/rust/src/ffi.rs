@@ -1,88 +1,335 @@
-// The C functions and records of include/tusselgro.h as Rust sees them. Field by field the same; nothing is safe here.
+//! The C functions and records of `include/tusselgro.h` as Rust sees them, field by field the same. The rest of this crate
+//! stands on them and asks for no `unsafe`; what each function does and refuses, the header says.
 
+/// The kind of a record that is neither a position nor a Mic-E report.
 pub const UNKNOWN: u8 = 0;
+/// The kind of a position.
 pub const POSITION: u8 = 1;
+/// The kind of a Mic-E report.
 pub const MIC_E: u8 = 2;
 
-pub const MOST_HOPS: usize = 8;
+/// The field of an address: where a frame goes to.
+pub const DESTINATION: u8 = 0;
+/// The field of an address: where a frame comes from.
+pub const SOURCE: u8 = 1;
+/// The field of an address: a hop that was not heard.
+pub const HOP: u8 = 2;
+/// The field of an address: a hop that was heard.
+pub const HEARD_HOP: u8 = 3;
 
+/// No line and no frame is longer.
+pub const MOST_BYTES: usize = 512;
+/// No path has more hops.
+pub const MOST_HOPS: usize = 8;
+/// No callsign's text is longer.
+pub const MOST_CALLSIGN: usize = 16;
+
+/// A callsign as it is written.
 #[repr(C)]
-#[derive(Clone, Copy, Debug, Default, PartialEq, Eq)]
+#[derive(Clone, Copy, Debug, Default, PartialEq, Eq, Hash)]
 pub struct Callsign {
-    pub text: [u8; 16],
+    /// Call, dash and SSID; the rest is 0.
+    pub text: [u8; MOST_CALLSIGN],
+    /// The bytes of the call.
     pub call_len: usize,
+    /// The bytes of the SSID; 0 for none, and then there is no dash.
     pub ssid_len: usize,
 }
 
+/// A hop of a path.
 #[repr(C)]
 #[derive(Clone, Copy, Debug, Default, PartialEq, Eq)]
 pub struct Hop {
+    /// Its callsign.
     pub call: Callsign,
+    /// Whether it was heard.
     pub heard: bool,
 }
 
+/// The hops in their order.
 #[repr(C)]
 #[derive(Clone, Copy, Debug, Default, PartialEq, Eq)]
 pub struct Path {
+    /// Those past `count` are 0.
     pub hops: [Hop; MOST_HOPS],
+    /// How many there are.
     pub count: usize,
 }
 
+/// Source, destination and path.
 #[repr(C)]
 #[derive(Clone, Copy, Debug, Default, PartialEq, Eq)]
-pub struct Record {
-    pub kind: u8,
-    pub messaging: bool,
-    pub current: bool,
-    pub message: u8,
-    pub blanks: u8,
-    pub table: u8,
-    pub code: u8,
-    pub latitude: i32,
-    pub longitude: i32,
-    pub speed: u32,
-    pub course: u32,
-    pub comment_at: usize,
-    pub comment_len: usize,
+pub struct Header {
+    /// The source.
     pub from: Callsign,
+    /// The destination; 0 in a Mic-E record.
     pub to: Callsign,
+    /// The hops.
     pub path: Path,
 }
 
+/// Where something is, in signed hundredths of a minute, north and east positive.
+#[repr(C)]
+#[derive(Clone, Copy, Debug, Default, PartialEq, Eq)]
+pub struct Place {
+    /// At most 540000 in size.
+    pub latitude: i32,
+    /// At most 1080000 in size.
+    pub longitude: i32,
+    /// The last digits of the latitude that are blank, 0 to 5.
+    pub blanks: u8,
+    /// The symbol's table.
+    pub table: u8,
+    /// The symbol's code.
+    pub code: u8,
+}
+
+/// What only a Mic-E report has.
+#[repr(C)]
+#[derive(Clone, Copy, Debug, Default, PartialEq, Eq)]
+pub struct Report {
+    /// Knots, at most 799.
+    pub speed: u32,
+    /// Degrees, at most 360.
+    pub course: u32,
+    /// The message's number, 0 to 15.
+    pub message: u8,
+    /// Whether the report is current, not old.
+    pub current: bool,
+}
+
+/// The place of a comment in the bytes that were read; writers ignore it.
+#[repr(C)]
+#[derive(Clone, Copy, Debug, Default, PartialEq, Eq)]
+pub struct Comment {
+    /// Where it starts.
+    pub at: usize,
+    /// Its bytes.
+    pub len: usize,
+}
+
+/// What a packet says.
+#[repr(C)]
+#[derive(Clone, Copy, Debug, Default, PartialEq, Eq)]
+pub struct Body {
+    /// Of a position and of a Mic-E report.
+    pub place: Place,
+    /// Of a Mic-E report.
+    pub report: Report,
+    /// Of a position and of a Mic-E report.
+    pub comment: Comment,
+    /// Of a position: that it starts `=`.
+    pub messaging: bool,
+    /// [`UNKNOWN`], [`POSITION`] or [`MIC_E`].
+    pub kind: u8,
+}
+
+/// A packet; what its kind lacks is 0.
+#[repr(C)]
+#[derive(Clone, Copy, Debug, Default, PartialEq, Eq)]
+pub struct Record {
+    /// Source, destination and path.
+    pub header: Header,
+    /// What it says.
+    pub body: Body,
+}
+
+/// A packet as it was read.
 #[repr(C)]
 #[derive(Clone, Copy, Debug, PartialEq, Eq)]
 pub struct Read {
-    pub refusal: u8,
+    /// The packet; blank at a refusal.
     pub record: Record,
+    /// The refusal's number, or 0.
+    pub refusal: u8,
 }
 
+/// What a writer or a lister answers.
 #[repr(C)]
 #[derive(Clone, Copy, Debug, PartialEq, Eq)]
 pub struct Answer {
+    /// The refusal's number, or 0.
     pub refusal: u8,
+    /// The bytes written, or the fields listed.
     pub reported: usize,
+    /// The bytes that the buffer must have, at refusal 16.
     pub needed: usize,
 }
 
+/// A callsign's text as it was read.
+#[repr(C)]
+#[derive(Clone, Copy, Debug, PartialEq, Eq)]
+pub struct CallsignRead {
+    /// The callsign.
+    pub call: Callsign,
+    /// Whether a star followed it.
+    pub starred: bool,
+    /// Whether its SSID was a lone `0`, which is dropped.
+    pub zero: bool,
+    /// The refusal's number, or 0.
+    pub refusal: u8,
+}
+
+/// An AX.25 address as it was read.
+#[repr(C)]
+#[derive(Clone, Copy, Debug, PartialEq, Eq)]
+pub struct AddressRead {
+    /// The callsign.
+    pub call: Callsign,
+    /// Whether bit 7 of the seventh byte is set.
+    pub heard: bool,
+    /// Whether it is the last address.
+    pub last: bool,
+    /// The refusal's number, or 0.
+    pub refusal: u8,
+}
+
+/// An AX.25 address to be sent.
+#[repr(C)]
+#[derive(Clone, Copy, Debug, PartialEq, Eq)]
+pub struct Address {
+    /// The address; 0 at a refusal.
+    pub bytes: [u8; 7],
+    /// The refusal's number, or 0.
+    pub refusal: u8,
+}
+
+/// A latitude's text as it was read.
+#[repr(C)]
+#[derive(Clone, Copy, Debug, PartialEq, Eq)]
+pub struct LatitudeRead {
+    /// The angle.
+    pub latitude: i32,
+    /// The last digits that are blank.
+    pub blanks: u8,
+    /// Whether the letter is S, also at 0.
+    pub south: bool,
+    /// Whether the minutes are 60 or more.
+    pub sixty: bool,
+    /// The refusal's number, or 0.
+    pub refusal: u8,
+}
+
+/// A longitude's text as it was read.
+#[repr(C)]
+#[derive(Clone, Copy, Debug, PartialEq, Eq)]
+pub struct LongitudeRead {
+    /// The angle.
+    pub longitude: i32,
+    /// Whether the letter is W, also at 0.
+    pub west: bool,
+    /// Whether the minutes are 60 or more.
+    pub sixty: bool,
+    /// The refusal's number, or 0.
+    pub refusal: u8,
+}
+
+/// A position as it was read.
+#[repr(C)]
+#[derive(Clone, Copy, Debug, PartialEq, Eq)]
+pub struct PositionRead {
+    /// Where it is.
+    pub place: Place,
+    /// Whether the latitude's letter is S, also at 0.
+    pub south: bool,
+    /// Whether the longitude's letter is W, also at 0.
+    pub west: bool,
+    /// Whether the latitude's minutes are 60 or more.
+    pub latitude_sixty: bool,
+    /// Whether the longitude's minutes are 60 or more.
+    pub longitude_sixty: bool,
+    /// The refusal's number, or 0.
+    pub refusal: u8,
+}
+
+/// A Mic-E destination as it was read.
+#[repr(C)]
+#[derive(Clone, Copy, Debug, PartialEq, Eq)]
+pub struct DestinationRead {
+    /// The latitude.
+    pub latitude: i32,
+    /// The message's number.
+    pub message: u8,
+    /// The last digits of the latitude that are blank.
+    pub blanks: u8,
+    /// Whether the latitude is south, also at 0.
+    pub south: bool,
+    /// Whether the longitude's offset is 100.
+    pub hundred: bool,
+    /// Whether the longitude is west.
+    pub west: bool,
+    /// Whether the latitude's minutes are 60 or more.
+    pub sixty: bool,
+    /// The refusal's number, or 0.
+    pub refusal: u8,
+}
+
+/// The characters of a Mic-E destination.
+#[repr(C)]
+#[derive(Clone, Copy, Debug, PartialEq, Eq)]
+pub struct Destination {
+    /// The characters; 0 at a refusal.
+    pub bytes: [u8; 6],
+    /// The refusal's number, or 0.
+    pub refusal: u8,
+}
+
+/// What the information of a Mic-E report says.
+#[repr(C)]
+#[derive(Clone, Copy, Debug, PartialEq, Eq)]
+pub struct Information {
+    /// The longitude; to be written, short of 1080000 on either side.
+    pub longitude: i32,
+    /// Knots, at most 799.
+    pub speed: u32,
+    /// Degrees, at most 360.
+    pub course: u32,
+    /// The symbol's code.
+    pub code: u8,
+    /// The symbol's table.
+    pub table: u8,
+}
+
+/// The information of a Mic-E report as it was read.
+#[repr(C)]
+#[derive(Clone, Copy, Debug, PartialEq, Eq)]
+pub struct InformationRead {
+    /// What it says; 0 at a refusal.
+    pub information: Information,
+    /// The refusal's number, or 0.
+    pub refusal: u8,
+}
+
+/// The bounds of an angle in degrees.
 #[repr(C)]
 #[derive(Clone, Copy, Debug, PartialEq)]
 pub struct Bounds {
+    /// The refusal's number, or 0.
     pub refusal: u8,
+    /// The lower bound.
     pub lower: f64,
+    /// The upper bound.
     pub upper: f64,
 }
 
+/// The page's box of an angle in half hundredths of a minute.
 #[repr(C)]
 #[derive(Clone, Copy, Debug, PartialEq, Eq)]
 pub struct PageBox {
+    /// The refusal's number, or 0.
     pub refusal: u8,
+    /// The lower side.
     pub lower: i32,
+    /// The upper side.
     pub upper: i32,
 }
 
 extern "C" {
+    /// Reads a line of text.
     pub fn tusselgro_read_text(line: *const u8, line_len: usize) -> Read;
+    /// Reads an AX.25 frame.
     pub fn tusselgro_read_frame(frame: *const u8, frame_len: usize) -> Read;
+    /// Writes a record as a line of text.
     pub fn tusselgro_write_text(
         record: Record,
         comment: *const u8,
@@ -90,6 +337,7 @@ extern "C" {
         out: *mut u8,
         out_len: usize,
     ) -> Answer;
+    /// Writes a record as an AX.25 frame.
     pub fn tusselgro_write_frame(
         record: Record,
         comment: *const u8,
@@ -97,7 +345,63 @@ extern "C" {
         out: *mut u8,
         out_len: usize,
     ) -> Answer;
+
+    /// Reads a callsign's text.
+    pub fn tusselgro_read_callsign(text: *const u8, text_len: usize) -> CallsignRead;
+    /// Writes a callsign as text.
+    pub fn tusselgro_write_callsign(
+        call: Callsign,
+        starred: bool,
+        out: *mut u8,
+        out_len: usize,
+    ) -> Answer;
+    /// Reads an AX.25 address.
+    pub fn tusselgro_read_address(address: *const u8, address_len: usize) -> AddressRead;
+    /// Writes an AX.25 address.
+    pub fn tusselgro_write_address(call: Callsign, field: u8, last: bool) -> Address;
+    /// Reads a latitude's text.
+    pub fn tusselgro_read_latitude(text: *const u8, text_len: usize) -> LatitudeRead;
+    /// Reads a longitude's text.
+    pub fn tusselgro_read_longitude(text: *const u8, text_len: usize, blanks: u8) -> LongitudeRead;
+    /// Writes a latitude as text.
+    pub fn tusselgro_write_latitude(
+        latitude: i32,
+        blanks: u8,
+        out: *mut u8,
+        out_len: usize,
+    ) -> Answer;
+    /// Writes a longitude as text.
+    pub fn tusselgro_write_longitude(longitude: i32, out: *mut u8, out_len: usize) -> Answer;
+    /// Reads a position behind its type byte.
+    pub fn tusselgro_read_position(text: *const u8, text_len: usize) -> PositionRead;
+    /// Writes a position's 19 bytes.
+    pub fn tusselgro_write_position(place: Place, out: *mut u8, out_len: usize) -> Answer;
+    /// Reads the characters of a Mic-E destination.
+    pub fn tusselgro_read_destination(call: *const u8, call_len: usize) -> DestinationRead;
+    /// Writes the characters of a Mic-E destination.
+    pub fn tusselgro_write_destination(
+        latitude: i32,
+        blanks: u8,
+        message: u8,
+        longitude: i32,
+    ) -> Destination;
+    /// Reads the information of a Mic-E report behind its type byte.
+    pub fn tusselgro_read_information(
+        bytes: *const u8,
+        bytes_len: usize,
+        hundred: bool,
+        west: bool,
+    ) -> InformationRead;
+    /// Writes the eight bytes of information of a Mic-E report.
+    pub fn tusselgro_write_information(
+        information: Information,
+        out: *mut u8,
+        out_len: usize,
+    ) -> Answer;
+
+    /// Lists every Mic-E field that means a speed and a course.
     pub fn tusselgro_list_motion(speed: u32, course: u32, out: *mut u8, out_len: usize) -> Answer;
+    /// Lists every Mic-E field that means a longitude.
     pub fn tusselgro_list_longitude(
         longitude: i32,
         hundred: bool,
@@ -105,9 +409,14 @@ extern "C" {
         out: *mut u8,
         out_len: usize,
     ) -> Answer;
+
+    /// The bounds of a latitude in degrees.
     pub fn tusselgro_latitude_bounds(latitude: i32, blanks: u8) -> Bounds;
+    /// The bounds of a longitude in degrees.
     pub fn tusselgro_longitude_bounds(longitude: i32, blanks: u8) -> Bounds;
+    /// The page's box of a latitude.
     pub fn tusselgro_latitude_box(latitude: i32, blanks: u8) -> PageBox;
+    /// The page's box of a longitude.
     pub fn tusselgro_longitude_box(longitude: i32, blanks: u8) -> PageBox;
 }
 
@@ -119,8 +428,28 @@ mod tests {
     #[test]
     fn records_have_the_sizes_that_the_header_states() {
         assert_eq!((size_of::<Callsign>(), size_of::<Hop>()), (32, 40));
-        assert_eq!((size_of::<Path>(), size_of::<Record>()), (328, 432));
-        assert_eq!((size_of::<Read>(), size_of::<Answer>()), (440, 24));
-        assert_eq!((size_of::<Bounds>(), size_of::<PageBox>()), (24, 12));
+        assert_eq!((size_of::<Path>(), size_of::<Header>()), (328, 392));
+        assert_eq!((size_of::<Place>(), size_of::<Report>()), (12, 12));
+        assert_eq!((size_of::<Comment>(), size_of::<Body>()), (16, 48));
+        assert_eq!((size_of::<Record>(), size_of::<Read>()), (440, 448));
+        assert_eq!((size_of::<Answer>(), size_of::<CallsignRead>()), (24, 40));
+        assert_eq!((size_of::<AddressRead>(), size_of::<Address>()), (40, 8));
+        assert_eq!(
+            (size_of::<LatitudeRead>(), size_of::<LongitudeRead>()),
+            (8, 8)
+        );
+        assert_eq!(
+            (size_of::<PositionRead>(), size_of::<DestinationRead>()),
+            (20, 12)
+        );
+        assert_eq!(
+            (size_of::<Destination>(), size_of::<Information>()),
+            (7, 16)
+        );
+        assert_eq!(
+            (size_of::<InformationRead>(), size_of::<Bounds>()),
+            (20, 24)
+        );
+        assert_eq!(size_of::<PageBox>(), 12);
     }
 }

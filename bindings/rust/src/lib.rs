@@ -1,35 +1,40 @@
-//! Tusselgro for Rust: APRS packets read and written, Mic-E fields listed, the bounds of a position.
-//!
-//! A thin wrapper of the static library, with the names of aprs-parser where they serve. Nothing is allocated: a packet
-//! borrows its comment from the bytes it was read from, and a writer fills a buffer that the caller lends.
-//!
-//! ```no_run
-//! use tusselgro::AprsPacket;
-//!
-//! let packet = AprsPacket::decode_textual(b"N0CALL-01>APRS,WIDE1-1*:!4903.50N/07201.75W-Test")?;
-//! for (hop, heard) in packet.via() {
-//!     println!("{hop} {heard}");
-//! }
-//! let mut out = [0; tusselgro::MOST_BYTES];
-//! let line = packet.encode_textual(&mut out)?;
-//! # let _ = line;
-//! # Ok::<(), tusselgro::Refusal>(())
-//! ```
+#![doc = include_str!("../README.md")]
+#![deny(missing_docs)]
 
+#[cfg(not(all(target_arch = "x86_64", target_os = "linux")))]
+compile_error!("tusselgro's library is built for x86-64 Linux only, so this crate cannot be built for another target");
+
+mod address;
+mod angle;
+mod builder;
 mod callsign;
 pub mod ffi;
 mod fields;
+mod latitude;
+mod longitude;
+pub mod mic_e;
+mod out;
 mod packet;
-mod range;
+mod position;
+mod precision;
+mod record;
 mod refusal;
 #[cfg(test)]
 mod tests;
+mod via;
 
+pub use address::CallsignField;
+pub use builder::PacketBuilder;
 pub use callsign::Callsign;
-pub use fields::{list_longitude, list_motion, Field, Side};
-pub use packet::{AprsData, AprsMicE, AprsPacket, AprsPosition, Message, Via};
-pub use range::{latitude_bounding, latitude_box, longitude_bounding, longitude_box};
+pub use ffi::{MOST_BYTES, MOST_HOPS};
+pub use fields::{
+    list_longitude, list_longitude_to_slice, list_motion, list_motion_to_slice, Field,
+};
+pub use latitude::{Latitude, LatitudeRead};
+pub use longitude::{Longitude, LongitudeRead, Side};
+pub use mic_e::AprsMicE;
+pub use packet::{AprsData, AprsPacket};
+pub use position::AprsPosition;
+pub use precision::Precision;
 pub use refusal::Refusal;
-
-/// No line and no frame is longer.
-pub const MOST_BYTES: usize = 512;
+pub use via::{Path, Via};

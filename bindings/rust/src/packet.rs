@@ -2,65 +2,87 @@
 
 use crate::callsign::Callsign;
 use crate::ffi;
+use crate::mic_e::AprsMicE;
+use crate::out::{to_slice, to_vec};
+use crate::position::AprsPosition;
+use crate::record::{packet_of, record_of};
 use crate::refusal::Refusal;
+use crate::via::Path;
 
-/// A packet, and its comment in the bytes that it was read from.
-#[derive(Clone, Copy, Debug, PartialEq, Eq)]
+/// A packet.
+///
+/// The fields are those of aprs-parser. Nothing is allocated: the comment is borrowed from the bytes that were read, so those
+/// must live as long as the packet. [`position`](Self::position) and [`mic_e`](Self::mic_e) build one.
+///
+/// ```
+/// use tusselgro::{AprsData, AprsPacket};
+///
+/// let line = b"N0CALL-01>APRS,WIDE1-1,WIDE2-2*,K1A:!4903.50N/07201.75W-Test";
+/// let packet = AprsPacket::decode_textual(line)?;
+/// assert_eq!(packet.from.to_string(), "N0CALL-01");
+/// if let AprsData::Position(position) = &packet.data {
+///     assert_eq!(position.latitude.to_string(), "4903.50N");
+///     assert_eq!(position.comment, b"Test");
+/// }
+///
+/// let mut out = Vec::new();
+/// packet.encode_textual(&mut out)?;
+/// assert_eq!(out, line);
+/// # Ok::<(), tusselgro::Refusal>(())
+/// ```
+#[derive(Clone, Debug, PartialEq, Eq)]
+#[non_exhaustive]
 pub struct AprsPacket<'a> {
-    record: ffi::Record,
-    comment: &'a [u8],
+    /// The source.
+    pub from: Callsign,
+    /// The hops.
+    pub via: Path,
+    /// What it carries.
+    pub data: AprsData<'a>,
 }
 
-/// What a packet carries beside its addresses.
-#[derive(Clone, Copy, Debug, PartialEq, Eq)]
-pub enum AprsData {
-    Unknown,
-    Position(AprsPosition),
-    MicE(AprsMicE),
+/// What a packet carries. Messages and status, which aprs-parser reads, are refused by name: see
+/// [`Refusal::NotCarried`].
+#[derive(Clone, Copy, Debug, PartialEq, Eq, Hash)]
+#[non_exhaustive]
+pub enum AprsData<'a> {
+    /// A position.
+    Position(AprsPosition<'a>),
+    /// A Mic-E report.
+    MicE(AprsMicE<'a>),
+    /// Anything else, to this destination; it cannot be written.
+    Unknown(Callsign),
 }
 
-/// Angles are hundredths of a minute, north and east positive; `blanks` is how many last digits are blank.
-#[derive(Clone, Copy, Debug, PartialEq, Eq)]
-pub struct AprsPosition {
-    pub messaging_supported: bool,
-    pub latitude: i32,
-    pub longitude: i32,
-    pub blanks: u8,
-    pub symbol_table: u8,
-    pub symbol_code: u8,
-}
-
-/// Speed in knots, course in degrees; the rest as in a position.
-#[derive(Clone, Copy, Debug, PartialEq, Eq)]
-pub struct AprsMicE {
-    pub current: bool,
-    pub message: Message,
-    pub latitude: i32,
-    pub longitude: i32,
-    pub blanks: u8,
-    pub speed: u32,
-    pub course: u32,
-    pub symbol_table: u8,
-    pub symbol_code: u8,
-}
-
-/// A Mic-E message: M0 to M6, C0 to C6, and two more.
-#[derive(Clone, Copy, Debug, PartialEq, Eq)]
-pub enum Message {
-    Standard(u8),
-    Custom(u8),
-    Emergency,
-    Unknown,
-}
-
-impl Message {
-    fn of(number: u8) -> Message {
-        match number {
-            0..=6 => Message::Standard(number),
-            7..=13 => Message::Custom(number - 7),
-            14 => Message::Emergency,
-            _ => Message::Unknown,
+impl<'a> AprsData<'a> {
+    /// The destination; a Mic-E report has none, since those bytes are part of the report.
+    pub fn to(&self) -> Option<&Callsign> {
+        match self {
+            AprsData::Position(position) => Some(&position.to),
+            AprsData::MicE(_) => None,
+            AprsData::Unknown(to) => Some(to),
         }
+    }
+
+    /// The comment; of what is unknown, nothing.
+    pub fn comment(&self) -> &'a [u8] {
+        match self {
+            AprsData::Position(position) => position.comment,
+            AprsData::MicE(report) => report.comment,
+            AprsData::Unknown(_) => b"",
+        }
+    }
+}
+
+impl<'a> From<AprsPosition<'a>> for AprsData<'a> {
+    fn from(position: AprsPosition<'a>) -> Self {
+        AprsData::Position(position)
+    }
+}
+
+impl<'a> From<AprsMicE<'a>> for AprsData<'a> {
+    fn from(report: AprsMicE<'a>) -> Self {
+        AprsData::MicE(report)
     }
 }
 
@@ -69,35 +91,19 @@ type Writer = unsafe extern "C" fn(ffi::Record, *const u8, usize, *mut u8, usize
 
 fn read(reader: Reader, bytes: &[u8]) -> Result<AprsPacket<'_>, Refusal> {
     // SAFETY: the pointer and the length are those of one slice.
-    let ffi::Read { refusal, record } = unsafe { reader(bytes.as_ptr(), bytes.len()) };
-    Refusal::check(refusal)?;
-    let comment = &bytes[record.comment_at..][..record.comment_len];
-    Ok(AprsPacket { record, comment })
-}
-
-fn write<'b>(
-    writer: Writer,
-    packet: &AprsPacket<'_>,
-    out: &'b mut [u8],
-) -> Result<&'b [u8], Refusal> {
-    let AprsPacket { record, comment } = *packet;
-    // SAFETY: each pointer and its length are those of one slice, and `out` is lent to nobody else.
-    let answer = unsafe {
-        writer(
-            record,
-            comment.as_ptr(),
-            comment.len(),
-            out.as_mut_ptr(),
-            out.len(),
-        )
-    };
-    Ok(&out[..Refusal::reported(answer)?])
+    let found = unsafe { reader(bytes.as_ptr(), bytes.len()) };
+    Refusal::check(found.refusal)?;
+    packet_of(&found.record, bytes)
 }
 
 impl<'a> AprsPacket<'a> {
-    /// A packet of a record made by hand; whether it is in range is judged when it is written.
-    pub fn new(record: ffi::Record, comment: &'a [u8]) -> Self {
-        AprsPacket { record, comment }
+    /// A packet of a position or a Mic-E report, without hops.
+    pub fn new(from: Callsign, data: impl Into<AprsData<'a>>) -> Self {
+        AprsPacket {
+            from,
+            via: Path::new(),
+            data: data.into(),
+        }
     }
 
     /// Reads a line of text, without its line end.
@@ -110,94 +116,44 @@ impl<'a> AprsPacket<'a> {
         read(ffi::tusselgro_read_frame, frame)
     }
 
-    /// Writes the packet as a line of text; what was written is returned, and no other byte of `out` is changed.
-    pub fn encode_textual<'b>(&self, out: &'b mut [u8]) -> Result<&'b [u8], Refusal> {
-        write(ffi::tusselgro_write_text, self, out)
+    /// Appends the packet as a line of text, without a line end; at a refusal nothing. The last heard hop gets the star, which
+    /// says that those before it were heard too.
+    pub fn encode_textual(&self, out: &mut Vec<u8>) -> Result<(), Refusal> {
+        to_vec(out, self.by(ffi::tusselgro_write_text))
     }
 
-    /// Writes the packet as an AX.25 frame.
-    pub fn encode_ax25<'b>(&self, out: &'b mut [u8]) -> Result<&'b [u8], Refusal> {
-        write(ffi::tusselgro_write_frame, self, out)
+    /// Appends the packet as an AX.25 frame, without flags and checksum; at a refusal nothing.
+    pub fn encode_ax25(&self, out: &mut Vec<u8>) -> Result<(), Refusal> {
+        to_vec(out, self.by(ffi::tusselgro_write_frame))
     }
 
-    pub fn record(&self) -> &ffi::Record {
-        &self.record
+    /// Writes the packet as a line of text to the front of `out`, and returns what was written; no other byte of `out` is
+    /// changed, and at a refusal none. [`MOST_BYTES`](crate::MOST_BYTES) are enough for any.
+    pub fn encode_textual_to_slice<'b>(&self, out: &'b mut [u8]) -> Result<&'b [u8], Refusal> {
+        to_slice(out, self.by(ffi::tusselgro_write_text))
     }
 
+    /// The same as an AX.25 frame.
+    pub fn encode_ax25_to_slice<'b>(&self, out: &'b mut [u8]) -> Result<&'b [u8], Refusal> {
+        to_slice(out, self.by(ffi::tusselgro_write_frame))
+    }
+
+    /// What puts the packet into a buffer.
+    fn by(&self, writer: Writer) -> impl FnOnce(*mut u8, usize) -> ffi::Answer + '_ {
+        let (record, comment) = (record_of(self), self.comment());
+        move |at, length| {
+            // SAFETY: each pointer and its length are those of one slice, and the buffer is lent to nobody else.
+            unsafe { writer(record, comment.as_ptr(), comment.len(), at, length) }
+        }
+    }
+
+    /// The destination; a Mic-E packet has none.
+    pub fn to(&self) -> Option<&Callsign> {
+        self.data.to()
+    }
+
+    /// The comment, of either kind.
     pub fn comment(&self) -> &'a [u8] {
-        self.comment
-    }
-
-    pub fn from(&self) -> Callsign {
-        Callsign(self.record.from)
-    }
-
-    /// The destination; a Mic-E packet has none, since its bytes are part of the report.
-    pub fn to(&self) -> Option<Callsign> {
-        match self.record.kind {
-            ffi::MIC_E => None,
-            _ => Some(Callsign(self.record.to)),
-        }
-    }
-
-    /// The hops in order, each with whether it was heard.
-    pub fn via(&self) -> Via<'_> {
-        let path = &self.record.path;
-        Via {
-            hops: path.hops[..path.count.min(ffi::MOST_HOPS)].iter(),
-        }
-    }
-
-    pub fn data(&self) -> AprsData {
-        match self.record.kind {
-            ffi::POSITION => AprsData::Position(self.position()),
-            ffi::MIC_E => AprsData::MicE(self.mic_e()),
-            _ => AprsData::Unknown,
-        }
-    }
-
-    fn position(&self) -> AprsPosition {
-        AprsPosition {
-            messaging_supported: self.record.messaging,
-            latitude: self.record.latitude,
-            longitude: self.record.longitude,
-            blanks: self.record.blanks,
-            symbol_table: self.record.table,
-            symbol_code: self.record.code,
-        }
-    }
-
-    fn mic_e(&self) -> AprsMicE {
-        AprsMicE {
-            current: self.record.current,
-            message: Message::of(self.record.message),
-            latitude: self.record.latitude,
-            longitude: self.record.longitude,
-            blanks: self.record.blanks,
-            speed: self.record.speed,
-            course: self.record.course,
-            symbol_table: self.record.table,
-            symbol_code: self.record.code,
-        }
+        self.data.comment()
     }
 }
-
-/// The hops of a packet in order.
-#[derive(Clone, Debug)]
-pub struct Via<'r> {
-    hops: std::slice::Iter<'r, ffi::Hop>,
-}
-
-impl Iterator for Via<'_> {
-    type Item = (Callsign, bool);
-
-    fn next(&mut self) -> Option<Self::Item> {
-        self.hops.next().map(|hop| (Callsign(hop.call), hop.heard))
-    }
-
-    fn size_hint(&self) -> (usize, Option<usize>) {
-        self.hops.size_hint()
-    }
-}
-
-impl ExactSizeIterator for Via<'_> {}

@@ -1,68 +1,92 @@
-// Why something was not done. Each refusal has its number in include/tusselgro.h.
+// Why something was not done. The numbers and the words are those of docs/refusals.txt.
 
 use crate::ffi::Answer;
+use std::convert::Infallible;
 use std::fmt;
 
-#[derive(Clone, Copy, Debug, PartialEq, Eq, Hash)]
-#[non_exhaustive]
-pub enum Refusal {
-    TooLong,
-    Framing,
-    Callsign,
-    CallsignTooLong,
-    TooManyHops,
-    QElement,
-    NotCarried,
-    Latitude,
-    Longitude,
-    PositionTooShort,
-    MicEDestination,
-    MicEInformation,
-    NotAx25,
-    UnknownKind,
-    OutOfRange,
-    /// The output buffer is too short; this many bytes would do.
-    NoRoom {
-        needed: usize,
-    },
-    /// A number that this wrapper has no name for.
-    Other(u8),
+const NO_ROOM: &str = "output buffer too short; the bytes needed are returned";
+const NO_NAME: &str = "a refusal without a name";
+
+/// The enum and its tables from one list; `NoRoom` and `Other` carry a number of their own.
+macro_rules! refusals {
+    ($($number:literal $name:ident $words:literal)*) => {
+        /// Why something was not done: what aprs-parser calls `DecodeError` and `EncodeError`, with the number that the
+        /// printed pages give it.
+        ///
+        /// ```
+        /// use tusselgro::{AprsPacket, Refusal};
+        ///
+        /// let refusal = AprsPacket::decode_textual(b"N0CALL>APRS:>hi").unwrap_err();
+        /// assert_eq!((refusal, refusal.number()), (Refusal::NotCarried, 7));
+        /// assert!(refusal.to_string().starts_with("7: not carried: body starts"));
+        /// ```
+        #[derive(Clone, Copy, Debug, PartialEq, Eq, Hash)]
+        #[non_exhaustive]
+        pub enum Refusal {
+            $(
+                #[doc = concat!(stringify!($number), ": ", $words)]
+                $name,
+            )*
+            /// 16: output buffer too short
+            NoRoom {
+                /// A buffer of this many bytes would do.
+                needed: usize,
+            },
+            /// A number that this wrapper has no name for.
+            Other(u8),
+        }
+
+        impl Refusal {
+            /// Nothing for 0, which means done.
+            pub(crate) fn of(number: u8, needed: usize) -> Option<Refusal> {
+                match number {
+                    0 => None,
+                    $($number => Some(Refusal::$name),)*
+                    16 => Some(Refusal::NoRoom { needed }),
+                    _ => Some(Refusal::Other(number)),
+                }
+            }
+
+            /// Its number, as the pages print it.
+            pub fn number(self) -> u8 {
+                match self {
+                    $(Refusal::$name => $number,)*
+                    Refusal::NoRoom { .. } => 16,
+                    Refusal::Other(number) => number,
+                }
+            }
+
+            /// What it means, without its number.
+            pub fn meaning(self) -> &'static str {
+                match self {
+                    $(Refusal::$name => $words,)*
+                    Refusal::NoRoom { .. } => NO_ROOM,
+                    Refusal::Other(_) => NO_NAME,
+                }
+            }
+        }
+    };
 }
 
-/// In the order of their numbers, from 1; 16 is `NoRoom`.
-const NAMED: [(Refusal, &str); 15] = [
-    (Refusal::TooLong, "input over 512 bytes, or output would be"),
-    (
-        Refusal::Framing,
-        "no `:`; no `>` before the first `:`; frame ends inside an address; destination is marked last; \
-         or control pair wrong",
-    ),
-    (Refusal::Callsign, "a callsign or hop is malformed"),
-    (Refusal::CallsignTooLong, "callsign text over 16 bytes"),
-    (Refusal::TooManyHops, "a ninth hop"),
-    (Refusal::QElement, "a textual hop of three bytes that starts `qA`"),
-    (Refusal::NotCarried, "body starts `:` `>` `/` `@`, or `!` `=` with a compressed position"),
-    (Refusal::Latitude, "latitude"),
-    (Refusal::Longitude, "longitude"),
-    (Refusal::PositionTooShort, "position under 19 bytes after its type byte"),
-    (Refusal::MicEDestination, "Mic-E destination"),
-    (Refusal::MicEInformation, "Mic-E information"),
-    (Refusal::NotAx25, "callsign cannot go into AX.25"),
-    (Refusal::UnknownKind, "record of Unknown kind to be written"),
-    (Refusal::OutOfRange, "record or list target out of range"),
-];
+refusals! {
+    1 TooLong "input over 512 bytes, or output would be"
+    2 Framing "no ':'; no '>' before the first ':'; frame ends inside an address; destination is marked last; control pair wrong"
+    3 Callsign "a callsign or hop is malformed"
+    4 CallsignTooLong "callsign text over 16 bytes"
+    5 TooManyHops "a ninth hop"
+    6 QElement "a Q element: a textual hop of three bytes that starts qA"
+    7 NotCarried "not carried: body starts ':' '>' '/' '@', or '!' '=' with a compressed position"
+    8 Latitude "latitude cannot be read"
+    9 Longitude "longitude cannot be read"
+    10 PositionTooShort "position under 19 bytes after its type byte"
+    11 MicEDestination "Mic-E destination cannot be read"
+    12 MicEInformation "Mic-E information cannot be read"
+    13 NotAx25 "callsign cannot go into AX.25"
+    14 UnknownKind "record of Unknown kind to be written"
+    15 OutOfRange "record, angle, blanks or list target out of range"
+}
 
 impl Refusal {
-    /// Nothing for 0, which means done.
-    pub(crate) fn of(number: u8, needed: usize) -> Option<Refusal> {
-        match number {
-            0 => None,
-            1..=15 => Some(NAMED[usize::from(number) - 1].0),
-            16 => Some(Refusal::NoRoom { needed }),
-            _ => Some(Refusal::Other(number)),
-        }
-    }
-
     pub(crate) fn check(number: u8) -> Result<(), Refusal> {
         Refusal::of(number, 0).map_or(Ok(()), Err)
     }
@@ -71,42 +95,34 @@ impl Refusal {
     pub(crate) fn reported(answer: Answer) -> Result<usize, Refusal> {
         Refusal::of(answer.refusal, answer.needed).map_or(Ok(answer.reported), Err)
     }
-
-    fn place(self) -> Option<usize> {
-        NAMED.iter().position(|(named, _)| *named == self)
-    }
-
-    pub fn number(self) -> u8 {
-        match self {
-            Refusal::NoRoom { .. } => 16,
-            Refusal::Other(number) => number,
-            _ => self.place().map_or(0, |at| at as u8 + 1),
-        }
-    }
 }
 
+/// The number, a colon, the meaning; behind 16 the bytes needed.
 impl fmt::Display for Refusal {
     fn fmt(&self, f: &mut fmt::Formatter<'_>) -> fmt::Result {
+        write!(f, "{}: {}", self.number(), self.meaning())?;
         match self {
-            Refusal::NoRoom { needed } => {
-                write!(f, "16: output buffer too short, {needed} bytes needed")
-            }
-            Refusal::Other(number) => write!(f, "{number}: a refusal without a name"),
-            _ => write!(
-                f,
-                "{}: {}",
-                self.number(),
-                self.place().map_or("", |at| NAMED[at].1)
-            ),
+            Refusal::NoRoom { needed } => write!(f, ": {needed}"),
+            _ => Ok(()),
         }
     }
 }
 
 impl std::error::Error for Refusal {}
 
+/// A [`Callsign`](crate::Callsign) becomes one without a refusal, so that a [`PacketBuilder`](crate::PacketBuilder) takes
+/// either a callsign or its text.
+impl From<Infallible> for Refusal {
+    fn from(never: Infallible) -> Self {
+        match never {}
+    }
+}
+
 #[cfg(test)]
 mod tests {
     use super::*;
+
+    const SOURCE: &str = include_str!("../../../docs/refusals.txt");
 
     #[test]
     fn every_number_comes_back() {
@@ -117,23 +133,27 @@ mod tests {
     }
 
     #[test]
+    fn each_means_what_the_source_says() {
+        let mut lines = SOURCE.lines();
+        assert_eq!(lines.next(), Some("0\tno refusal"));
+        for number in 1..=16 {
+            let meaning = Refusal::of(number, 7).map_or("", Refusal::meaning);
+            assert_eq!(lines.next(), Some(&*format!("{number}\t{meaning}")));
+        }
+        assert_eq!(lines.next(), None);
+        assert_eq!(Refusal::of(17, 0), Some(Refusal::Other(17)));
+    }
+
+    #[test]
     fn a_refusal_prints_its_number_and_meaning() {
         assert_eq!(Refusal::TooManyHops.to_string(), "5: a ninth hop");
         assert_eq!(
             Refusal::NoRoom { needed: 40 }.to_string(),
-            "16: output buffer too short, 40 bytes needed"
+            "16: output buffer too short; the bytes needed are returned: 40"
         );
         assert_eq!(
             Refusal::Other(17).to_string(),
             "17: a refusal without a name"
         );
-    }
-
-    #[test]
-    fn no_meaning_is_empty_and_no_two_are_the_same() {
-        for (at, (_, meaning)) in NAMED.iter().enumerate() {
-            assert!(!meaning.is_empty());
-            assert!(NAMED[at + 1..].iter().all(|(_, other)| other != meaning));
-        }
     }
 }

@@ -1,5 +1,6 @@
-// The wrapper against the library itself, on document 01's values.
+// Whole packets against the library itself, on document 01's values.
 
+use crate::mic_e::{Course, Message, Speed};
 use crate::*;
 
 const LINE: &[u8] = b"N0CALL-01>APRS,WIDE1-1,WIDE2-2*,K1A:!4903.50N/07201.75W-Test";
@@ -9,6 +10,18 @@ fn read(line: &[u8]) -> AprsPacket<'_> {
     AprsPacket::decode_textual(line).unwrap()
 }
 
+fn written(packet: &AprsPacket<'_>) -> Result<Vec<u8>, Refusal> {
+    let mut out = Vec::new();
+    packet.encode_textual(&mut out).map(|()| out)
+}
+
+fn position_of<'p, 'a>(packet: &'p AprsPacket<'a>) -> &'p AprsPosition<'a> {
+    match &packet.data {
+        AprsData::Position(position) => position,
+        _ => panic!("{packet:?}"),
+    }
+}
+
 fn refusal(line: &[u8]) -> u8 {
     AprsPacket::decode_textual(line).map_or_else(Refusal::number, |_| 0)
 }
@@ -16,100 +29,119 @@ fn refusal(line: &[u8]) -> u8 {
 #[test]
 fn a_position_by_its_parts() {
     let packet = read(LINE);
-    let position = AprsPosition {
-        messaging_supported: false,
-        latitude: 294350,
-        longitude: -432175,
-        blanks: 0,
-        symbol_table: b'/',
-        symbol_code: b'-',
-    };
-    assert_eq!(packet.data(), AprsData::Position(position));
-    assert_eq!(packet.comment(), b"Test");
-    assert_eq!(packet.from().to_string(), "N0CALL-01");
+    let position = position_of(&packet);
+    assert_eq!(position.latitude.hundredths(), 294350);
+    assert_eq!(position.longitude.hundredths(), -432175);
+    assert_eq!(position.precision, Precision::HundredthMinute);
+    assert_eq!((position.symbol_table, position.symbol_code), (b'/', b'-'));
+    assert!(!position.messaging_supported);
     assert_eq!(
-        packet.to().map(|to| to.to_string()),
-        Some("APRS".to_string())
+        (position.comment, packet.comment()),
+        (&b"Test"[..], &b"Test"[..])
     );
+    assert_eq!(
+        (packet.from.as_str(), position.to.as_str()),
+        ("N0CALL-01", "APRS")
+    );
+    assert_eq!(packet.to(), Some(&position.to));
 }
 
 #[test]
 fn hops_in_order_and_heard_up_to_the_star() {
-    let packet = read(LINE);
-    let hops: Vec<_> = packet
-        .via()
-        .map(|(hop, heard)| (hop.to_string(), heard))
-        .collect();
-    let expected = [("WIDE1-1", true), ("WIDE2-2", true), ("K1A", false)];
-    assert_eq!(packet.via().len(), 3);
-    assert!(hops
-        .iter()
-        .map(|(hop, heard)| (hop.as_str(), *heard))
-        .eq(expected));
-    assert_eq!(read(b"A>B:").via().count(), 0);
+    let hops = |line| {
+        read(line)
+            .via
+            .iter()
+            .map(Via::to_string)
+            .collect::<Vec<_>>()
+    };
+    assert_eq!(hops(LINE), ["WIDE1-1*", "WIDE2-2*", "K1A"]);
+    assert_eq!(hops(b"X>Y,A,B*,C:"), ["A*", "B*", "C"]);
+    assert!(hops(b"A>B:").is_empty());
 }
 
 #[test]
 fn a_mic_e_report_by_its_parts() {
     let packet = read(MIC_E);
-    let report = AprsMicE {
-        current: true,
-        message: Message::Standard(3),
-        latitude: 200564,
-        longitude: -72774,
-        blanks: 0,
-        speed: 20,
-        course: 251,
-        symbol_table: b'/',
-        symbol_code: b'j',
+    let report = match packet.data {
+        AprsData::MicE(report) => report,
+        _ => panic!("{packet:?}"),
     };
-    assert_eq!(packet.data(), AprsData::MicE(report));
+    assert_eq!(report.latitude.hundredths(), 200564);
+    assert_eq!(report.longitude.hundredths(), -72774);
+    assert_eq!(report.precision, Precision::HundredthMinute);
+    assert_eq!((report.message, report.current), (Message::M3, true));
+    assert_eq!(
+        (report.speed, report.course),
+        (Speed::new(20).unwrap(), Course::new(251).unwrap())
+    );
+    assert_eq!((report.symbol_table, report.symbol_code), (b'/', b'j'));
     assert_eq!((packet.to(), packet.comment()), (None, &b"Comment"[..]));
 }
 
 #[test]
-fn messages_by_number() {
-    let mut record = *read(MIC_E).record();
-    let mut out = [0; MOST_BYTES];
-    for number in 0..=15 {
-        record.message = number;
-        let line = AprsPacket::new(record, b"")
-            .encode_textual(&mut out)
-            .unwrap();
-        let expected = match number {
-            0..=6 => Message::Standard(number),
-            7..=13 => Message::Custom(number - 7),
-            14 => Message::Emergency,
-            _ => Message::Unknown,
-        };
-        assert!(matches!(read(line).data(), AprsData::MicE(report) if report.message == expected));
-    }
-    record.message = 16;
-    let refused = AprsPacket::new(record, b"").encode_textual(&mut out);
-    assert_eq!(refused, Err(Refusal::OutOfRange));
+fn what_is_unknown_has_its_destination_and_is_not_written() {
+    let packet = read(b"A>B-7:hi");
+    assert_eq!(
+        packet.data,
+        AprsData::Unknown(Callsign::new("B-7").unwrap())
+    );
+    assert_eq!(
+        (packet.to().map(Callsign::as_str), packet.comment()),
+        (Some("B-7"), &b""[..])
+    );
+    assert_eq!(written(&packet), Err(Refusal::UnknownKind));
 }
 
 #[test]
 fn what_is_read_is_written_as_it_stood() {
     for line in [LINE, MIC_E, b"X>Y,A,B*,C:=0000.00N/00000.00E-"] {
+        assert_eq!(written(&read(line)), Ok(line.to_vec()));
         let mut out = [0xaa; MOST_BYTES];
-        assert_eq!(read(line).encode_textual(&mut out), Ok(line));
+        assert_eq!(read(line).encode_textual_to_slice(&mut out), Ok(line));
         assert!(out[line.len()..].iter().all(|byte| *byte == 0xaa));
     }
 }
 
 #[test]
+fn a_vector_keeps_what_it_has() {
+    let mut out = b"first\n".to_vec();
+    read(LINE).encode_textual(&mut out).unwrap();
+    assert_eq!(out, [b"first\n", LINE].concat());
+    let before = out.clone();
+    assert_eq!(
+        read(b"A>B:hi").encode_textual(&mut out),
+        Err(Refusal::UnknownKind)
+    );
+    assert_eq!(
+        read(b"A>B:hi").encode_ax25(&mut out),
+        Err(Refusal::UnknownKind)
+    );
+    assert_eq!(out, before);
+}
+
+#[test]
 fn a_frame_goes_out_and_comes_back() {
     let packet = read(b"N0CALL-1>APRS,N0CALL-1*:!4903.50N/07201.75W-Test");
-    let mut out = [0; MOST_BYTES];
-    let frame = packet.encode_ax25(&mut out).unwrap();
-    assert_eq!(&frame[14..23], b"\x9c\x60\x86\x82\x98\x98\xe3\x03\xf0");
-    let back = AprsPacket::decode_ax25(frame).unwrap();
-    assert_eq!(
-        (back.data(), back.comment()),
-        (packet.data(), packet.comment())
-    );
-    assert!(back.via().eq(packet.via()));
+    let mut frame = vec![0xc0];
+    packet.encode_ax25(&mut frame).unwrap();
+    assert_eq!(&frame[15..24], b"\x9c\x60\x86\x82\x98\x98\xe3\x03\xf0");
+    assert_eq!(AprsPacket::decode_ax25(&frame[1..]), Ok(packet.clone()));
+    let mut room = [0; MOST_BYTES];
+    assert_eq!(packet.encode_ax25_to_slice(&mut room), Ok(&frame[1..]));
+}
+
+#[test]
+fn a_packet_may_be_changed_by_its_fields() {
+    let mut packet = read(LINE);
+    packet.from = Callsign::new("K1A").unwrap();
+    packet.via[2] = Via::Callsign(packet.from, true);
+    if let AprsData::Position(position) = &mut packet.data {
+        position.messaging_supported = true;
+        position.comment = b"";
+    }
+    let expected = b"K1A>APRS,WIDE1-1,WIDE2-2,K1A*:=4903.50N/07201.75W-";
+    assert_eq!(written(&packet), Ok(expected.to_vec()));
 }
 
 #[test]
@@ -138,66 +170,30 @@ fn every_refusal_of_a_line() {
 fn every_refusal_of_a_writer() {
     let mut out = [0xaa; MOST_BYTES];
     let seven = read(b"ABCDEFG>B:!0000.00N/00000.00E-");
-    assert_eq!(seven.encode_ax25(&mut out), Err(Refusal::NotAx25));
+    assert_eq!(seven.encode_ax25_to_slice(&mut out), Err(Refusal::NotAx25));
+    let unknown = read(b"A>B:hi");
     assert_eq!(
-        read(b"A>B:hi").encode_textual(&mut out),
+        unknown.encode_textual_to_slice(&mut out),
         Err(Refusal::UnknownKind)
     );
-    let mut record = *read(LINE).record();
+    let mut packet = read(LINE);
     let long = [b'x'; MOST_BYTES];
+    if let AprsData::Position(position) = &mut packet.data {
+        position.comment = &long;
+    }
     assert_eq!(
-        AprsPacket::new(record, &long).encode_textual(&mut out),
+        packet.encode_textual_to_slice(&mut out),
         Err(Refusal::TooLong)
     );
-    record.from.call_len = usize::MAX;
+    if let AprsData::Position(position) = &mut packet.data {
+        position.symbol_code = 128;
+    }
     assert_eq!(
-        AprsPacket::new(record, b"").encode_textual(&mut out),
+        packet.encode_textual_to_slice(&mut out),
         Err(Refusal::OutOfRange)
     );
     let needed = LINE.len();
-    let short = read(LINE).encode_textual(&mut out[..needed - 1]);
+    let short = read(LINE).encode_textual_to_slice(&mut out[..needed - 1]);
     assert_eq!(short, Err(Refusal::NoRoom { needed }));
     assert!(out.iter().all(|byte| *byte == 0xaa));
-}
-
-#[test]
-fn fields_of_a_setting() {
-    let mut out = [0; 48];
-    let first: Vec<Field> = list_motion(0, 0, &mut out).unwrap().collect();
-    assert_eq!(
-        (first.len(), first[0], first[15]),
-        (16, [28, 28, 28], [108, 32, 28])
-    );
-    let east: Vec<Field> = list_longitude(0, true, Side::East, &mut out)
-        .unwrap()
-        .collect();
-    assert_eq!(east, [[118, 28, 28], [118, 88, 28]]);
-    assert_eq!(
-        list_longitude(270000, true, Side::East, &mut [])
-            .unwrap()
-            .count(),
-        0
-    );
-    assert_eq!(
-        list_motion(0, 0, &mut out[..47]).err(),
-        Some(Refusal::NoRoom { needed: 48 })
-    );
-    assert_eq!(
-        list_motion(800, 0, &mut out).err(),
-        Some(Refusal::OutOfRange)
-    );
-}
-
-#[test]
-fn bounds_and_boxes() {
-    assert_eq!(longitude_bounding(-432000, 5), Ok(-77.0..=-67.0));
-    let (center, half) = (49. + 3. / 60. + 50. / 6_000., 1. / 6_000. / 2.);
-    assert_eq!(
-        latitude_bounding(294350, 0),
-        Ok(center - half..=center + half)
-    );
-    assert_eq!(latitude_box(294350, 2), Ok(588600..=588800));
-    assert_eq!(longitude_box(-1080000, 0), Ok(-2160001..=-2159999));
-    assert_eq!(latitude_bounding(540001, 0), Err(Refusal::OutOfRange));
-    assert_eq!(longitude_box(0, 6), Err(Refusal::OutOfRange));
 }

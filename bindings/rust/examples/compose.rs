@@ -1,0 +1,38 @@
+// Builds two packets, a position and a Mic-E report, and writes each as a line of text and as an AX.25 frame.
+
+use tusselgro::mic_e::{Course, Message, Speed};
+use tusselgro::{AprsPacket, Latitude, Longitude, Refusal};
+
+fn print(packet: &AprsPacket<'_>) -> Result<(), Refusal> {
+    let mut line = Vec::new();
+    packet.encode_textual(&mut line)?;
+    println!("{}", String::from_utf8_lossy(&line));
+
+    let mut frame = Vec::new();
+    packet.encode_ax25(&mut frame)?;
+    for row in frame.chunks(16) {
+        let row: Vec<String> = row.iter().map(|byte| format!("{byte:02x}")).collect();
+        println!("    {}", row.join(" "));
+    }
+    Ok(())
+}
+
+fn main() -> Result<(), Refusal> {
+    let latitude = Latitude::from_dmh(49, 3, 50, true)?;
+    let longitude = Longitude::from_dmh(72, 1, 75, false)?;
+    let position = AprsPacket::position("N7LEM", "NJ7P", latitude, longitude)
+        .heard_hop("N0CALL-1")
+        .symbol(b'/', b'-')
+        .comment(b"Test 001234")
+        .build()?;
+    print(&position)?;
+
+    let latitude = Latitude::from_dmh(33, 25, 64, true)?;
+    let longitude = Longitude::from_dmh(112, 7, 74, false)?;
+    let report = AprsPacket::mic_e("N7LEM", latitude, longitude)
+        .message(Message::M3)
+        .motion(Speed::new(20)?, Course::new(251)?)
+        .symbol(b'/', b'j')
+        .build()?;
+    print(&report)
+}

@@ -1,0 +1,61 @@
+// Sets the callsigns and positions of a capture as a table. The capture has a line a packet; it is the file that the first
+// argument names. A line that is refused is told on standard error, and the status is then 1; it is 2 where no table was set.
+
+use std::error::Error;
+use std::process::ExitCode;
+use tusselgro::{AprsData, AprsPacket, Latitude, Longitude, Via};
+
+fn place(data: &AprsData<'_>) -> Option<(Latitude, Longitude)> {
+    match data {
+        AprsData::Position(position) => Some((position.latitude, position.longitude)),
+        AprsData::MicE(report) => Some((report.latitude, report.longitude)),
+        _ => None,
+    }
+}
+
+fn row(packet: &AprsPacket<'_>) -> String {
+    let to = packet.to().map_or("-", |to| to.as_str());
+    let heard = packet
+        .via
+        .iter()
+        .filter(|via| matches!(via, Via::Callsign(_, true)));
+    let heard = format!("{}/{}", heard.count(), packet.via.len());
+    let mut row = format!("{:<10} {to:<10} {heard:<5}", packet.from);
+    if let Some((latitude, longitude)) = place(&packet.data) {
+        row += &format!(" {latitude} {longitude}");
+        row += &format!(" {:9.5} {:10.5}", latitude.degrees(), longitude.degrees());
+    }
+    row.trim_end().to_string()
+}
+
+/// The bytes of each line; a CR before the LF is dropped.
+fn lines(capture: &[u8]) -> impl Iterator<Item = &[u8]> {
+    let capture = capture.strip_suffix(b"\n").unwrap_or(capture);
+    capture
+        .split(|byte| *byte == b'\n')
+        .map(|line| line.strip_suffix(b"\r").unwrap_or(line))
+}
+
+fn table() -> Result<ExitCode, Box<dyn Error>> {
+    let name = std::env::args().nth(1).ok_or("usage: table CAPTURE")?;
+    let capture = std::fs::read(&name).map_err(|error| format!("{name}: {error}"))?;
+    let mut status = ExitCode::SUCCESS;
+    println!("from       to         heard latitude longitude   degrees");
+    for (number, line) in (1..).zip(lines(&capture)) {
+        match AprsPacket::decode_textual(line) {
+            Ok(packet) => println!("{}", row(&packet)),
+            Err(refusal) => {
+                eprintln!("{name}, line {number}: refusal {refusal}");
+                status = ExitCode::FAILURE;
+            }
+        }
+    }
+    Ok(status)
+}
+
+fn main() -> ExitCode {
+    table().unwrap_or_else(|error| {
+        eprintln!("{error}");
+        ExitCode::from(2)
+    })
+}

@@ -1,0 +1,262 @@
+// A packet built step by step.
+
+use crate::callsign::Callsign;
+use crate::latitude::Latitude;
+use crate::longitude::Longitude;
+use crate::mic_e::{AprsMicE, Course, Message, Speed};
+use crate::packet::AprsPacket;
+use crate::position::AprsPosition;
+use crate::precision::Precision;
+use crate::refusal::Refusal;
+use crate::via::{Path, Via};
+
+/// Builds a packet. A callsign may be given as one or as its text; the first refusal among them is that of
+/// [`build`](PacketBuilder::build). What else a packet may not hold is refused when it is written.
+///
+/// ```
+/// use tusselgro::{AprsPacket, Latitude, Longitude};
+///
+/// let packet = AprsPacket::position("N0CALL-01", "APRS", Latitude::new(49.05833)?, Longitude::new(-72.02917)?)
+///     .hop("WIDE1-1")
+///     .symbol(b'/', b'-')
+///     .comment(b"Test")
+///     .build()?;
+/// let mut line = Vec::new();
+/// packet.encode_textual(&mut line)?;
+/// assert_eq!(line, b"N0CALL-01>APRS,WIDE1-1:!4903.50N/07201.75W-Test");
+/// # Ok::<(), tusselgro::Refusal>(())
+/// ```
+#[derive(Clone, Debug)]
+#[must_use = "a builder gives its packet by `build`"]
+pub struct PacketBuilder<B> {
+    from: Callsign,
+    via: Path,
+    body: B,
+    refusal: Option<Refusal>,
+}
+
+impl<'a> AprsPacket<'a> {
+    /// Starts a packet with a position, that of [`AprsPosition::new`].
+    pub fn position<F, T>(
+        from: F,
+        to: T,
+        latitude: Latitude,
+        longitude: Longitude,
+    ) -> PacketBuilder<AprsPosition<'a>>
+    where
+        F: TryInto<Callsign>,
+        T: TryInto<Callsign>,
+        Refusal: From<F::Error> + From<T::Error>,
+    {
+        let body = AprsPosition::new(Callsign::default(), latitude, longitude);
+        let mut builder = PacketBuilder::new(from, body);
+        builder.body.to = builder.callsign(to);
+        builder
+    }
+
+    /// Starts a packet with a Mic-E report, that of [`AprsMicE::new`].
+    pub fn mic_e<F>(
+        from: F,
+        latitude: Latitude,
+        longitude: Longitude,
+    ) -> PacketBuilder<AprsMicE<'a>>
+    where
+        F: TryInto<Callsign>,
+        Refusal: From<F::Error>,
+    {
+        PacketBuilder::new(from, AprsMicE::new(latitude, longitude))
+    }
+}
+
+impl<B> PacketBuilder<B> {
+    fn new<C>(from: C, body: B) -> Self
+    where
+        C: TryInto<Callsign>,
+        Refusal: From<C::Error>,
+    {
+        let mut builder = PacketBuilder {
+            from: Callsign::default(),
+            via: Path::new(),
+            body,
+            refusal: None,
+        };
+        builder.from = builder.callsign(from);
+        builder
+    }
+
+    /// The callsign; where it is refused, an empty one, and the refusal is noted.
+    fn callsign<C>(&mut self, callsign: C) -> Callsign
+    where
+        C: TryInto<Callsign>,
+        Refusal: From<C::Error>,
+    {
+        callsign.try_into().unwrap_or_else(|refusal| {
+            self.note(Refusal::from(refusal));
+            Callsign::default()
+        })
+    }
+
+    fn note(&mut self, refusal: Refusal) {
+        self.refusal = self.refusal.or(Some(refusal));
+    }
+
+    fn via<C>(mut self, callsign: C, heard: bool) -> Self
+    where
+        C: TryInto<Callsign>,
+        Refusal: From<C::Error>,
+    {
+        let callsign = self.callsign(callsign);
+        if let Err(refusal) = self.via.push(Via::Callsign(callsign, heard)) {
+            self.note(refusal);
+        }
+        self
+    }
+
+    /// Puts a hop behind the others that was not heard yet.
+    pub fn hop<C>(self, callsign: C) -> Self
+    where
+        C: TryInto<Callsign>,
+        Refusal: From<C::Error>,
+    {
+        self.via(callsign, false)
+    }
+
+    /// Puts a hop behind the others that was heard.
+    pub fn heard_hop<C>(self, callsign: C) -> Self
+    where
+        C: TryInto<Callsign>,
+        Refusal: From<C::Error>,
+    {
+        self.via(callsign, true)
+    }
+}
+
+/// The steps that both kinds have.
+macro_rules! shared {
+    ($body:ident) => {
+        impl<'a> PacketBuilder<$body<'a>> {
+            /// How many last digits of the latitude are left blank.
+            pub fn precision(mut self, precision: Precision) -> Self {
+                self.body.precision = precision;
+                self
+            }
+
+            /// The symbol's table and code.
+            pub fn symbol(mut self, table: u8, code: u8) -> Self {
+                self.body.symbol_table = table;
+                self.body.symbol_code = code;
+                self
+            }
+
+            /// What follows, borrowed.
+            pub fn comment(mut self, comment: &'a [u8]) -> Self {
+                self.body.comment = comment;
+                self
+            }
+
+            /// The packet, or the first refusal of a callsign or a hop.
+            pub fn build(self) -> Result<AprsPacket<'a>, Refusal> {
+                let mut packet = AprsPacket::new(self.from, self.body);
+                packet.via = self.via;
+                self.refusal.map_or(Ok(packet), Err)
+            }
+        }
+    };
+}
+shared!(AprsPosition);
+shared!(AprsMicE);
+
+impl PacketBuilder<AprsPosition<'_>> {
+    /// Whether the station takes messages.
+    pub fn messaging(mut self, supported: bool) -> Self {
+        self.body.messaging_supported = supported;
+        self
+    }
+}
+
+impl PacketBuilder<AprsMicE<'_>> {
+    /// The message.
+    pub fn message(mut self, message: Message) -> Self {
+        self.body.message = message;
+        self
+    }
+
+    /// Speed and course.
+    pub fn motion(mut self, speed: Speed, course: Course) -> Self {
+        self.body.speed = speed;
+        self.body.course = course;
+        self
+    }
+
+    /// Whether the report is current, not old.
+    pub fn current(mut self, current: bool) -> Self {
+        self.body.current = current;
+        self
+    }
+}
+
+#[cfg(test)]
+mod tests {
+    use super::*;
+
+    fn place() -> (Latitude, Longitude) {
+        let latitude = Latitude::from_hundredths(200564).unwrap();
+        (latitude, Longitude::from_hundredths(-672774).unwrap())
+    }
+
+    fn line(packet: &AprsPacket<'_>) -> Vec<u8> {
+        let mut out = Vec::new();
+        packet.encode_textual(&mut out).unwrap();
+        out
+    }
+
+    #[test]
+    fn a_position_with_every_step() {
+        let to = Callsign::new("APRS").unwrap();
+        let packet = AprsPacket::position("A-01", to, place().0, place().1)
+            .heard_hop("B")
+            .hop(to)
+            .precision(Precision::OneMinute)
+            .symbol(b'\\', b'j')
+            .messaging(true)
+            .comment(b"Hi")
+            .build();
+        assert_eq!(
+            line(&packet.unwrap()),
+            b"A-01>APRS,B*,APRS:=3325.  N\\11207.74WjHi"
+        );
+    }
+
+    #[test]
+    fn a_mic_e_report_with_every_step() {
+        let packet = AprsPacket::mic_e("A", place().0, place().1)
+            .message(Message::M3)
+            .motion(Speed::new(20).unwrap(), Course::new(251).unwrap())
+            .symbol(b'/', b'j')
+            .current(false)
+            .build();
+        assert_eq!(line(&packet.unwrap()), b"A>S32UVT:'(_fn\"Oj/");
+    }
+
+    #[test]
+    fn what_is_not_told_has_its_default() {
+        let (latitude, longitude) = place();
+        let position = AprsPacket::position("A", "B", latitude, longitude).build();
+        assert_eq!(line(&position.unwrap()), b"A>B:!3325.64N/11207.74W/");
+        let report = AprsPacket::mic_e("A", latitude, longitude).build().unwrap();
+        assert_eq!(AprsPacket::decode_textual(&line(&report)), Ok(report));
+    }
+
+    #[test]
+    fn the_first_refusal_is_kept() {
+        let (latitude, longitude) = place();
+        let twice = AprsPacket::position("A-", "ABCDEFGHIJKLMNOPQ", latitude, longitude).build();
+        assert_eq!(twice, Err(Refusal::Callsign));
+        let to = AprsPacket::position("A", "ABCDEFGHIJKLMNOPQ", latitude, longitude).build();
+        assert_eq!(to, Err(Refusal::CallsignTooLong));
+        let nine = (0..9).fold(AprsPacket::mic_e("A", latitude, longitude), |builder, _| {
+            builder.hop("B")
+        });
+        assert_eq!(nine.build(), Err(Refusal::TooManyHops));
+    }
+}

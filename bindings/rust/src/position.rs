@@ -1,0 +1,180 @@
+// A position without a time, not compressed.
+
+use crate::callsign::Callsign;
+use crate::ffi;
+use crate::latitude::Latitude;
+use crate::longitude::Longitude;
+use crate::out::to_vec;
+use crate::precision::Precision;
+use crate::refusal::Refusal;
+use std::ops::RangeInclusive;
+
+/// A position.
+///
+/// The fields are those of aprs-parser, but for those of times and compressed positions, which are not carried. The symbol's
+/// parts are bytes, and the comment is borrowed from the bytes that were read.
+#[derive(Clone, Copy, Debug, PartialEq, Eq, Hash)]
+#[non_exhaustive]
+pub struct AprsPosition<'a> {
+    /// The destination.
+    pub to: Callsign,
+    /// Whether the station takes messages: `=`, not `!`.
+    pub messaging_supported: bool,
+    /// Where it is; where it may be says [`latitude_bounding`](Self::latitude_bounding).
+    pub latitude: Latitude,
+    /// The longitude that goes with it.
+    pub longitude: Longitude,
+    /// By the digits of the latitude that are blank.
+    pub precision: Precision,
+    /// The symbol's table; one of 128 or more is read and not written.
+    pub symbol_table: u8,
+    /// The symbol's code; the same.
+    pub symbol_code: u8,
+    /// What follows.
+    pub comment: &'a [u8],
+}
+
+/// The bytes of a position before its comment, its type byte not among them.
+const LENGTH: usize = 19;
+
+impl<'a> AprsPosition<'a> {
+    /// A position of a station that takes no messages, with the symbol `//`, a dot; all else may be set by its field.
+    pub fn new(to: Callsign, latitude: Latitude, longitude: Longitude) -> Self {
+        AprsPosition {
+            to,
+            messaging_supported: false,
+            latitude,
+            longitude,
+            precision: Precision::default(),
+            symbol_table: b'/',
+            symbol_code: b'/',
+            comment: b"",
+        }
+    }
+
+    /// Reads a body from its type byte on; any but `!` and `=` is not carried.
+    ///
+    /// ```
+    /// use tusselgro::{AprsPosition, Callsign};
+    ///
+    /// let position = AprsPosition::decode(b"=4903.50N/07201.75W-Test", Callsign::new("APRS")?)?;
+    /// assert_eq!(position.latitude.hundredths(), 294350);
+    /// assert_eq!((position.messaging_supported, position.comment), (true, &b"Test"[..]));
+    /// # Ok::<(), tusselgro::Refusal>(())
+    /// ```
+    pub fn decode(bytes: &'a [u8], to: Callsign) -> Result<Self, Refusal> {
+        let (messaging_supported, text) = match bytes {
+            [b'!', text @ ..] => (false, text),
+            [b'=', text @ ..] => (true, text),
+            _ => return Err(Refusal::NotCarried),
+        };
+        // SAFETY: the pointer and the length are those of one slice.
+        let read = unsafe { ffi::tusselgro_read_position(text.as_ptr(), text.len()) };
+        Refusal::check(read.refusal)?;
+        let comment = text.get(LENGTH..).unwrap_or_default();
+        Self::of(read.place, to, messaging_supported, comment)
+    }
+
+    pub(crate) fn of(
+        place: ffi::Place,
+        to: Callsign,
+        messaging_supported: bool,
+        comment: &'a [u8],
+    ) -> Result<Self, Refusal> {
+        Ok(AprsPosition {
+            to,
+            messaging_supported,
+            latitude: Latitude::from_hundredths(place.latitude)?,
+            longitude: Longitude::from_hundredths(place.longitude)?,
+            precision: Precision::try_from(place.blanks)?,
+            symbol_table: place.table,
+            symbol_code: place.code,
+            comment,
+        })
+    }
+
+    pub(crate) fn place(&self) -> ffi::Place {
+        ffi::Place {
+            latitude: self.latitude.hundredths(),
+            longitude: self.longitude.hundredths(),
+            blanks: self.precision.blanks(),
+            table: self.symbol_table,
+            code: self.symbol_code,
+        }
+    }
+
+    /// Appends the body: the type byte, the position and the comment.
+    pub fn encode(&self, out: &mut Vec<u8>) -> Result<(), Refusal> {
+        let mut body = vec![if self.messaging_supported { b'=' } else { b'!' }];
+        // SAFETY: the pointer and the length are those of one slice that is lent to nobody else.
+        to_vec(&mut body, |at, length| unsafe {
+            ffi::tusselgro_write_position(self.place(), at, length)
+        })?;
+        out.append(&mut body);
+        out.extend_from_slice(self.comment);
+        Ok(())
+    }
+
+    /// Where the latitude may lie, in degrees.
+    pub fn latitude_bounding(&self) -> RangeInclusive<f64> {
+        self.latitude.bounding(self.precision)
+    }
+
+    /// Where the longitude may lie, in degrees.
+    pub fn longitude_bounding(&self) -> RangeInclusive<f64> {
+        self.longitude.bounding(self.precision)
+    }
+}
+
+#[cfg(test)]
+mod tests {
+    use super::*;
+
+    fn decode(body: &[u8]) -> Result<AprsPosition<'_>, Refusal> {
+        AprsPosition::decode(body, Callsign::default())
+    }
+
+    /// Of the Protocol Reference, chapters 6 and 8.
+    #[test]
+    fn published_positions_both_ways() {
+        for body in [
+            &b"!4903.50N/07201.75W-Test 001234"[..],
+            b"=4903.50N/07201.75W#",
+            b"!49  .  N/07200.00W-",
+        ] {
+            let mut out = b"A>B:".to_vec();
+            decode(body).unwrap().encode(&mut out).unwrap();
+            assert_eq!(&out[4..], body);
+        }
+        let blank = decode(b"!49  .  N/072  .  W-").unwrap();
+        assert_eq!(
+            (blank.latitude.hundredths(), blank.longitude.hundredths()),
+            (294000, -432000)
+        );
+        assert_eq!(
+            (blank.latitude_bounding(), blank.longitude_bounding()),
+            (48.5..=49.5, -72.5..=-71.5)
+        );
+        assert_eq!((blank.symbol_table, blank.symbol_code), (b'/', b'-'));
+    }
+
+    #[test]
+    fn refusals_in_their_order() {
+        let number = |body: &[u8]| decode(body).map_or_else(Refusal::number, |_| 0);
+        assert_eq!(number(b""), 7);
+        assert_eq!(number(b"/092345z4903.50N/07201.75W>"), 7);
+        assert_eq!(number(b"!/5L!!<*e7>7P["), 7);
+        assert_eq!(number(b"!4903.50N/"), 10);
+        assert_eq!(number(b"!9000.01N/07201.75X-"), 8);
+        assert_eq!(number(b"!9000.00N/07201.75X-"), 9);
+    }
+
+    #[test]
+    fn a_symbol_of_128_or_more_is_read_and_not_written() {
+        let position = decode(b"!4903.50N\x8007201.75W-").unwrap();
+        let mut out = vec![7];
+        assert_eq!(position.symbol_table, 0x80);
+        assert_eq!(position.encode(&mut out), Err(Refusal::OutOfRange));
+        assert_eq!(out, [7]);
+    }
+}

@@ -1,0 +1,177 @@
+// A packet as the C record of it, and back.
+
+use crate::callsign::Callsign;
+use crate::ffi;
+use crate::latitude::Latitude;
+use crate::longitude::Longitude;
+use crate::mic_e::{AprsMicE, Course, Message, Speed};
+use crate::packet::{AprsData, AprsPacket};
+use crate::position::AprsPosition;
+use crate::precision::Precision;
+use crate::refusal::Refusal;
+use crate::via::{Path, Via};
+
+/// The packet of a record that was read from `bytes`.
+pub fn packet_of<'a>(record: &ffi::Record, bytes: &'a [u8]) -> Result<AprsPacket<'a>, Refusal> {
+    let ffi::Record { header, body } = record;
+    let comment = bytes
+        .get(body.comment.at..)
+        .and_then(|rest| rest.get(..body.comment.len));
+    let comment = comment.ok_or(Refusal::OutOfRange)?;
+    let to = Callsign::of(header.to);
+    let data = match body.kind {
+        ffi::POSITION => AprsPosition::of(body.place, to, body.messaging, comment)?.into(),
+        ffi::MIC_E => mic_e_of(&body.place, &body.report, comment)?.into(),
+        _ => AprsData::Unknown(to),
+    };
+    Ok(AprsPacket {
+        from: Callsign::of(header.from),
+        via: path_of(&header.path)?,
+        data,
+    })
+}
+
+fn path_of(path: &ffi::Path) -> Result<Path, Refusal> {
+    let mut via = Path::new();
+    for hop in path.hops.iter().take(path.count) {
+        via.push(Via::Callsign(Callsign::of(hop.call), hop.heard))?;
+    }
+    Ok(via)
+}
+
+fn mic_e_of<'a>(
+    place: &ffi::Place,
+    report: &ffi::Report,
+    comment: &'a [u8],
+) -> Result<AprsMicE<'a>, Refusal> {
+    let latitude = Latitude::from_hundredths(place.latitude)?;
+    let mut found = AprsMicE::new(latitude, Longitude::from_hundredths(place.longitude)?);
+    found.precision = Precision::try_from(place.blanks)?;
+    found.message = Message::try_from(report.message)?;
+    found.speed = Speed::new(report.speed)?;
+    found.course = Course::new(report.course)?;
+    found.symbol_table = place.table;
+    found.symbol_code = place.code;
+    found.comment = comment;
+    found.current = report.current;
+    Ok(found)
+}
+
+/// The record of a packet, without its comment's place.
+pub fn record_of(packet: &AprsPacket<'_>) -> ffi::Record {
+    let to = packet.to().map(Callsign::raw).unwrap_or_default();
+    let header = ffi::Header {
+        from: packet.from.raw(),
+        to,
+        path: path_record(&packet.via),
+    };
+    let body = match &packet.data {
+        AprsData::Position(position) => position_body(position),
+        AprsData::MicE(report) => mic_e_body(report),
+        AprsData::Unknown(_) => ffi::Body::default(),
+    };
+    ffi::Record { header, body }
+}
+
+fn path_record(via: &Path) -> ffi::Path {
+    let mut path = ffi::Path {
+        count: via.len(),
+        ..Default::default()
+    };
+    for (place, hop) in path.hops.iter_mut().zip(via) {
+        let Via::Callsign(callsign, heard) = hop;
+        *place = ffi::Hop {
+            call: callsign.raw(),
+            heard: *heard,
+        };
+    }
+    path
+}
+
+fn position_body(position: &AprsPosition<'_>) -> ffi::Body {
+    ffi::Body {
+        place: position.place(),
+        messaging: position.messaging_supported,
+        kind: ffi::POSITION,
+        ..Default::default()
+    }
+}
+
+fn mic_e_body(found: &AprsMicE<'_>) -> ffi::Body {
+    let place = ffi::Place {
+        latitude: found.latitude.hundredths(),
+        longitude: found.longitude.hundredths(),
+        blanks: found.precision.blanks(),
+        table: found.symbol_table,
+        code: found.symbol_code,
+    };
+    let report = ffi::Report {
+        speed: found.speed.knots(),
+        course: found.course.degrees(),
+        message: found.message.number(),
+        current: found.current,
+    };
+    ffi::Body {
+        place,
+        report,
+        kind: ffi::MIC_E,
+        ..Default::default()
+    }
+}
+
+#[cfg(test)]
+mod tests {
+    use super::*;
+
+    fn read(line: &[u8]) -> ffi::Record {
+        // SAFETY: the pointer and the length are those of one slice.
+        unsafe { ffi::tusselgro_read_text(line.as_ptr(), line.len()) }.record
+    }
+
+    #[test]
+    fn a_record_comes_back_but_for_the_comments_place() {
+        for line in [
+            &b"N0CALL-01>APRS,WIDE1-1,WIDE2-2*,K1A:!4903.50N/07201.75W-Test"[..],
+            b"A>B,1,2,3,4,5,6,7,8*:=49  .  S/072  .  W-",
+            b"A>S32UVT:`(_fn\"Oj/Comment",
+            b"A>S32UVT:'(_fn\"Oj/",
+            b"A>B-7:hi",
+        ] {
+            let mut record = read(line);
+            let packet = packet_of(&record, line).unwrap();
+            record.body.comment = ffi::Comment::default();
+            assert_eq!(record_of(&packet), record);
+        }
+    }
+
+    /// Each of these is in a record that nobody read.
+    #[test]
+    fn a_record_made_by_hand_is_refused_and_does_not_trap() {
+        let line = b"A>S32UVT,B:`(_fn\"Oj/Comment";
+        let spoilt: [fn(&mut ffi::Record); 8] = [
+            |record| record.body.comment.at = usize::MAX,
+            |record| record.body.comment.len = usize::MAX,
+            |record| record.body.place.latitude = i32::MIN,
+            |record| record.body.place.longitude = i32::MAX,
+            |record| record.body.place.blanks = 6,
+            |record| record.body.report.message = 16,
+            |record| record.body.report.speed = u32::MAX,
+            |record| record.body.report.course = 361,
+        ];
+        for spoil in spoilt {
+            let mut record = read(line);
+            assert!(packet_of(&record, line).is_ok());
+            spoil(&mut record);
+            assert_eq!(packet_of(&record, line), Err(Refusal::OutOfRange));
+        }
+        let mut record = read(line);
+        record.header.path.count = usize::MAX;
+        record.header.from.call_len = usize::MAX;
+        let packet = packet_of(&record, line).unwrap();
+        assert_eq!((packet.via.len(), packet.from.as_str()), (8, ""));
+        assert_eq!(
+            packet.encode_textual(&mut Vec::new()),
+            Err(Refusal::OutOfRange)
+        );
+    }
+}
