@@ -56,7 +56,8 @@ impl Callsign {
         }
     }
 
-    /// Reads a callsign's text; whether a star followed it, which a heard hop has.
+    /// Reads a callsign's text; whether a star followed it, which a heard hop has. That an SSID `0` was dropped, only
+    /// [`ffi::CallsignRead`] tells.
     pub fn decode_textual(text: &[u8]) -> Result<(Self, bool), Refusal> {
         // SAFETY: the pointer and the length are those of one slice.
         let read = unsafe { ffi::tusselgro_read_callsign(text.as_ptr(), text.len()) };

@@ -120,10 +120,10 @@ mod tests {
 
     #[test]
     fn a_lent_buffer_serves_too() {
-        let mut out = [0xaa; 49];
+        let mut out = [0xaa; 51];
         let fields = list_motion_to_slice(zero().0, zero().1, &mut out).unwrap();
         assert_eq!(fields.last(), Some([108, 32, 28]));
-        assert_eq!(out[48], 0xaa);
+        assert_eq!(out[48..], [0xaa; 3]);
         let short = list_motion_to_slice(zero().0, zero().1, &mut out[..47]).err();
         assert_eq!(short, Some(Refusal::NoRoom { needed: 48 }));
         let none = list_longitude_to_slice(Longitude::new(45.).unwrap(), true, Side::East, &mut []);

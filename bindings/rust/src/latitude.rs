@@ -184,14 +184,29 @@ mod tests {
         assert_eq!(format!("{:>10}", Latitude::default()), "  0000.00N");
     }
 
+    /// Neither is refused anywhere in the type's range, or both sides would be 0.
+    #[test]
+    fn bounds_lie_around_every_angle() {
+        for hundredths in [-Latitude::MOST, -1, 0, 1, Latitude::MOST] {
+            let angle = Latitude::from_hundredths(hundredths).unwrap();
+            for precision in (0..=5).filter_map(|blanks| Precision::try_from(blanks).ok()) {
+                let (bounds, page) = (angle.bounding(precision), angle.page_box(precision));
+                assert!(*bounds.start() < angle.degrees() && angle.degrees() < *bounds.end());
+                assert!(*page.start() < 2 * hundredths && 2 * hundredths < *page.end());
+            }
+        }
+    }
+
+    /// The library's bounds are half a width from their center, to the last bit.
     #[test]
     fn bounds_and_boxes() {
+        let half = 1. / 6_000. / 2.;
+        for hundredths in (-Latitude::MOST..=Latitude::MOST).step_by(97) {
+            let latitude = Latitude::from_hundredths(hundredths).unwrap();
+            let around = latitude.degrees() - half..=latitude.degrees() + half;
+            assert_eq!(latitude.bounding(Precision::HundredthMinute), around);
+        }
         let latitude = Latitude::from_hundredths(294350).unwrap();
-        let (center, half) = (latitude.degrees(), 1. / 6_000. / 2.);
-        assert_eq!(
-            latitude.bounding(Precision::HundredthMinute),
-            center - half..=center + half
-        );
         assert_eq!(latitude.page_box(Precision::OneMinute), 588600..=588800);
     }
 }

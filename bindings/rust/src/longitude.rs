@@ -176,6 +176,19 @@ mod tests {
         }
     }
 
+    /// Neither is refused anywhere in the type's range, or both sides would be 0.
+    #[test]
+    fn bounds_lie_around_every_angle() {
+        for hundredths in [-Longitude::MOST, -1, 0, 1, Longitude::MOST] {
+            let angle = Longitude::from_hundredths(hundredths).unwrap();
+            for precision in (0..=5).filter_map(|blanks| Precision::try_from(blanks).ok()) {
+                let (bounds, page) = (angle.bounding(precision), angle.page_box(precision));
+                assert!(*bounds.start() < angle.degrees() && angle.degrees() < *bounds.end());
+                assert!(*page.start() < 2 * hundredths && 2 * hundredths < *page.end());
+            }
+        }
+    }
+
     #[test]
     fn bounds_and_boxes() {
         let west = Longitude::from_hundredths(-432000).unwrap();

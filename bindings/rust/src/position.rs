@@ -52,7 +52,8 @@ impl<'a> AprsPosition<'a> {
         }
     }
 
-    /// Reads a body from its type byte on; any but `!` and `=` is not carried.
+    /// Reads a body from its type byte on; any but `!` and `=` is not carried. What a position does not keep, the letters of
+    /// angles that are 0 and minutes of 60 or more, [`Latitude`] and [`Longitude`] tell of their own texts.
     ///
     /// ```
     /// use tusselgro::{AprsPosition, Callsign};

@@ -197,3 +197,45 @@ fn every_refusal_of_a_writer() {
     assert_eq!(short, Err(Refusal::NoRoom { needed }));
     assert!(out.iter().all(|byte| *byte == 0xaa));
 }
+
+#[test]
+fn a_packet_may_go_to_another_thread() {
+    fn may<T: Send + Sync>(packet: T) -> T {
+        packet
+    }
+    assert_eq!(may(read(LINE)), read(LINE));
+}
+
+/// Lines of this file's own, spoilt: each is refused, or comes back from a slice as from a vector.
+#[test]
+fn spoilt_lines_do_no_harm() {
+    let mut state = 1u32;
+    let mut random = move |below: usize| {
+        state = state.wrapping_mul(1_664_525).wrapping_add(1_013_904_223);
+        (state >> 8) as usize % below
+    };
+    let (mut accepted, mut refused) = (0, 0);
+    for _ in 0..20_000 {
+        let mut line = [LINE, MIC_E][random(2)].to_vec();
+        for _ in 0..1 + random(3) {
+            let at = random(line.len());
+            line[at] = [random(256) as u8, b":>,*-! 09"[random(9)]][random(2)];
+        }
+        line.truncate(1 + random(2 * line.len()));
+        let mut room = [0; MOST_BYTES];
+        match AprsPacket::decode_textual(&line) {
+            Ok(packet) => {
+                let slice = packet
+                    .encode_textual_to_slice(&mut room)
+                    .map(<[u8]>::to_vec);
+                assert_eq!(slice, written(&packet));
+                accepted += 1;
+            }
+            Err(refusal) => {
+                assert!((1..=12).contains(&refusal.number()));
+                refused += 1;
+            }
+        }
+    }
+    assert!(accepted > 1_000 && refused > 1_000, "{accepted} {refused}");
+}
