@@ -1,6 +1,6 @@
 // A packet built step by step.
 
-use crate::callsign::Callsign;
+use crate::callsign::{Callsign, IntoCallsign};
 use crate::latitude::Latitude;
 use crate::longitude::Longitude;
 use crate::mic_e::{AprsMicE, Course, Message, Speed};
@@ -37,17 +37,12 @@ pub struct PacketBuilder<B> {
 
 impl<'a> AprsPacket<'a> {
     /// Starts a packet with a position, that of [`AprsPosition::new`].
-    pub fn position<F, T>(
-        from: F,
-        to: T,
+    pub fn position(
+        from: impl IntoCallsign,
+        to: impl IntoCallsign,
         latitude: Latitude,
         longitude: Longitude,
-    ) -> PacketBuilder<AprsPosition<'a>>
-    where
-        F: TryInto<Callsign>,
-        T: TryInto<Callsign>,
-        Refusal: From<F::Error> + From<T::Error>,
-    {
+    ) -> PacketBuilder<AprsPosition<'a>> {
         let body = AprsPosition::new(Callsign::default(), latitude, longitude);
         let mut builder = PacketBuilder::new(from, body);
         builder.body.to = builder.callsign(to);
@@ -55,25 +50,17 @@ impl<'a> AprsPacket<'a> {
     }
 
     /// Starts a packet with a Mic-E report, that of [`AprsMicE::new`].
-    pub fn mic_e<F>(
-        from: F,
+    pub fn mic_e(
+        from: impl IntoCallsign,
         latitude: Latitude,
         longitude: Longitude,
-    ) -> PacketBuilder<AprsMicE<'a>>
-    where
-        F: TryInto<Callsign>,
-        Refusal: From<F::Error>,
-    {
+    ) -> PacketBuilder<AprsMicE<'a>> {
         PacketBuilder::new(from, AprsMicE::new(latitude, longitude))
     }
 }
 
 impl<B> PacketBuilder<B> {
-    fn new<C>(from: C, body: B) -> Self
-    where
-        C: TryInto<Callsign>,
-        Refusal: From<C::Error>,
-    {
+    fn new(from: impl IntoCallsign, body: B) -> Self {
         let mut builder = PacketBuilder {
             from: Callsign::default(),
             via: Path::new(),
@@ -85,13 +72,9 @@ impl<B> PacketBuilder<B> {
     }
 
     /// The callsign; where it is refused, an empty one, and the refusal is noted.
-    fn callsign<C>(&mut self, callsign: C) -> Callsign
-    where
-        C: TryInto<Callsign>,
-        Refusal: From<C::Error>,
-    {
-        callsign.try_into().unwrap_or_else(|refusal| {
-            self.note(Refusal::from(refusal));
+    fn callsign(&mut self, callsign: impl IntoCallsign) -> Callsign {
+        callsign.into_callsign().unwrap_or_else(|refusal| {
+            self.note(refusal);
             Callsign::default()
         })
     }
@@ -100,11 +83,7 @@ impl<B> PacketBuilder<B> {
         self.refusal = self.refusal.or(Some(refusal));
     }
 
-    fn via<C>(mut self, callsign: C, heard: bool) -> Self
-    where
-        C: TryInto<Callsign>,
-        Refusal: From<C::Error>,
-    {
+    fn via(mut self, callsign: impl IntoCallsign, heard: bool) -> Self {
         let callsign = self.callsign(callsign);
         if let Err(refusal) = self.via.push(Via::Callsign(callsign, heard)) {
             self.note(refusal);
@@ -113,20 +92,12 @@ impl<B> PacketBuilder<B> {
     }
 
     /// Puts a hop behind the others that was not heard yet.
-    pub fn hop<C>(self, callsign: C) -> Self
-    where
-        C: TryInto<Callsign>,
-        Refusal: From<C::Error>,
-    {
+    pub fn hop(self, callsign: impl IntoCallsign) -> Self {
         self.via(callsign, false)
     }
 
     /// Puts a hop behind the others that was heard.
-    pub fn heard_hop<C>(self, callsign: C) -> Self
-    where
-        C: TryInto<Callsign>,
-        Refusal: From<C::Error>,
-    {
+    pub fn heard_hop(self, callsign: impl IntoCallsign) -> Self {
         self.via(callsign, true)
     }
 }
@@ -213,7 +184,7 @@ mod tests {
     #[test]
     fn a_position_with_every_step() {
         let to = Callsign::new("APRS").unwrap();
-        let packet = AprsPacket::position("A-01", to, place().0, place().1)
+        let packet = AprsPacket::position(String::from("A-01"), to, place().0, place().1)
             .heard_hop("B")
             .hop(to)
             .precision(Precision::OneMinute)

@@ -118,11 +118,21 @@ impl FromStr for Callsign {
     }
 }
 
-impl TryFrom<&str> for Callsign {
-    type Error = Refusal;
+/// What a [`PacketBuilder`](crate::PacketBuilder) takes as a callsign: one, or the text of one.
+pub trait IntoCallsign {
+    /// The callsign, or why it is none.
+    fn into_callsign(self) -> Result<Callsign, Refusal>;
+}
 
-    fn try_from(text: &str) -> Result<Self, Refusal> {
-        Self::new(text)
+impl IntoCallsign for Callsign {
+    fn into_callsign(self) -> Result<Callsign, Refusal> {
+        Ok(self)
+    }
+}
+
+impl<T: AsRef<str>> IntoCallsign for T {
+    fn into_callsign(self) -> Result<Callsign, Refusal> {
+        Callsign::new(self)
     }
 }
 

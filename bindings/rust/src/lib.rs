@@ -25,7 +25,7 @@ mod via;
 
 pub use address::CallsignField;
 pub use builder::PacketBuilder;
-pub use callsign::Callsign;
+pub use callsign::{Callsign, IntoCallsign};
 pub use ffi::{MOST_BYTES, MOST_HOPS};
 pub use fields::{
     list_longitude, list_longitude_to_slice, list_motion, list_motion_to_slice, Field,

@@ -1,7 +1,6 @@
 // Why something was not done. The numbers and the words are those of docs/refusals.txt.
 
 use crate::ffi::Answer;
-use std::convert::Infallible;
 use std::fmt;
 
 const NO_ROOM: &str = "output buffer too short; the bytes needed are returned";
@@ -109,14 +108,6 @@ impl fmt::Display for Refusal {
 }
 
 impl std::error::Error for Refusal {}
-
-/// A [`Callsign`](crate::Callsign) becomes one without a refusal, so that a [`PacketBuilder`](crate::PacketBuilder) takes
-/// either a callsign or its text.
-impl From<Infallible> for Refusal {
-    fn from(never: Infallible) -> Self {
-        match never {}
-    }
-}
 
 #[cfg(test)]
 mod tests {
