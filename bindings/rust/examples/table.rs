@@ -1,5 +1,6 @@
-// Sets the callsigns and positions of a capture as a table. The capture has a line a packet; it is the file that the first
-// argument names. A line that is refused is told on standard error, and the status is then 1; it is 2 where no table was set.
+// Sets the callsigns and positions of a capture as a table. The capture has a line a packet; it is the file that the
+// first argument names. A line that is refused is told on standard error, and the status is then 1; it is 2 where no
+// table was set.
 
 use std::error::Error;
 use std::process::ExitCode;

@@ -1,5 +1,5 @@
-// What latitude and longitude share: whole hundredths of a minute, and degrees, minutes and hundredths as aprs-parser counts
-// them.
+// What latitude and longitude share: whole hundredths of a minute, and degrees, minutes and hundredths as aprs-parser
+// counts them.
 
 /// A size in degrees, minutes and hundredths.
 pub fn parts(hundredths: i32) -> (u32, u32, u32) {
@@ -86,8 +86,8 @@ macro_rules! angle {
                 self.0
             }
 
-            #[doc = concat!("In degrees, ", $side, " positive: the number that aprs-parser has, but that 0 has no sign ")]
-            #[doc = "and minutes of 60 or more are counted as degrees first."]
+            #[doc = concat!("In degrees, ", $side, " positive: the number that aprs-parser has, but that 0 has no sign")]
+            /// and minutes of 60 or more are counted as degrees first.
             pub fn degrees(self) -> f64 {
                 angle::degrees(self.0)
             }

@@ -1,5 +1,5 @@
-//! The C functions and records of `include/tusselgro.h` as Rust sees them, field by field the same. The rest of this crate
-//! stands on them and asks for no `unsafe`; what each function does and refuses, the header says.
+//! The C functions and records of `include/tusselgro.h` as Rust sees them, field by field the same. The rest of this
+//! crate stands on them and asks for no `unsafe`; what each function does and refuses, the header says.
 
 /// The kind of a record that is neither a position nor a Mic-E report.
 pub const UNKNOWN: u8 = 0;

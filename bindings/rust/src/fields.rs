@@ -31,8 +31,8 @@ pub fn list_motion_to_slice(
     first(out, answer)
 }
 
-/// Every field that means this longitude under a destination of this offset (100 or 0) and side, in ascending order. There may
-/// be none.
+/// Every field that means this longitude under a destination of this offset (100 or 0) and side, in ascending order.
+/// There may be none.
 pub fn list_longitude(
     longitude: Longitude,
     hundred: bool,

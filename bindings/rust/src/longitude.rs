@@ -60,8 +60,8 @@ pub struct LongitudeRead {
 }
 
 impl Longitude {
-    /// Reads `dddmm.hh` and E or W; the last digits, as many as are blank in the latitude beside it, count as 0, whichever
-    /// bytes stand there.
+    /// Reads `dddmm.hh` and E or W; the last digits, as many as are blank in the latitude beside it, count as 0,
+    /// whichever bytes stand there.
     pub fn decode_textual(text: &[u8], precision: Precision) -> Result<LongitudeRead, Refusal> {
         let blanks = precision.blanks();
         // SAFETY: the pointer and the length are those of one slice.

@@ -11,8 +11,8 @@ use crate::via::Path;
 
 /// A packet.
 ///
-/// The fields are those of aprs-parser. Nothing is allocated: the comment is borrowed from the bytes that were read, so those
-/// must live as long as the packet. [`position`](Self::position) and [`mic_e`](Self::mic_e) build one.
+/// The fields are those of aprs-parser. Nothing is allocated: the comment is borrowed from the bytes that were read,
+/// so those must live as long as the packet. [`position`](Self::position) and [`mic_e`](Self::mic_e) build one.
 ///
 /// ```
 /// use tusselgro::{AprsData, AprsPacket};
@@ -116,8 +116,8 @@ impl<'a> AprsPacket<'a> {
         read(ffi::tusselgro_read_frame, frame)
     }
 
-    /// Appends the packet as a line of text, without a line end; at a refusal nothing. The last heard hop gets the star, which
-    /// says that those before it were heard too.
+    /// Appends the packet as a line of text, without a line end; at a refusal nothing. The last heard hop gets the
+    /// star, which says that those before it were heard too.
     pub fn encode_textual(&self, out: &mut Vec<u8>) -> Result<(), Refusal> {
         to_vec(out, self.by(ffi::tusselgro_write_text))
     }
@@ -127,8 +127,8 @@ impl<'a> AprsPacket<'a> {
         to_vec(out, self.by(ffi::tusselgro_write_frame))
     }
 
-    /// Writes the packet as a line of text to the front of `out`, and returns what was written; no other byte of `out` is
-    /// changed, and at a refusal none. [`MOST_BYTES`](crate::MOST_BYTES) are enough for any.
+    /// Writes the packet as a line of text to the front of `out`, and returns what was written; no other byte of
+    /// `out` is changed, and at a refusal none. [`MOST_BYTES`](crate::MOST_BYTES) are enough for any.
     pub fn encode_textual_to_slice<'b>(&self, out: &'b mut [u8]) -> Result<&'b [u8], Refusal> {
         to_slice(out, self.by(ffi::tusselgro_write_text))
     }

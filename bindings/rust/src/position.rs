@@ -11,8 +11,8 @@ use std::ops::RangeInclusive;
 
 /// A position.
 ///
-/// The fields are those of aprs-parser, but for those of times and compressed positions, which are not carried. The symbol's
-/// parts are bytes, and the comment is borrowed from the bytes that were read.
+/// The fields are those of aprs-parser, but for those of times and compressed positions, which are not carried. The
+/// symbol's parts are bytes, and the comment is borrowed from the bytes that were read.
 #[derive(Clone, Copy, Debug, PartialEq, Eq, Hash)]
 #[non_exhaustive]
 pub struct AprsPosition<'a> {
@@ -52,8 +52,9 @@ impl<'a> AprsPosition<'a> {
         }
     }
 
-    /// Reads a body from its type byte on; any but `!` and `=` is not carried. What a position does not keep, the letters of
-    /// angles that are 0 and minutes of 60 or more, [`Latitude`] and [`Longitude`] tell of their own texts.
+    /// Reads a body from its type byte on; any but `!` and `=` is not carried. What a position does not keep, the
+    /// letters of angles that are 0 and minutes of 60 or more, [`Latitude`] and [`Longitude`] tell of their own
+    /// texts.
     ///
     /// ```
     /// use tusselgro::{AprsPosition, Callsign};

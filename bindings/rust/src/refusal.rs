@@ -69,7 +69,8 @@ macro_rules! refusals {
 
 refusals! {
     1 TooLong "input over 512 bytes, or output would be"
-    2 Framing "no ':'; no '>' before the first ':'; frame ends inside an address; destination is marked last; control pair wrong"
+    2 Framing "no ':'; no '>' before the first ':'; frame ends inside an address; destination is marked last; \
+        control pair wrong"
     3 Callsign "a callsign or hop is malformed"
     4 CallsignTooLong "callsign text over 16 bytes"
     5 TooManyHops "a ninth hop"

@@ -53,8 +53,8 @@ impl Destination {
         })
     }
 
-    /// The characters that carry a latitude and a message, and the offset and side of the longitude that goes with them. One
-    /// of 180 degrees is out of range.
+    /// The characters that carry a latitude and a message, and the offset and side of the longitude that goes with
+    /// them. One of 180 degrees is out of range.
     pub fn encode(
         latitude: Latitude,
         precision: Precision,

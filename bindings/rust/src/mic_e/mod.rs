@@ -1,5 +1,5 @@
-//! Mic-E reports and their parts: the destination that carries a latitude and a message, and the information that carries
-//! longitude, speed, course and symbol.
+//! Mic-E reports and their parts: the destination that carries a latitude and a message, and the information that
+//! carries longitude, speed, course and symbol.
 
 mod destination;
 mod information;

@@ -13,9 +13,9 @@ use crate::refusal::Refusal;
 #[derive(Clone, Copy, Debug, PartialEq, Eq, Hash)]
 #[non_exhaustive]
 pub struct AprsMicE<'a> {
-    /// Where it is; to be written, short of 180 degrees of longitude.
+    /// Where it is.
     pub latitude: Latitude,
-    /// The longitude that goes with it.
+    /// The longitude that goes with it; to be written, short of 180 degrees.
     pub longitude: Longitude,
     /// By the digits of the latitude that are blank.
     pub precision: Precision,
@@ -36,8 +36,8 @@ pub struct AprsMicE<'a> {
 }
 
 impl<'a> AprsMicE<'a> {
-    /// A current report from a place, with message M0, speed 0, unknown course and the symbol `//`, a dot; all else may be set by
-    /// its field.
+    /// A current report from a place, with message M0, speed 0, unknown course and the symbol `//`, a dot; all else
+    /// may be set by its field.
     pub fn new(latitude: Latitude, longitude: Longitude) -> Self {
         AprsMicE {
             latitude,
