@@ -2,7 +2,7 @@
 
 use crate::angle::{self, angle};
 use crate::ffi;
-use crate::out::{to_slice, to_vec};
+use crate::out::{show, to_vec};
 use crate::precision::Precision;
 use crate::refusal::Refusal;
 use std::fmt;
@@ -81,13 +81,10 @@ impl Latitude {
 /// As APRS writes it, in full: `4903.50N`.
 impl fmt::Display for Latitude {
     fn fmt(&self, f: &mut fmt::Formatter<'_>) -> fmt::Result {
-        let mut room = [0; 8];
         // SAFETY: the pointer and the length are those of one slice that is lent to nobody else.
-        let written = to_slice(&mut room, |at, length| unsafe {
+        show(f, |at, length| unsafe {
             ffi::tusselgro_write_latitude(self.0, 0, at, length)
-        });
-        let text = written.map_err(|_| fmt::Error)?;
-        f.pad(std::str::from_utf8(text).map_err(|_| fmt::Error)?)
+        })
     }
 }
 

@@ -2,7 +2,7 @@
 
 use crate::angle::{self, angle};
 use crate::ffi;
-use crate::out::{to_slice, to_vec};
+use crate::out::{show, to_vec};
 use crate::precision::Precision;
 use crate::refusal::Refusal;
 use std::fmt;
@@ -100,13 +100,10 @@ impl Longitude {
 /// As APRS writes it: `07201.75W`.
 impl fmt::Display for Longitude {
     fn fmt(&self, f: &mut fmt::Formatter<'_>) -> fmt::Result {
-        let mut room = [0; 9];
         // SAFETY: the pointer and the length are those of one slice that is lent to nobody else.
-        let written = to_slice(&mut room, |at, length| unsafe {
+        show(f, |at, length| unsafe {
             ffi::tusselgro_write_longitude(self.0, at, length)
-        });
-        let text = written.map_err(|_| fmt::Error)?;
-        f.pad(std::str::from_utf8(text).map_err(|_| fmt::Error)?)
+        })
     }
 }
 

@@ -1,7 +1,8 @@
-// Where a C writer puts its bytes: the front of a slice, or the end of a vector.
+// Where a C writer puts its bytes: the front of a slice, the end of a vector, or what is being printed.
 
 use crate::ffi::{Answer, MOST_BYTES};
 use crate::refusal::Refusal;
+use std::fmt;
 
 /// Lets `write` fill the front of `out`; what it wrote.
 pub fn to_slice(
@@ -19,4 +20,14 @@ pub fn to_vec(
 ) -> Result<(), Refusal> {
     let mut room = [0; MOST_BYTES];
     to_slice(&mut room, write).map(|written| out.extend_from_slice(written))
+}
+
+/// Prints the text of an angle, which `write` writes in at most nine bytes.
+pub fn show(
+    f: &mut fmt::Formatter<'_>,
+    write: impl FnOnce(*mut u8, usize) -> Answer,
+) -> fmt::Result {
+    let mut room = [0; 9];
+    let text = to_slice(&mut room, write).map_err(|_| fmt::Error)?;
+    f.pad(std::str::from_utf8(text).map_err(|_| fmt::Error)?)
 }
