@@ -186,7 +186,7 @@ mod tests {
         let to = Callsign::new("APRS").unwrap();
         let packet = AprsPacket::position(String::from("A-01"), to, place().0, place().1)
             .heard_hop("B")
-            .hop(to)
+            .hop(&to)
             .precision(Precision::OneMinute)
             .symbol(b'\\', b'j')
             .messaging(true)

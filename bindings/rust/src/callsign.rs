@@ -130,6 +130,12 @@ impl IntoCallsign for Callsign {
     }
 }
 
+impl IntoCallsign for &Callsign {
+    fn into_callsign(self) -> Result<Callsign, Refusal> {
+        Ok(*self)
+    }
+}
+
 impl<T: AsRef<str>> IntoCallsign for T {
     fn into_callsign(self) -> Result<Callsign, Refusal> {
         Callsign::new(self)
