@@ -3,7 +3,6 @@
 use crate::ffi;
 use crate::out::to_vec;
 use crate::refusal::Refusal;
-use std::cmp::Ordering;
 use std::fmt;
 use std::str::FromStr;
 
@@ -21,7 +20,7 @@ use std::str::FromStr;
 ///
 /// It is in the order of its text's bytes, and `Default` is the empty one, which a line may have. Unlike that of
 /// aprs-parser it is `Copy`, has at most 16 bytes of text, and each way to make one may refuse.
-#[derive(Clone, Copy, Default, PartialEq, Eq, Hash)]
+#[derive(Clone, Copy, Default, PartialEq, Eq, PartialOrd, Ord, Hash)]
 pub struct Callsign(ffi::Callsign);
 
 impl Callsign {
@@ -152,20 +151,6 @@ impl fmt::Display for Callsign {
 impl fmt::Debug for Callsign {
     fn fmt(&self, f: &mut fmt::Formatter<'_>) -> fmt::Result {
         f.debug_tuple("Callsign").field(&self.as_str()).finish()
-    }
-}
-
-/// By the bytes of the text; of two that print the same, the one with the shorter call comes first.
-impl Ord for Callsign {
-    fn cmp(&self, other: &Self) -> Ordering {
-        let key = |callsign: &Callsign| (callsign.0.text, callsign.0.call_len, callsign.0.ssid_len);
-        key(self).cmp(&key(other))
-    }
-}
-
-impl PartialOrd for Callsign {
-    fn partial_cmp(&self, other: &Self) -> Option<Ordering> {
-        Some(self.cmp(other))
     }
 }
 

@@ -24,9 +24,9 @@ pub const MOST_HOPS: usize = 8;
 /// No callsign's text is longer.
 pub const MOST_CALLSIGN: usize = 16;
 
-/// A callsign as it is written.
+/// A callsign as it is written. One in range is ordered by the bytes of its text.
 #[repr(C)]
-#[derive(Clone, Copy, Debug, Default, PartialEq, Eq, Hash)]
+#[derive(Clone, Copy, Debug, Default, PartialEq, Eq, PartialOrd, Ord, Hash)]
 pub struct Callsign {
     /// Call, dash and SSID; the rest is 0.
     pub text: [u8; MOST_CALLSIGN],
