@@ -63,6 +63,8 @@ impl Latitude {
         })
     }
 
+    // An angle and a precision are in range by their types, so the library refuses neither of the two below.
+
     /// Where it may lie, in degrees.
     pub fn bounding(self, precision: Precision) -> RangeInclusive<f64> {
         // SAFETY: the function takes numbers only.
