@@ -86,8 +86,10 @@ macro_rules! angle {
                 self.0
             }
 
-            #[doc = concat!("In degrees, ", $side, " positive: the number that aprs-parser has, but that 0 has no sign")]
-            /// and minutes of 60 or more are counted as degrees first.
+            #[doc = concat!("In degrees, ", $side, " positive.")]
+            ///
+            /// It is the number that aprs-parser has, but that 0 has no sign, and minutes of 60 or more are counted as
+            /// degrees first.
             pub fn degrees(self) -> f64 {
                 angle::degrees(self.0)
             }
