@@ -9,7 +9,7 @@ use native.Mathlib.Nat.{add-zero, add-assoc}
 use native.Mathlib.Numerals.{add-one}
 use native.Mathlib.Omega.{arith}
 use lib.Dec.{ltb, leb}
-use borrow.Author.Tests.{ltb-true, ltb-false, leb-true, le-leb, lt-leb}
+use borrow.Author.Tests.{ltb-true, ltb-false, leb-true, leb-false, le-leb, lt-leb}
 use lib.ListN.{length, getD, set, take, drop, take-append-drop, length-append, length-drop, drop-of-length-le}
 use lib.Seq.{length-take-le, set-split, drop-drop, take-at, drop-append-add, getD-append-add, getD-drop}
 use borrow.Rule.Slice.PartAt.{part-to-end}
@@ -65,8 +65,15 @@ module _ (f : Filled) (piece : List ℕ) where
         (take-at (take (f .len) (f .bytes) ++ piece) (drop (f .len + length piece) (f .bytes)) (f .len + length piece)
         (length-append (take (f .len) (f .bytes)) piece ∙ rw (length-take-le (f .len) (f .bytes) (omega arith))))
 
-pub added-none : (f : Filled) → f .len ≤ length (f .bytes) → f ≡ added f []
-added-none f h = sym (added-fits f [] (omega arith) ∙ rw (add-zero (f .len), take-append-drop (f .len) (f .bytes)))
+-- no bytes, with room or without
+pub added-none : (f : Filled) → f ≡ added f []
+added-none f = go (leb (f .len) (length (f .bytes))) refl
+  where
+    go : (t : Bool) → leb (f .len) (length (f .bytes)) ≡ t → f ≡ added f []
+    go true e =
+        let room = leb-true (f .len) (length (f .bytes)) e in
+        sym (added-fits f [] (omega arith) ∙ rw (add-zero (f .len), take-append-drop (f .len) (f .bytes)))
+    go false e = let past = leb-false (f .len) (length (f .bytes)) e in sym (added-not f [] (omega arith))
 
 -- the bytes in use of a buffer that was filled from its start
 pub first-front : (v piece : List ℕ) → length piece ≤ length v → frontOf (added (filled v 0) piece) ≡ piece
@@ -136,7 +143,7 @@ all-length f (p ∷ ps) = all-length (added f p) ps ∙ added-length f p
 -- where there is room for all of them they are one piece
 pub all-fits : (f : Filled) (ps : List (List ℕ)) → f .len + length (together ps) ≤ length (f .bytes) → addedAll f ps ≡ added f (together ps)
 unfolding addedAll together
-all-fits f [] h = added-none f (omega arith)
+all-fits f [] h = added-none f
 all-fits f (p ∷ ps) h =
     let l = length-append p (together ps) in
     let room : f .len + length p + length (together ps) ≤ length (f .bytes) = omega arith in

@@ -30,7 +30,7 @@ put-length old out start at piece e = ap (λ (x : Filled). length (x .bytes)) e 
 module _ (f : ℕ → List Field) (old : List ℕ) (start m : ℕ) (room : start + 3 * length (each m f) ≤ length old) where
   pub stored-none : (k : ℕ) → each k f ≡ [] → filled old start ≡ added (filled old start) (flat (each k f))
   unfolding flat
-  stored-none k e = rw e (added-none (filled old start) (omega arith))
+  stored-none k e = rw e (added-none (filled old start))
 
   module _ (k at : ℕ) (out : List ℕ) (less : k < m) (so-far : filled out at ≡ added (filled old start) (flat (each k f))) where
     next-fits : start + 3 * length (each k f) + 3 * length (f k) ≤ length old

@@ -145,7 +145,7 @@ sizes-accepted (p ∷ l) z = omega (arith, size-accepted p (omega arith), sizes-
 
 pieces-there : (b : Building) (l : List Piece) → b .array .len + sizes l ≤ length (b .array .bytes) → greatest l ≡ 0 → withPieces b l .array ≡ added (b .array) (bytesOf l)
 unfolding withPieces greatest sizes bytesOf
-pieces-there b [] h z = added-none (b .array) (omega arith)
+pieces-there b [] h z = added-none (b .array)
 pieces-there b (p ∷ l) h z =
     let f : p .refusal ≡ 0 = omega arith in
     let g : greatest l ≡ 0 = omega arith in

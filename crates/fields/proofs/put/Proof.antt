@@ -1,14 +1,9 @@
 -- `put`: three bytes are the one field; nothing put is no field. Assumes nothing.
-use mathlib.Core.Path.{_≡_, refl, sym}
-use mathlib.Core.Bool.{Bool, true, false}
+use mathlib.Core.Path.{_≡_}
 use mathlib.Core.List.{List, [], _∷_}
 use Prim.Native.Nat.{ℕ}
-use native.Mathlib.Omega.{arith}
-use lib.Dec.{leb}
-use lib.ListN.{length}
-use borrow.Author.Tests.{leb-true, leb-false}
-use Rattle.buffer.specs.Filled.{Filled, filled, added}
-use Rattle.buffer.proofs.Filled.{added-none, added-not}
+use Rattle.buffer.specs.Filled.{filled, added}
+use Rattle.buffer.proofs.Filled.{added-none}
 use Rattle.fields.specs.Each.{flat}
 use Rattle.fields.specs.Search.{fieldsOf}
 use Rattle.fields.specs.declared.Third.{Third}
@@ -17,13 +12,6 @@ use borrow.Author.Needs.{needs}
 use Rattle.fields.proofs.put.Statement.{statement}
 use Rattle.fields.proofs.put.Tie as tie
 
-nothing-added : (f : Filled) → f ≡ added f []
-nothing-added f = go (leb (f .len) (length (f .bytes))) refl
-  where
-    go : (t : Bool) → leb (f .len) (length (f .bytes)) ≡ t → f ≡ added f []
-    go true e = added-none f (leb-true (f .len) (length (f .bytes)) e)
-    go false e = sym (added-not f [] (omega (arith, leb-false (f .len) (length (f .bytes)) e)))
-
 module _ (x : Third) (a b at : ℕ) (out : List ℕ) where
   one : (d r : ℕ) (out′ : List ℕ) → x ≡ At d → filled out′ r ≡ added (filled out at) (a ∷ b ∷ d ∷ []) → filled out′ r ≡ added (filled out at) (flat (fieldsOf a b x))
   unfolding fieldsOf flat
@@ -31,7 +19,7 @@ module _ (x : Third) (a b at : ℕ) (out : List ℕ) where
 
   none : x ≡ Nowhere → filled out at ≡ added (filled out at) (flat (fieldsOf a b x))
   unfolding fieldsOf flat
-  none e = rw e (nothing-added (filled out at))
+  none e = rw e (added-none (filled out at))
 
 enum-known-x : tie.Need-enum-known-x
 enum-known-x c = search needs
