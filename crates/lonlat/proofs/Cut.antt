@@ -1,15 +1,18 @@
 -- The digits of a size, the last of them taken as 0, say the size cut to the width that is left, and minutes below 60.
 -- Assumes nothing.
-use mathlib.Core.Path.{_≡_, _∙_}
+use mathlib.Core.Path.{_≡_, sym, ap, _∙_}
 use mathlib.Core.Bool.{false}
-use mathlib.Core.List.{List}
+use mathlib.Core.List.{List, [], _∷_, _++_, append-assoc}
 use Prim.Native.Nat.{ℕ, zero, suc, _+_, _-_, _*_, _/_, _%_, _<_, _≤_}
 use native.Mathlib.Omega.{arith}
 use borrow.Author.Tests.{lt-leb}
+use lib.ListN.{length, take, drop, replicate, length-append}
+use lib.Seq.{take-append-add, take-at, drop-at}
 use Rattle.laws.specs.Bytes.{digit0}
 use Rattle.lonlat.specs.Angle.{mostLatitude, mostLongitude, widthOf, cutTo}
 use Rattle.lonlat.specs.Digits.{lastAs, degreesOf, minutesOf, hundredthsOf, valueOf, isSixty, placesOf}
 use Rattle.numbers.specs.Numbers.{numberAfter, numberOf, digitOf, digitsOf}
+use Rattle.numbers.proofs.Counts.{number-append}
 
 -- one case for each number of blanks
 pub up-to-five : (P : ℕ → Type 0) → P 0 → P 1 → P 2 → P 3 → P 4 → P 5 → (n : ℕ) → n ≤ 5 → P n
@@ -64,73 +67,106 @@ module _ {size x d a b e f : ℕ} (r : ByDigits size x d a b e f) where
   cut₅ : 60000 * x + 6000 * 0 + 1000 * 0 + 100 * 0 + 10 * 0 + 0 ≡ size - size % 60000
   cut₅ = omega (arith, r .whole)
 
-six : (a b c d e f : ℕ) → 6000 * (10 * (10 * 0 + a) + b) + 100 * (10 * (10 * 0 + c) + d) + (10 * (10 * 0 + e) + f) ≡ 60000 * a + 6000 * b + 1000 * c + 100 * d + 10 * e + f
-six a b c d e f = omega arith
+-- ---- the last five places, and p in front of them
 
-seven : (g a b c d e f : ℕ) → 6000 * (10 * (10 * (10 * 0 + g) + a) + b) + 100 * (10 * (10 * 0 + c) + d) + (10 * (10 * 0 + e) + f)
-    ≡ 60000 * (10 * g + a) + 6000 * b + 1000 * c + 100 * d + 10 * e + f
-seven g a b c d e f = omega arith
+module _ (p : List ℕ) (x a b e f : ℕ) where
+  abbrev behind : List ℕ
+  behind = a ∷ b ∷ e ∷ f ∷ []
+
+  degrees : List ℕ
+  degrees = p ++ (x ∷ [])
+
+  -- four of them are not degrees
+  parted : p ++ (x ∷ behind) ≡ degrees ++ behind
+  unfolding degrees
+  parted = sym (append-assoc p (x ∷ []) behind)
+
+  to-degrees : length degrees ≡ length (degrees ++ behind) - 4
+  to-degrees = rw (length-append degrees behind) (omega arith)
+
+  degrees-five : degreesOf (p ++ (x ∷ behind)) ≡ 10 * numberOf p + (x - digit0)
+  unfolding degreesOf numberOf numberAfter degrees
+  degrees-five = rw parted (ap numberOf (take-at degrees behind _ to-degrees) ∙ number-append 0 p (x ∷ []))
+
+  minutes-five : minutesOf (p ++ (x ∷ behind)) ≡ 10 * (a - digit0) + (b - digit0)
+  unfolding minutesOf numberOf numberAfter
+  minutes-five = rw parted (ap (λ (t : List ℕ). numberOf (take 2 t)) (drop-at degrees behind _ to-degrees) ∙ omega arith)
+
+  hundredths-five : hundredthsOf (p ++ (x ∷ behind)) ≡ 10 * (e - digit0) + (f - digit0)
+  unfolding hundredthsOf numberOf numberAfter
+  hundredths-five = rw parted (ap (λ (t : List ℕ). numberOf (drop 2 t)) (drop-at degrees behind _ to-degrees) ∙ omega arith)
+
+  value-five : valueOf (p ++ (x ∷ behind)) ≡ 60000 * numberOf p + 6000 * (x - digit0) + 1000 * (a - digit0) + 100 * (b - digit0) + 10 * (e - digit0) + (f - digit0)
+  unfolding valueOf
+  value-five = rw (degrees-five, minutes-five, hundredths-five) (omega arith)
+
+  low-five : 10 * (a - digit0) + (b - digit0) < 60 → isSixty (p ++ (x ∷ behind)) ≡ false
+  unfolding isSixty
+  low-five h = rw minutes-five (lt-leb 60 (10 * (a - digit0) + (b - digit0)) h)
+
+last-behind : (b n : ℕ) (p t : List ℕ) → n ≤ length t → lastAs b n (p ++ t) ≡ p ++ lastAs b n t
+unfolding lastAs
+last-behind b n p t few =
+    let e : length (p ++ t) - n ≡ length p + (length t - n) = omega (arith, length-append p t) in
+    rw (e, take-append-add p t (length t - n)) (append-assoc p (take (length t - n) t) (replicate n b))
+
+-- ---- the places of a size, more than one for the degrees
+
+module _ (k size : ℕ) where
+  abbrev before : List ℕ
+  before = digitsOf k (size / 6000 / 10)
+
+  abbrev five : List ℕ
+  five = digitOf (size / 6000) ∷ digitOf (size / 100 % 60 / 10) ∷ digitOf (size / 100 % 60) ∷ digitOf (size % 100 / 10) ∷ digitOf (size % 100) ∷ []
+
+  -- at most five of them are taken as 0
+  taken : (n : ℕ) → n ≤ 5 → lastAs digit0 n (placesOf (suc k) size) ≡ before ++ lastAs digit0 n five
+  unfolding placesOf digitsOf
+  taken n few =
+      let x = digitOf (size / 6000) ∷ [] in
+      ap (lastAs digit0 n) (append-assoc (before ++ x) (digitsOf 2 (size / 100 % 60)) (digitsOf 2 (size % 100)) ∙ append-assoc before x _)
+      ∙ last-behind digit0 n before five few
+
+  pub places-cut : numberOf before ≡ size / 6000 / 10 → (n : ℕ) → n ≤ 5 → valueOf (lastAs digit0 n (placesOf (suc k) size)) ≡ cutTo n size
+  unfolding lastAs widthOf cutTo
+  places-cut whole n few =
+      let r = by-digits size in
+      ap valueOf (taken n few)
+      ∙ up-to-five (λ n. valueOf (before ++ lastAs digit0 n five) ≡ cutTo n size)
+      (value-five before _ _ _ _ _ ∙ simp (shown, whole) (cut₀ r))
+      (value-five before _ _ _ _ _ ∙ simp (shown, whole) (cut₁ r))
+      (value-five before _ _ _ _ _ ∙ simp (shown, whole) (cut₂ r))
+      (value-five before _ _ _ _ _ ∙ simp (shown, whole) (cut₃ r))
+      (value-five before _ _ _ _ _ ∙ simp (shown, whole) (cut₄ r))
+      (value-five before _ _ _ _ _ ∙ simp whole (cut₅ r))
+      n few
+
+  both-digits : 10 * (digitOf (size / 100 % 60 / 10) - digit0) + (digitOf (size / 100 % 60) - digit0) < 60
+  both-digits = simp shown (omega arith)
+
+  tens-alone : 10 * (digitOf (size / 100 % 60 / 10) - digit0) + (digit0 - digit0) < 60
+  tens-alone = simp shown (omega arith)
+
+  -- the minutes that are left are below 60
+  pub places-minutes : (n : ℕ) → n ≤ 5 → isSixty (lastAs digit0 n (placesOf (suc k) size)) ≡ false
+  unfolding lastAs
+  places-minutes n few =
+      ap isSixty (taken n few)
+      ∙ up-to-five (λ n. isSixty (before ++ lastAs digit0 n five) ≡ false)
+      (low-five before _ _ _ _ _ both-digits)
+      (low-five before _ _ _ _ _ both-digits)
+      (low-five before _ _ _ _ _ both-digits)
+      (low-five before _ _ _ _ _ tens-alone)
+      (low-five before _ _ _ _ _ (omega arith))
+      (low-five before _ _ _ _ _ (omega arith))
+      n few
+
+-- ---- two places of degrees, and three
 
 pub latitude-cut : (size : ℕ) → size ≤ mostLatitude → (n : ℕ) → n ≤ 5 → valueOf (lastAs digit0 n (placesOf 2 size)) ≡ cutTo n size
-unfolding lastAs placesOf digitsOf valueOf degreesOf minutesOf hundredthsOf numberOf numberAfter widthOf cutTo
-latitude-cut size h =
-    let r = by-digits size in
-    let x : size / 6000 / 10 % 10 ≡ size / 6000 / 10 = omega arith in
-    up-to-five (λ n. valueOf (lastAs digit0 n (placesOf 2 size)) ≡ cutTo n size)
-    (simp (shown, x) (six _ _ _ _ _ _ ∙ cut₀ r))
-    (simp (shown, x) (six _ _ _ _ _ 0 ∙ cut₁ r))
-    (simp (shown, x) (six _ _ _ _ 0 0 ∙ cut₂ r))
-    (simp (shown, x) (six _ _ _ 0 0 0 ∙ cut₃ r))
-    (simp (shown, x) (six _ _ 0 0 0 0 ∙ cut₄ r))
-    (simp (shown, x) (six _ 0 0 0 0 0 ∙ cut₅ r))
+unfolding digitsOf numberOf numberAfter
+latitude-cut size h = places-cut 1 size (simp shown (omega arith))
 
 pub longitude-cut : (size : ℕ) → size ≤ mostLongitude → (n : ℕ) → n ≤ 5 → valueOf (lastAs digit0 n (placesOf 3 size)) ≡ cutTo n size
-unfolding lastAs placesOf digitsOf valueOf degreesOf minutesOf hundredthsOf numberOf numberAfter widthOf cutTo
-longitude-cut size h =
-    let r = by-digits size in
-    let x = two (size / 6000 / 10) (omega arith) in
-    up-to-five (λ n. valueOf (lastAs digit0 n (placesOf 3 size)) ≡ cutTo n size)
-    (simp shown (seven _ _ _ _ _ _ _ ∙ rw x (cut₀ r)))
-    (simp shown (seven _ _ _ _ _ _ 0 ∙ rw x (cut₁ r)))
-    (simp shown (seven _ _ _ _ _ 0 0 ∙ rw x (cut₂ r)))
-    (simp shown (seven _ _ _ _ 0 0 0 ∙ rw x (cut₃ r)))
-    (simp shown (seven _ _ _ 0 0 0 0 ∙ rw x (cut₄ r)))
-    (simp shown (seven _ _ 0 0 0 0 0 ∙ rw x (cut₅ r)))
-
--- ---- the minutes that are left are below 60
-
-below-sixty : (t : List ℕ) → minutesOf t < 60 → isSixty t ≡ false
-unfolding isSixty
-below-sixty t h = lt-leb 60 (minutesOf t) h
-
-tens-first : (size : ℕ) → 10 * (10 * 0 + size / 100 % 60 / 10 % 10) + 0 < 60
-tens-first size = omega arith
-
-both-digits : (size : ℕ) → 10 * (10 * 0 + size / 100 % 60 / 10 % 10) + size / 100 % 60 % 10 < 60
-both-digits size = omega arith
-
-pub latitude-minutes : (size n : ℕ) → n ≤ 5 → isSixty (lastAs digit0 n (placesOf 2 size)) ≡ false
-unfolding lastAs placesOf digitsOf minutesOf numberOf numberAfter
-latitude-minutes size n few =
-    below-sixty (lastAs digit0 n (placesOf 2 size))
-    (up-to-five (λ n. minutesOf (lastAs digit0 n (placesOf 2 size)) < 60)
-    (simp shown (both-digits size))
-    (simp shown (both-digits size))
-    (simp shown (both-digits size))
-    (simp shown (tens-first size))
-    (omega arith)
-    (omega arith)
-    n few)
-
-pub longitude-minutes : (size n : ℕ) → n ≤ 5 → isSixty (lastAs digit0 n (placesOf 3 size)) ≡ false
-unfolding lastAs placesOf digitsOf minutesOf numberOf numberAfter
-longitude-minutes size n few =
-    below-sixty (lastAs digit0 n (placesOf 3 size))
-    (up-to-five (λ n. minutesOf (lastAs digit0 n (placesOf 3 size)) < 60)
-    (simp shown (both-digits size))
-    (simp shown (both-digits size))
-    (simp shown (both-digits size))
-    (simp shown (tens-first size))
-    (omega arith)
-    (omega arith)
-    n few)
+unfolding digitsOf numberOf numberAfter
+longitude-cut size h = places-cut 2 size (simp shown (omega (arith, two (size / 6000 / 10) (omega arith))))

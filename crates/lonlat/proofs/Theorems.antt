@@ -26,7 +26,7 @@ use Rattle.lonlat.specs.Latitude.{blanksIn, restBlank, countedDigits, is
 use Rattle.lonlat.specs.Longitude.{isEastOrWest, longitudeWith, longitudeIn, longitudePlaces, readLongitude, eastOrWest, longitudeText}
 use Rattle.numbers.proofs.Sign.{rejoined, size-signed, side-signed}
 use Rattle.lonlat.proofs.Texts.{every-last, places-are, six-places, seven-places, blanked-six, blanked-latitude, latitude-of-text, longitude-of-text}
-use Rattle.lonlat.proofs.Cut.{latitude-cut, longitude-cut, latitude-minutes, longitude-minutes}
+use Rattle.lonlat.proofs.Cut.{latitude-cut, longitude-cut, places-minutes}
 
 -- ---- P12
 
@@ -198,7 +198,7 @@ latitude-back : (size blanks letter : ℕ) → size ≤ mostLatitude → blanks 
 unfolding blankedPlaces latitudeWith
 latitude-back size blanks letter h few e =
     blanked-latitude (placesOf 2 size) (places-are 2 size) blanks (rw (six-places size) (omega arith)) few letter e
-    ∙ ap (latitudeWith blanks (eqb letter capitalS)) (places-angle mostLatitude 2 blanks size (eqb letter capitalS) h (latitude-cut size h blanks few) (latitude-minutes size blanks few))
+    ∙ ap (latitudeWith blanks (eqb letter capitalS)) (places-angle mostLatitude 2 blanks size (eqb letter capitalS) h (latitude-cut size h blanks few) (places-minutes 1 size blanks few))
 
 module _ (angle : ℤ) where
   north-or-south : isNorthOrSouth (northOrSouth angle) ≡ true
@@ -236,7 +236,7 @@ module _ (angle : ℤ) where
     unfolding longitudeText cutAngle longitudeIn longitudeWith
     longitude-reads-cut h =
         longitude-of-text (placesOf 3 (natAbs angle)) (eastOrWest angle) (seven-places (natAbs angle)) blanks few
-        ∙ rw (east-or-west, west-minus, places-angle mostLongitude 3 blanks (natAbs angle) (isMinus angle) h (longitude-cut (natAbs angle) h blanks few) (longitude-minutes (natAbs angle) blanks few))
+        ∙ rw (east-or-west, west-minus, places-angle mostLongitude 3 blanks (natAbs angle) (isMinus angle) h (longitude-cut (natAbs angle) h blanks few) (places-minutes 2 (natAbs angle) blanks few))
 
   pub longitude-reads-back : natAbs angle ≤ mostLongitude → readLongitude (longitudeText angle) 0 ≡ lon.Read (record { 0 = angle }) (isMinus angle) false
   unfolding widthOf
