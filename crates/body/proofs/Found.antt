@@ -14,6 +14,7 @@ use Rattle.callsign.specs.Range.{callPart, isBlankCall}
 use Rattle.lonlat.specs.Angle.{mostLatitude, mostLongitude}
 use Rattle.position.specs.Reach.{inReach}
 use Rattle.position.specs.Position.{fixedBytes, readPosition, placeInRange, symbolsInRange}
+use Rattle.position.proofs.Lengths.{position-long}
 use Rattle.position.proofs.Theorems.{read-position-answered}
 use Rattle.mic_e.specs.declared.Destination.{Destination}
 use Rattle.mic_e.specs.declared.DestinationRead.{DestinationRead}
@@ -24,14 +25,13 @@ use Rattle.mic_e.specs.Message.{messageNumber}
 use Rattle.mic_e.specs.Motion.{mostSpeed, mostCourse}
 use Rattle.mic_e.specs.Destination.{readDestination}
 use Rattle.mic_e.specs.Information.{readInformation}
-use Rattle.mic_e.proofs.Theorems.{read-destination-found, read-information-found}
+use Rattle.mic_e.proofs.Theorems.{read-destination-found, read-information-found, information-long}
 use Rattle.body.specs.declared.Kind.the-variants.{Position, MicE}
 use Rattle.body.specs.declared.Opening.{Opening}
 use Rattle.body.specs.declared.Opening.the-variants.{Unported, Untimed, Mic, Other}
 use Rattle.body.specs.declared.BodyRead.{BodyRead}
 use Rattle.body.specs.Body.{noReport, noComment, blankBody, bodyAccepted, bodyRefused, openingOf, commentFrom, positionBody, reportBody, micEBody, bodyAfter, readBody}
 use Rattle.body.specs.Range.{isNoPlace, isNoReport, isShort, motionInRange, unknownInRange, positionInRange, micEInRange, inRangeAs, bodyInRange, exceptedAs, isExcepted}
-use Rattle.body.proofs.Longer.{position-long, information-long}
 
 no-report : isNoReport noReport ≡ true
 unfolding isNoReport noReport messageNumber

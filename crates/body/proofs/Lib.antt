@@ -1,4 +1,3 @@
-pub mod Longer
 pub mod Tests
 pub mod Reading
 pub mod Judged

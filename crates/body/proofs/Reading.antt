@@ -12,6 +12,7 @@ use Rattle.callsign.specs.declared.Callsign.{Callsign}
 use Rattle.callsign.specs.Range.{callPart}
 use Rattle.position.specs.declared.PositionRead.{PositionRead}
 use Rattle.position.specs.Position.{fixedBytes, readPosition}
+use Rattle.position.proofs.Lengths.{position-long}
 use Rattle.mic_e.specs.declared.Destination.{Destination}
 use Rattle.mic_e.specs.declared.DestinationRead.{DestinationRead}
 use Rattle.mic_e.specs.declared.DestinationRead.the-variants as destination
@@ -20,6 +21,7 @@ use Rattle.mic_e.specs.declared.InformationRead.{InformationRead}
 use Rattle.mic_e.specs.declared.InformationRead.the-variants as information
 use Rattle.mic_e.specs.Destination.{readDestination, destinationNumber}
 use Rattle.mic_e.specs.Information.{readInformation, informationNumber}
+use Rattle.mic_e.proofs.Theorems.{information-long, not-six}
 use Rattle.body.specs.declared.Kind.the-variants.{Position, MicE}
 use Rattle.body.specs.declared.Report.{Report}
 use Rattle.body.specs.declared.Comment.{Comment}
@@ -28,7 +30,6 @@ use Rattle.body.specs.declared.Opening.the-variants.{Unported, Untimed, 
 use Rattle.body.specs.declared.Body.{Body}
 use Rattle.body.specs.declared.BodyRead.{BodyRead}
 use Rattle.body.specs.Body.{noReport, blankBody, bodyAccepted, bodyRefused, openingOf, commentFrom, positionBody, reportBody, micEBody, bodyAfter, readBody}
-use Rattle.body.proofs.Longer.{position-long, information-long, not-six}
 
 -- ---- a position
 

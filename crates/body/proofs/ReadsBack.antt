@@ -21,7 +21,7 @@ use Rattle.mic_e.specs.Destination.{readDestination, destinationBytes}
 use Rattle.mic_e.specs.Information.{informationBytes}
 use Rattle.mic_e.proofs.Range.{in-all}
 use Rattle.mic_e.proofs.DestinationFacts.{destination-reads-back}
-use Rattle.mic_e.proofs.Theorems.{destinationFor, ReadsBack, report-reads-back}
+use Rattle.mic_e.proofs.Theorems.{destinationFor, ReadsBack, report-reads-back, information-length}
 use Rattle.body.specs.declared.Kind.{Kind}
 use Rattle.body.specs.declared.Kind.the-variants.{MicE}
 use Rattle.body.specs.declared.Opening.the-variants.{Mic}
@@ -29,7 +29,6 @@ use Rattle.body.specs.declared.Body.{Body}
 use Rattle.body.specs.Body.{bodyAccepted, openingOf, commentFrom, reportBody, micEBody, bodyAfter, readBody}
 use Rattle.body.specs.Range.{inRangeAs, bodyInRange}
 use Rattle.body.specs.Written.{micECall, toAs, writtenTo, informationOf, micEBytes, bytesAs, bodyBytes}
-use Rattle.body.proofs.Longer.{information-length}
 use Rattle.body.proofs.Judged.{Reported, mic-e-held}
 
 -- a body with its comment at that place and of that length

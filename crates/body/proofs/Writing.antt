@@ -23,11 +23,13 @@ use Rattle.callsign.specs.Range.{isBlankCall}
 use Rattle.callsign.specs.Address.{ssidOf, ssidText}
 use Rattle.position.specs.declared.Place.{Place}
 use Rattle.position.specs.Position.{placeInRange, symbolsInRange, positionText, positionRefusal}
+use Rattle.position.proofs.Lengths.{position-length}
 use Rattle.mic_e.specs.declared.Message.{Message}
 use Rattle.mic_e.specs.declared.DestinationWritten.{DestinationWritten}
 use Rattle.mic_e.specs.Destination.{destinationBytes, destinationRefusal, writeDestination}
 use Rattle.mic_e.specs.Information.{informationBytes, informationOut, informationRefusal}
 use Rattle.mic_e.proofs.DestinationFacts.{destination-length}
+use Rattle.mic_e.proofs.Theorems.{information-length}
 use Rattle.body.specs.declared.Kind.{Kind}
 use Rattle.body.specs.declared.Kind.the-variants.{Unknown, Position, MicE}
 use Rattle.body.specs.declared.Report.{Report}
@@ -35,7 +37,6 @@ use Rattle.body.specs.declared.Body.{Body}
 use Rattle.body.specs.declared.BodyWritten.{BodyWritten}
 use Rattle.body.specs.Range.{isNoReport, isShort, motionInRange, unknownInRange, positionInRange, micEInRange, inRangeAs, bodyInRange}
 use Rattle.body.specs.Written.{micECall, toAs, writtenTo, informationOf, positionBytes, micEBytes, bytesAs, bodyBytes, kindRefusal, unwritten, writtenAs, writeBody}
-use Rattle.body.proofs.Longer.{position-length, information-length}
 use Rattle.body.proofs.Judged.{destination-judges, information-judges}
 
 -- ---- in range or not, from a chain of tests

@@ -5,7 +5,6 @@ ghost use mathlib.Core.Bool.{cond};
 ghost use mathlib.Core.List.{[]};
 ghost use Prim.Native.Nat.{_+_, _≤_};
 ghost use lib.ListN.{length, drop};
-ghost use Rattle.laws.specs.Bytes.{bang, equals, backquote, apostrophe};
 ghost use Rattle.callsign.specs.Range.{callPart};
 ghost use Rattle.position.specs.Position.{fixedBytes, readPosition};
 ghost use Rattle.mic_e.specs.Destination.{readDestination, destinationBytes};
@@ -328,13 +327,14 @@ fn write_unknown(b: Body, to: Callsign) -> BodyWritten
     }
 }
 
-fn position_type(messaging: bool) -> u8
-    ensures { λ r. ⌜ r ≡ cond messaging equals bang ⌝ }
+// The type byte of a body whose flag is set, or not.
+fn type_byte(flag: bool, yes: u8, no: u8) -> u8
+    ensures { λ r. ⌜ r ≡ cond flag yes no ⌝ }
 {
-    if messaging {
-        return b'=';
+    if flag {
+        return yes;
     }
-    b'!'
+    no
 }
 
 fn write_position(b: Body, to: Callsign) -> BodyWritten
@@ -343,7 +343,7 @@ fn write_position(b: Body, to: Callsign) -> BodyWritten
     if !is_no_report(b.report) {
         return unwritten();
     }
-    let mut bytes = [position_type(b.messaging); 20];
+    let mut bytes = [type_byte(b.messaging, b'=', b'!'); 20];
     let p = position::write_position(b.place, &mut bytes[1..]);
     if p.refusal != 0 {
         return unwritten();
@@ -354,15 +354,6 @@ fn write_position(b: Body, to: Callsign) -> BodyWritten
         len: 20,
         refusal: 0,
     }
-}
-
-fn report_type(current: bool) -> u8
-    ensures { λ r. ⌜ r ≡ cond current backquote apostrophe ⌝ }
-{
-    if current {
-        return b'`';
-    }
-    b'\''
 }
 
 // The information of a Mic-E report behind its type byte, with the characters of its destination.
@@ -385,7 +376,7 @@ fn write_report(place: Place, report: Report, call: [u8; 6]) -> BodyWritten
     if w.refusal != 0 {
         return unwritten();
     }
-    bytes[0] = report_type(report.current);
+    bytes[0] = type_byte(report.current, b'`', b'\'');
     let to = callsign::address_call(call, 6, 0);
     BodyWritten {
         to,

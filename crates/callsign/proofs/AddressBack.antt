@@ -6,7 +6,7 @@ use mathlib.Core.Bool.{Bool, true, false, cond, not, _&&_}
 use mathlib.Core.List.{List, [], _∷_, _++_, map}
 use Prim.Native.Nat.{ℕ, zero, suc, _+_, _-_, _*_, _/_, _%_, _<_, _≤_}
 use native.Mathlib.Omega.{arith}
-use borrow.Author.Tests.{lt-ltb, eq-eqb, ne-eqb, eqb-true, ltb-true, ltb-false, leb-true}
+use borrow.Author.Tests.{lt-ltb, eq-eqb, ne-eqb, eqb-true, ltb-false, leb-true}
 use lib.Dec.{T, eqb, ltb, leb}
 use lib.ListN.{length, getD, take, replicate, length-append}
 use lib.Seq.{take-at, getD-at, length-take-le}
@@ -19,14 +19,13 @@ use Rattle.callsign.specs.declared.AddressRead.{AddressRead}
 use Rattle.callsign.specs.declared.Field.{Field}
 use Rattle.numbers.specs.declared.Count.{Count}
 use Rattle.numbers.specs.declared.Count.the-variants.{Is, Over, Bad}
-use Rattle.callsign.specs.Utf8.{utf8}
+use Rattle.callsign.specs.Utf8.{ascii}
 use Rattle.callsign.specs.Text.{joined, made, isZero}
 use Rattle.callsign.specs.Range.{inRange, callPart, ssidPart}
 use Rattle.callsign.specs.Address.{ssidOf, heardOf, lastOf, Unpacked, malformed, call, onto, areSpaces, unpacked, ssidText, addressRefused, addressOf, readAddress}
 use Rattle.callsign.specs.Packed.{ssidNumber, seventhOf, sent, unwrittenBy, packedAs, packedBy, writeAddress}
-use Rattle.callsign.proofs.Unicode.{ascii-front}
+use Rattle.callsign.proofs.Unicode.{ascii-utf8}
 use Rattle.callsign.proofs.Numbers.{ssid-small}
-use Rattle.callsign.proofs.Ranges.{utf8-none}
 use Rattle.callsign.proofs.Bits.{heardIn, ssid-back, heard-back, last-back}
 use Rattle.callsign.proofs.Sends.{raises, six-sent}
 use Rattle.callsign.proofs.Characters.{address-as}
@@ -151,17 +150,10 @@ address-refusal s = go (eqb (length s) 7) (unpacked (take 6 s))
 
 -- ---- what is read is in range
 
-abbrev pub isAscii : ℕ → Bool
-isAscii c = ltb c 0x80
-
-pub ascii-utf8 : (cs : List ℕ) → every isAscii cs ≡ true → utf8 cs ≡ true
-ascii-utf8 [] e = utf8-none
-ascii-utf8 (c ∷ cs) e = ascii-front c cs (ltb-true c 0x80 (every-first isAscii c cs e)) ∙ ascii-utf8 cs (every-rest isAscii c cs e)
-
 -- a call that is unpacked is short and ASCII
 Plain : ℕ → Unpacked → Type 0
 Plain n malformed = T true
-Plain n (call cs) = (length cs ≤ n) × (every isAscii cs ≡ true)
+Plain n (call cs) = (length cs ≤ n) × (every ascii cs ≡ true)
 
 plain : (bs : List ℕ) → Plain (length bs) (unpacked bs)
 unfolding Plain unpacked onto every
@@ -180,23 +172,23 @@ plain (b ∷ bs) = go (lastOf b) (eqb (b / 2) space) (areSpaces bs) (isLetterOrD
 -- an SSID's text: computed at each number
 fit : ℕ → Bool
 unfolding ssidText
-fit n = every isAscii (ssidText n) && not (isZero (ssidText n)) && leb (length (ssidText n)) 2
+fit n = every ascii (ssidText n) && not (isZero (ssidText n)) && leb (length (ssidText n)) 2
 
 fits : T (all 16 fit)
 unfolding fit ssidText every isZero
 fits = tt
 
 record Fit (n : ℕ) : Type 0 where
-  ascii : every isAscii (ssidText n) ≡ true
+  plain-text : every ascii (ssidText n) ≡ true
   nonzero : isZero (ssidText n) ≡ false
   short : length (ssidText n) ≤ 2
 
 fit-at : (n : ℕ) → n < 16 → Fit n
 unfolding fit
-fit-at n h = go (every isAscii (ssidText n)) (isZero (ssidText n)) (leb (length (ssidText n)) 2) refl refl refl (all-at 16 fit fits n h)
+fit-at n h = go (every ascii (ssidText n)) (isZero (ssidText n)) (leb (length (ssidText n)) 2) refl refl refl (all-at 16 fit fits n h)
   where
-    go : (x y z : Bool) → every isAscii (ssidText n) ≡ x → isZero (ssidText n) ≡ y → leb (length (ssidText n)) 2 ≡ z → T (x && not y && z) → Fit n
-    go true false true a b c t = record { ascii = a; nonzero = b; short = leb-true (length (ssidText n)) 2 c }
+    go : (x y z : Bool) → every ascii (ssidText n) ≡ x → isZero (ssidText n) ≡ y → leb (length (ssidText n)) 2 ≡ z → T (x && not y && z) → Fit n
+    go true false true a b c t = record { plain-text = a; nonzero = b; short = leb-true (length (ssidText n)) 2 c }
     go true false false a b c t = absurd t
     go true true z a b c t = absurd t
     go false y z a b c t = absurd t
@@ -211,7 +203,7 @@ unfolding Plain addressOf addressRefused ssidOf
 unpacked-range malformed s h = blank-range
 unpacked-range (call cs) s h =
     let f = fit-at (s / 2 % 16) (omega arith) in
-    made-range cs (ssidText (s / 2 % 16)) (joined-short cs _ (h .0) (f .short)) (ascii-utf8 cs (h .1)) (ascii-utf8 _ (f .ascii)) (f .nonzero)
+    made-range cs (ssidText (s / 2 % 16)) (joined-short cs _ (h .0) (f .short)) (ascii-utf8 cs (h .1)) (ascii-utf8 _ (f .plain-text)) (f .nonzero)
 
 plain-six : (b : List ℕ) → length b ≡ 7 → Plain 6 (unpacked (take 6 b))
 plain-six b h = rw (sixth) at (plain (take 6 b))

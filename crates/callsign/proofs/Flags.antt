@@ -11,10 +11,10 @@ use borrow.Author.Tests.{lt-ltb, le-ltb, ltb-true, ltb-false}
 use lib.ListN.{length, take, drop, getD, drop-of-length-le}
 use Rattle.laws.specs.Lists.{every, zeros}
 use Rattle.laws.proofs.Lists.{next}
-use Rattle.laws.proofs.Each.{every-first, every-rest, every-take}
-use Rattle.callsign.specs.Utf8.{ascii, characters, utf8}
+use Rattle.laws.proofs.Each.{every-take}
+use Rattle.callsign.specs.Utf8.{ascii}
 use Rattle.callsign.specs.Range.{sound}
-use Rattle.callsign.proofs.Unicode.{ascii-after}
+use Rattle.callsign.proofs.Unicode.{ascii-utf8}
 
 -- ---- every byte of a test
 
@@ -61,17 +61,9 @@ behind-more b fine l n i h e = e ∙ rw (next 0 l i h, add-one) (sym (and-assoc 
 pub behind-end : (b fine : Bool) (l : List ℕ) (n i m : ℕ) → length l ≡ m → m ≤ i → b ≡ (fine && behind n i (drop i l)) → fine ≡ b
 behind-end b fine l n i m w h e = let k : length l ≤ i = omega arith in sym (e ∙ rw (drop-of-length-le l k) (and-true fine))
 
--- ---- ASCII is UTF-8
-
-ascii-text : (l : List ℕ) → every ascii l ≡ true → utf8 l ≡ true
-unfolding utf8 characters
-ascii-text [] e = refl
-ascii-text (x ∷ l) e = rw (ascii-after x (ltb-true x 0x80 (every-first ascii x l e))) (ascii-text l (every-rest ascii x l e))
-
-pub ascii-front : (l : List ℕ) (n : ℕ) → every ascii l ≡ true → utf8 (take n l) ≡ true
-ascii-front l n e = ascii-text (take n l) (every-take ascii n l e)
+-- ---- ASCII
 
 -- a text of ASCII, whose spare bytes alone are left to test
 pub sound-by-ascii : (u r : Bool) (l : List ℕ) (n : ℕ) → u ≡ every ascii l → u ≡ true → r ≡ zeros (drop n l) → r ≡ sound l n
 unfolding sound
-sound-by-ascii u r l n e t q = rw (ascii-front l n (sym e ∙ t)) q
+sound-by-ascii u r l n e t q = rw (ascii-utf8 (take n l) (every-take ascii n l (sym e ∙ t))) q

@@ -8,11 +8,13 @@ use native.Mathlib.Omega.{arith}
 use lib.Dec.{T, eqb, leb, eqb→eq}
 use borrow.Rule.Slice.PartAt.{part-to-end}
 use lib.ListN.{length, take, drop, getD, replicate, drop-of-length-le}
-use borrow.Author.Tests.{le-leb, lt-leb, ne-eqb}
+use borrow.Author.Tests.{le-leb, lt-leb, ne-eqb, ltb-true}
 use Rattle.laws.specs.Bytes.{within}
+use Rattle.laws.specs.Lists.{every}
+use Rattle.laws.proofs.Each.{every-first, every-rest}
 use Rattle.laws.proofs.Every.{all, all-at, and-left, and-right}
 use Rattle.laws.proofs.Lists.{next}
-use Rattle.callsign.specs.Utf8.{Span, tail, never, after, owed, characters, utf8}
+use Rattle.callsign.specs.Utf8.{Span, tail, never, after, ascii, owed, characters, utf8}
 
 -- ---- the table
 
@@ -124,6 +126,12 @@ none-begun t = refl
 pub ascii-front : (b : ℕ) (l : List ℕ) → b < 0x80 → utf8 (b ∷ l) ≡ utf8 l
 unfolding utf8 characters
 ascii-front b l h = rw (ascii-after b h)
+
+-- and nothing else
+pub ascii-utf8 : (l : List ℕ) → every ascii l ≡ true → utf8 l ≡ true
+unfolding utf8 characters
+ascii-utf8 [] e = refl
+ascii-utf8 (b ∷ l) e = ascii-front b l (ltb-true b 0x80 (every-first ascii b l e)) ∙ ascii-utf8 l (every-rest ascii b l e)
 
 module _ (t : List ℕ) (i : ℕ) (e : utf8 t ≡ utf8 (drop i t)) where
   pub front-more : i < length t → getD t i 0 < 0x80 → utf8 t ≡ utf8 (drop (i + 1) t)

@@ -1,20 +1,41 @@
--- A character as written says the digit or blank and the bit or flag that it was written for.
+-- A character is ASCII; and as written it says the digit or blank and the bit or flag that it was written for.
 -- Assumes nothing.
 use mathlib.Core.Path.{_≡_, refl, _∙_}
 use mathlib.Core.Logic.{⊎-elim}
-use mathlib.Core.Bool.{Bool, true, false, cond, not, _&&_, _||_, Bool·beq}
+use mathlib.Core.Bool.{Bool, true, false, cond, not, _&&_, _||_, Bool·beq, false≢true}
 use Prim.Native.Nat.{ℕ, _≤_, _<_}
 use native.Mathlib.Omega.{arith}
-use lib.Dec.{T, eqb, eqb→eq}
-use borrow.Author.Tests.{eqb-true}
-use Rattle.laws.specs.Bytes.{space, digit0, digit9, capitalA, capitalK, within, isDigit}
+use lib.Dec.{T, eqb, ltb, eqb→eq}
+use borrow.Author.Tests.{eqb-true, lt-ltb}
+use Rattle.laws.specs.Bytes.{space, digit0, digit9, capitalA, capitalK, capitalL, capitalP, capitalZ, within, isDigit}
 use Rattle.laws.proofs.Every.{all, all-at, and-left, and-right, beq-eq}
-use Rattle.laws.proofs.Tests.{or-either, within-high}
+use Rattle.laws.proofs.Tests.{and-first, or-either, within-high}
 use Rattle.lonlat.specs.Latitude.{isDigitOrBlank}
 use Rattle.mic_e.specs.Character.{isCharacter, isLast, isFlagged, digitOf, bitOf, characterOf, flagBit}
 use Rattle.mic_e.specs.Message.{isCustom, isStandard}
 use Rattle.mic_e.specs.declared.Bit.{Bit}
 use Rattle.mic_e.specs.declared.Bit.the-variants.{Zero, Custom, Standard}
+
+-- ---- ASCII
+
+character-low : (c : ℕ) → isCharacter c ≡ true → c < 0x80
+unfolding isCharacter
+character-low c e = go (isDigit c) (within capitalA capitalL c) (within capitalP capitalZ c) refl refl refl e
+  where
+    go : (p q r : Bool) → isDigit c ≡ p → within capitalA capitalL c ≡ q → within capitalP capitalZ c ≡ r → (p || (q || r)) ≡ true → c < 0x80
+    go true q r f g h t = omega (arith, within-high digit0 digit9 c f)
+    go false true r f g h t = omega (arith, within-high capitalA capitalL c g)
+    go false false true f g h t = omega (arith, within-high capitalP capitalZ c h)
+    go false false false f g h t = absurd (false≢true t)
+
+pub character-ascii : (c : ℕ) → isCharacter c ≡ true → ltb c 0x80 ≡ true
+character-ascii c e = lt-ltb c 0x80 (character-low c e)
+
+pub last-ascii : (c : ℕ) → isLast c ≡ true → ltb c 0x80 ≡ true
+unfolding isLast
+last-ascii c e = character-ascii c (and-first (isCharacter c) (not (within capitalA capitalK c)) e)
+
+-- ---- as written
 
 -- a test of a bit and a byte that holds of each bit with each digit and with the blank, as antt computes it at each
 by-computing : (p : Bit → ℕ → Bool) → T (all 58 (λ d. not (isDigitOrBlank d) || (p Zero d && p Custom d && p Standard d)))

@@ -1,21 +1,22 @@
 -- The destination as written reads as what it was written for.
 -- Assumes nothing.
 use mathlib.Core.Path.{_≡_, refl, ap, _∙_}
-use mathlib.Core.Bool.{Bool, true, false, cond}
-use mathlib.Core.List.{List}
+use mathlib.Core.Bool.{Bool, true, false, cond, _&&_}
+use mathlib.Core.List.{List, [], _∷_}
 use Prim.Native.Nat.{ℕ, _%_, _<_, _≤_}
 use native.Mathlib.Omega.{arith}
-use lib.Dec.{eqb}
+use lib.Dec.{eqb, ltb}
 use lib.IntN.{ℤ, natAbs}
 use lib.ListN.{length, getD}
 use Rattle.laws.specs.Bytes.{capitalN, capitalS}
-use Rattle.laws.proofs.Tests.{picked}
+use Rattle.laws.specs.Lists.{every}
+use Rattle.laws.proofs.Tests.{and-first, and-second, picked}
 use Rattle.lonlat.specs.Angle.{mostLatitude, widthOf}
 use Rattle.numbers.specs.Sign.{isMinus}
 use Rattle.lonlat.specs.Latitude.{isDigitOrBlank, latitudeIn, latitudePlaces, readLatitude, blankedPlaces, northOrSouth, latitudeText}
 use Rattle.lonlat.proofs.Texts.{latitude-of-eight, latitude-of-text, blanked-six, blanked-at, latitude-text-places, latitude-text-letter}
 use Rattle.lonlat.proofs.Theorems.{latitude-reads-back}
-use Rattle.mic_e.specs.Character.{flagBit}
+use Rattle.mic_e.specs.Character.{isCharacter, isLast, flagBit}
 use Rattle.mic_e.specs.Longitude.{hundredOf}
 use Rattle.mic_e.specs.Message.{messageOf, messageBy, isOne, isCustom, isStandard, bitsOf}
 use Rattle.mic_e.specs.Destination.{areCharacters, textIn, destinationWith, readDestination, charactersOf, destinationBytes}
@@ -23,7 +24,7 @@ use Rattle.mic_e.specs.declared.Bits.{Bits}
 use Rattle.mic_e.specs.declared.Message.{Message}
 use Rattle.mic_e.specs.declared.Message.the-variants.{M0, M1, M2, M3, M4, M5, M6, C0, C1, C2, C3, C4, C5, C6, Emergency, Unknown}
 use Rattle.mic_e.specs.declared.DestinationRead.the-variants.{Read}
-use Rattle.mic_e.proofs.CharacterFacts.{Carries, carries, bit-back, flag-last, flag-back}
+use Rattle.mic_e.proofs.CharacterFacts.{Carries, carries, bit-back, flag-last, flag-back, character-ascii, last-ascii}
 
 -- the bits of a message as written read as the message
 pub message-reads-back : (m : Message) → messageOf (bitsOf m .first) (bitsOf m .second) (bitsOf m .third) ≡ m
@@ -120,6 +121,31 @@ pub destination-length : (latitude : ℤ) (blanks : ℕ) (m : Message) (longitud
 unfolding destinationBytes charactersOf
 destination-length latitude blanks m longitude = refl
 
-pub destination-stands : (latitude : ℤ) (blanks : ℕ) (m : Message) (longitude : ℤ) → blanks ≤ 5 → areCharacters (destinationBytes latitude blanks m longitude) ≡ true
+destination-stands : (latitude : ℤ) (blanks : ℕ) (m : Message) (longitude : ℤ) → blanks ≤ 5 → areCharacters (destinationBytes latitude blanks m longitude) ≡ true
 unfolding destinationBytes call t
 destination-stands latitude blanks m longitude few = all-stand latitude blanks few (bitsOf m) (hundredOf longitude) (isMinus longitude)
+
+-- and they are ASCII
+characters-ascii : (a b c d e f : ℕ) → areCharacters (a ∷ b ∷ c ∷ d ∷ e ∷ f ∷ []) ≡ true → every (λ x. ltb x 0x80) (a ∷ b ∷ c ∷ d ∷ e ∷ f ∷ []) ≡ true
+unfolding areCharacters every
+characters-ascii a b c d e f h =
+    let h₅ = isLast e && isLast f in
+    let h₄ = isLast d && h₅ in
+    let h₃ = isCharacter c && h₄ in
+    let h₂ = isCharacter b && h₃ in
+    let q₁ = and-second (isCharacter a) h₂ h in
+    let q₂ = and-second (isCharacter b) h₃ q₁ in
+    let q₃ = and-second (isCharacter c) h₄ q₂ in
+    let q₄ = and-second (isLast d) h₅ q₃ in
+    rw (
+      character-ascii a (and-first (isCharacter a) h₂ h),
+      character-ascii b (and-first (isCharacter b) h₃ q₁),
+      character-ascii c (and-first (isCharacter c) h₄ q₂),
+      last-ascii d (and-first (isLast d) h₅ q₃),
+      last-ascii e (and-first (isLast e) (isLast f) q₄),
+      last-ascii f (and-second (isLast e) (isLast f) q₄),
+    )
+
+pub destination-ascii : (latitude : ℤ) (blanks : ℕ) (m : Message) (longitude : ℤ) → blanks ≤ 5 → every (λ x. ltb x 0x80) (destinationBytes latitude blanks m longitude) ≡ true
+unfolding destinationBytes charactersOf
+destination-ascii latitude blanks m longitude few = characters-ascii _ _ _ _ _ _ (destination-stands latitude blanks m longitude few)

@@ -6,7 +6,7 @@ use mathlib.Core.Bool.{Bool, false, not}
 use mathlib.Core.List.{List, _++_}
 use Prim.Native.Nat.{ℕ, _/_, _%_, _≤_, _<_}
 use native.Mathlib.Omega.{arith}
-use borrow.Author.Tests.{le-ltb, lt-leb}
+use borrow.Author.Tests.{ne-eqb, le-ltb, lt-leb, ltb-false}
 use lib.IntN.{ℤ, pos, natAbs}
 use lib.Dec.{eqb, ltb}
 use lib.ListN.{length, getD, drop}
@@ -65,6 +65,10 @@ unfolding readInformation informationBytes informationOf
 information-reads-back i comment h =
     let room : 8 ≤ length (informationBytes i ++ comment) = omega arith in
     rw (le-ltb (length (informationBytes i ++ comment)) 8 room, longitude-reads-back (i .longitude .0) (in-longitude i h), motion-reads-back (i .speed .0) (i .course .0) (in-speed i h) (in-course i h))
+
+pub information-length : (i : Information) → length (informationBytes i) ≡ 8
+unfolding informationBytes
+information-length i = refl
 
 -- and the comment is the rest
 pub comment-comes-back : (i : Information) (comment : List ℕ) → drop 8 (informationBytes i ++ comment) ≡ comment
@@ -149,9 +153,18 @@ module _ (s : List ℕ) (hundred west : Bool) (i : Information) where
   range-read : (v : Speed) (d : Course) → readMotion (getD s 3 0) (getD s 4 0) (getD s 5 0) ≡ Motion-read v d → (v .0 ≤ mostSpeed) × (d .0 ≤ mostCourse)
   range-read v d e = let h = reads-moves _ _ _ v d e in (h .speed-to, h .course-to)
 
-  told : readInformation s hundred west ≡ Information-read i → InformationFound i × ((i .longitude .0 ≡ pos 0 → ⊥) → west ≡ isMinus (i .longitude .0))
+  parted : readInformation s hundred west ≡ Information-read i
+      → (ltb (length s) 8 ≡ false)
+      × (informationOf (getD s 6 0) (getD s 7 0) (readLongitude hundred west (getD s 0 0) (getD s 1 0) (getD s 2 0)) (readMotion (getD s 3 0) (getD s 4 0) (getD s 5 0)) ≡ Information-read i)
   unfolding readInformation
-  told e = informed west i (getD s 6 0) (getD s 7 0) _ _ longitude-read range-read (guard (ltb (length s) 8) Information-refused _ _ (no-information i) e .1)
+  parted e = guard (ltb (length s) 8) Information-refused _ _ (no-information i) e
+
+  told : readInformation s hundred west ≡ Information-read i → InformationFound i × ((i .longitude .0 ≡ pos 0 → ⊥) → west ≡ isMinus (i .longitude .0))
+  told e = informed west i (getD s 6 0) (getD s 7 0) _ _ longitude-read range-read (parted e .1)
+
+  -- it has its 8 bytes
+  pub information-long : readInformation s hundred west ≡ Information-read i → 8 ≤ length s
+  information-long e = ltb-false (length s) 8 (parted e .0)
 
   pub read-information-found : readInformation s hundred west ≡ Information-read i → InformationFound i
   read-information-found e = told e .0
@@ -159,6 +172,11 @@ module _ (s : List ℕ) (hundred west : Bool) (i : Information) where
   -- the side that the destination gave is the longitude's own, where it is not 0
   pub information-side-is-the-angle's : readInformation s hundred west ≡ Information-read i → (i .longitude .0 ≡ pos 0 → ⊥) → west ≡ isMinus (i .longitude .0)
   information-side-is-the-angle's e = told e .1
+
+-- a call that is not six characters is no destination
+pub not-six : (s : List ℕ) → (length s ≡ 6 → ⊥) → readDestination s ≡ Destination-refused
+unfolding readDestination
+not-six s h = rw (ne-eqb (length s) 6 h)
 
 no-destination : (d : Destination) → Destination-refused ≡ Destination-read d → ⊥
 no-destination d e = let z : _≡_ {A = ℕ} 0 1 = cc in omega arith

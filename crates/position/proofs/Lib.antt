@@ -1,5 +1,6 @@
 pub mod Numerals
 pub mod Reach
+pub mod Lengths
 pub mod Reading
 pub mod Writing
 pub mod Angles

@@ -15,8 +15,8 @@ returns : tie.Need-returns
 unfolding positionInRange
 returns c = search judged
 
-position-type-requires : tie.Need-position-type-requires
-position-type-requires c κs = search needs
+type-byte-requires : tie.Need-type-byte-requires
+type-byte-requires c κs = search needs
 
 sub-write-position : tie.Need-sub-write-position
 sub-write-position c = search needs
@@ -46,7 +46,7 @@ write-position-spec =
     is-no-report-requires
     unwritten-requires
     returns
-    position-type-requires
+    type-byte-requires
     sub-write-position
     part-bytes-start
     part-bytes-end

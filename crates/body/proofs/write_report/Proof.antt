@@ -24,8 +24,8 @@ returns : tie.Need-returns
 unfolding informationOf
 returns c = search report-out
 
-report-type-requires : tie.Need-report-type-requires
-report-type-requires c κs = search needs
+type-byte-requires : tie.Need-type-byte-requires
+type-byte-requires c κs = search needs
 
 array-write-bytes : tie.Need-array-write-bytes
 array-write-bytes c = search needs
@@ -47,7 +47,7 @@ write-report-spec =
     write-information-requires
     unwritten-requires
     returns
-    report-type-requires
+    type-byte-requires
     array-write-bytes
     address-call-requires
     returns-2)
