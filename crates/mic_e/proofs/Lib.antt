@@ -1,6 +1,7 @@
 pub mod Turn
 pub mod Tests
 pub mod Range
+pub mod Messages
 pub mod MotionFacts
 pub mod LongitudeFacts
 pub mod CharacterFacts

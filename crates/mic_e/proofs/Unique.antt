@@ -11,7 +11,7 @@ use Rattle.laws.proofs.Unique.{one-value}
 use Rattle.buffer.proofs.Wrote.{one-end}
 use Rattle.mic_e.specs.Motion.{readMotion}
 use Rattle.mic_e.specs.Longitude.{readLongitude}
-use Rattle.mic_e.specs.Message.{messageNumber}
+use Rattle.mic_e.specs.Message.{messageNumber, messageAt}
 use Rattle.mic_e.specs.Destination.{readDestination, writeDestination}
 use Rattle.mic_e.specs.Information.{readInformation, informationRefusal, informationBytes}
 use Rattle.mic_e.specs.declared.Motion.{Motion}
@@ -30,6 +30,9 @@ unique-read-longitude hundred west a b c r r′ = one-value r r′ (readLongitud
 
 pub unique-message-number : (m : Message) (r r′ : ℕ) → r ≡ messageNumber m → r′ ≡ messageNumber m → r ≡ r′
 unique-message-number m r r′ = one-value r r′ (messageNumber m)
+
+pub unique-message-at : (n : ℕ) (r r′ : Message) → r ≡ messageAt n → r′ ≡ messageAt n → r ≡ r′
+unique-message-at n r r′ = one-value r r′ (messageAt n)
 
 pub unique-read-destination : (call : List ℕ) (r r′ : DestinationRead) → r ≡ readDestination call → r′ ≡ readDestination call → r ≡ r′
 unique-read-destination call r r′ = one-value r r′ (readDestination call)

@@ -5,3 +5,4 @@ pub mod Message
 pub mod Character
 pub mod Destination
 pub mod Information
+pub mod Private

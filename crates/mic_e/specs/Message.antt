@@ -1,7 +1,9 @@
 -- The message of a Mic-E report (document 01, module 4), from the bits of the first three characters of its destination.
 -- Assumes nothing.
 use mathlib.Core.Bool.{Bool, true, false, cond, _&&_, _||_}
+use mathlib.Core.List.{List, [], _∷_}
 use Prim.Native.Nat.{ℕ}
+use lib.ListN.{getD}
 use Rattle.mic_e.specs.declared.Bit.{Bit}
 use Rattle.mic_e.specs.declared.Bit.the-variants.{Zero, Custom, Standard}
 use Rattle.mic_e.specs.declared.Bits.{Bits}
@@ -80,3 +82,11 @@ messageNumber C5 = 12
 messageNumber C6 = 13
 messageNumber Emergency = 14
 messageNumber Unknown = 15
+
+-- the messages in the order of their numbers
+abbrev pub messages : List Message
+messages = M0 ∷ M1 ∷ M2 ∷ M3 ∷ M4 ∷ M5 ∷ M6 ∷ C0 ∷ C1 ∷ C2 ∷ C3 ∷ C4 ∷ C5 ∷ C6 ∷ Emergency ∷ Unknown ∷ []
+
+-- the message of a number; above the last, Unknown
+unfoldable pub messageAt : ℕ → Message
+messageAt n = getD messages n Unknown

@@ -13,7 +13,8 @@ ghost use Rattle.numbers.specs.Sign.{sidesOf};
 ghost use Rattle.mic_e.specs.Turn.{lessIf};
 ghost use Rattle.mic_e.specs.Motion.{mostSpeed, mostCourse, readMotion, tensOf, motionField};
 ghost use Rattle.mic_e.specs.Longitude.{offsetOf, wrapped, readLongitude, longitudeField, degreesByte, minutesByte, hundredFor};
-ghost use Rattle.mic_e.specs.Message.{messageOf, bits, bitsOf, messageNumber};
+ghost use Rattle.mic_e.specs.Message.{isCustom, isStandard, messageOf, bitsOf, messageNumber, messageAt};
+ghost use Rattle.mic_e.specs.Private.{threeBits, bitIfOdd, bitsIn};
 ghost use Rattle.mic_e.specs.Character.{isCharacter, isLast, isFlagged, digitOf, bitOf, characterOf, flagBit};
 ghost use Rattle.mic_e.specs.Destination.{areCharacters, textIn, destinationWith, readDestination, charactersOf, writeDestination};
 ghost use Rattle.mic_e.specs.Information.{readInformation, informationOut, informationRefusal, informationBytes};
@@ -365,91 +366,6 @@ fn character_of(bit: Bit, d: u8) -> u8
     }
 }
 
-// The message of the first three characters' bits.
-fn message_of(x: Bit, y: Bit, z: Bit) -> Message
-    ensures { λ r. ⌜ r ≡ messageOf x y z ⌝ }
-{
-    match x {
-        Bit::Zero => match y {
-            Bit::Zero => match z {
-                Bit::Zero => Message::Emergency,
-                Bit::Custom => Message::C6,
-                Bit::Standard => Message::M6,
-            },
-            Bit::Custom => match z {
-                Bit::Zero => Message::C5,
-                Bit::Custom => Message::C4,
-                Bit::Standard => Message::Unknown,
-            },
-            Bit::Standard => match z {
-                Bit::Zero => Message::M5,
-                Bit::Custom => Message::Unknown,
-                Bit::Standard => Message::M4,
-            },
-        },
-        Bit::Custom => match y {
-            Bit::Zero => match z {
-                Bit::Zero => Message::C3,
-                Bit::Custom => Message::C2,
-                Bit::Standard => Message::Unknown,
-            },
-            Bit::Custom => match z {
-                Bit::Zero => Message::C1,
-                Bit::Custom => Message::C0,
-                Bit::Standard => Message::Unknown,
-            },
-            Bit::Standard => Message::Unknown,
-        },
-        Bit::Standard => match y {
-            Bit::Zero => match z {
-                Bit::Zero => Message::M3,
-                Bit::Custom => Message::Unknown,
-                Bit::Standard => Message::M2,
-            },
-            Bit::Custom => Message::Unknown,
-            Bit::Standard => match z {
-                Bit::Zero => Message::M1,
-                Bit::Custom => Message::Unknown,
-                Bit::Standard => Message::M0,
-            },
-        },
-    }
-}
-
-fn three_bits(first: Bit, second: Bit, third: Bit) -> Bits
-    ensures { λ r. ⌜ r ≡ bits first second third ⌝ }
-{
-    Bits {
-        first,
-        second,
-        third,
-    }
-}
-
-// The bits of a message as written.
-fn bits_of(m: Message) -> Bits
-    ensures { λ r. ⌜ r ≡ bitsOf m ⌝ }
-{
-    match m {
-        Message::M0 => three_bits(Bit::Standard, Bit::Standard, Bit::Standard),
-        Message::M1 => three_bits(Bit::Standard, Bit::Standard, Bit::Zero),
-        Message::M2 => three_bits(Bit::Standard, Bit::Zero, Bit::Standard),
-        Message::M3 => three_bits(Bit::Standard, Bit::Zero, Bit::Zero),
-        Message::M4 => three_bits(Bit::Zero, Bit::Standard, Bit::Standard),
-        Message::M5 => three_bits(Bit::Zero, Bit::Standard, Bit::Zero),
-        Message::M6 => three_bits(Bit::Zero, Bit::Zero, Bit::Standard),
-        Message::C0 => three_bits(Bit::Custom, Bit::Custom, Bit::Custom),
-        Message::C1 => three_bits(Bit::Custom, Bit::Custom, Bit::Zero),
-        Message::C2 => three_bits(Bit::Custom, Bit::Zero, Bit::Custom),
-        Message::C3 => three_bits(Bit::Custom, Bit::Zero, Bit::Zero),
-        Message::C4 => three_bits(Bit::Zero, Bit::Custom, Bit::Custom),
-        Message::C5 => three_bits(Bit::Zero, Bit::Custom, Bit::Zero),
-        Message::C6 => three_bits(Bit::Zero, Bit::Zero, Bit::Custom),
-        Message::Emergency => three_bits(Bit::Zero, Bit::Zero, Bit::Zero),
-        Message::Unknown => three_bits(Bit::Standard, Bit::Custom, Bit::Standard),
-    }
-}
-
 // The number of a message.
 pub fn message_number(m: Message) -> u8
     ensures { λ r. ⌜ r ≡ messageNumber m ⌝ }
@@ -471,6 +387,131 @@ pub fn message_number(m: Message) -> u8
         Message::C6 => 13,
         Message::Emergency => 14,
         Message::Unknown => 15,
+    }
+}
+
+// The message of a number; above 15, Unknown.
+pub fn message_at(n: u8) -> Message
+    ensures { λ r. ⌜ r ≡ messageAt n ⌝ }
+{
+    if 15 < n {
+        return Message::Unknown;
+    }
+    let messages = [
+        Message::M0,
+        Message::M1,
+        Message::M2,
+        Message::M3,
+        Message::M4,
+        Message::M5,
+        Message::M6,
+        Message::C0,
+        Message::C1,
+        Message::C2,
+        Message::C3,
+        Message::C4,
+        Message::C5,
+        Message::C6,
+        Message::Emergency,
+        Message::Unknown,
+    ];
+    let i = n as usize;
+    messages[i]
+}
+
+fn is_custom(b: Bit) -> bool
+    ensures { λ r. ⌜ r ≡ isCustom b ⌝ }
+{
+    match b {
+        Bit::Zero => false,
+        Bit::Custom => true,
+        Bit::Standard => false,
+    }
+}
+
+fn is_standard(b: Bit) -> bool
+    ensures { λ r. ⌜ r ≡ isStandard b ⌝ }
+{
+    match b {
+        Bit::Zero => false,
+        Bit::Custom => false,
+        Bit::Standard => true,
+    }
+}
+
+// Three bits as a number.
+fn number_of(x: bool, y: bool, z: bool) -> u8
+    ensures { λ r. ⌜ r ≡ threeBits x y z ⌝ }
+{
+    4 * (x as u8) + 2 * (y as u8) + (z as u8)
+}
+
+fn standard_bits(x: Bit, y: Bit, z: Bit) -> u8
+    ensures { λ r. ⌜ r ≡ threeBits (isStandard x) (isStandard y) (isStandard z) ⌝ }
+{
+    number_of(is_standard(x), is_standard(y), is_standard(z))
+}
+
+fn custom_bits(x: Bit, y: Bit, z: Bit) -> u8
+    ensures { λ r. ⌜ r ≡ threeBits (isCustom x) (isCustom y) (isCustom z) ⌝ }
+{
+    number_of(is_custom(x), is_custom(y), is_custom(z))
+}
+
+// The message of the first three characters' bits: 111 down to 001 are M0 to M6, if standard, and C0 to C6.
+fn message_of(x: Bit, y: Bit, z: Bit) -> Message
+    ensures { λ r. ⌜ r ≡ messageOf x y z ⌝ }
+{
+    let standard = standard_bits(x, y, z);
+    let custom = custom_bits(x, y, z);
+    if standard == 0 {
+        return message_at(14 - custom);
+    }
+    if custom == 0 {
+        return message_at(7 - standard);
+    }
+    Message::Unknown
+}
+
+// The bit where the number is odd, else 0.
+fn bit_if_odd(bit: Bit, n: u8) -> Bit
+    ensures { λ r. ⌜ r ≡ bitIfOdd bit n ⌝ }
+{
+    if n % 2 == 1 {
+        return bit;
+    }
+    Bit::Zero
+}
+
+// The three bits of a number, each 1 of them that bit.
+fn bits_in(bit: Bit, n: u8) -> Bits
+    ensures { λ r. ⌜ r ≡ bitsIn bit n ⌝ }
+{
+    let first = bit_if_odd(bit, n / 4);
+    let second = bit_if_odd(bit, n / 2);
+    let third = bit_if_odd(bit, n);
+    Bits {
+        first,
+        second,
+        third,
+    }
+}
+
+// The bits of a message as written.
+fn bits_of(m: Message) -> Bits
+    ensures { λ r. ⌜ r ≡ bitsOf m ⌝ }
+{
+    let n = message_number(m);
+    if n < 7 {
+        return bits_in(Bit::Standard, 7 - n);
+    }
+    if n < 15 {
+        return bits_in(Bit::Custom, 14 - n);
+    }
+    Bits {
+        first: Bit::Standard,
+        second: Bit::Custom,
+        third: Bit::Standard,
     }
 }
 
