@@ -1,13 +1,15 @@
 -- The header of a frame, place by place: destination, source, hops, and the control pair behind the addresses.
 -- Assumes nothing.
 use mathlib.Core.Path.{_≡_, refl, sym, ap, _∙_}
-use mathlib.Core.Bool.{true, false}
+use mathlib.Core.Bool.{Bool, true, false, cond}
 use mathlib.Core.List.{List, [], _∷_}
 use Prim.Native.Nat.{ℕ, _+_, _-_, _*_, _<_, _≤_}
 use native.Mathlib.Omega.{arith}
 use borrow.Author.Tests.{eq-eqb, ne-eqb, lt-ltb, le-ltb}
 use borrow.Rule.Slice.PartAt.{part-to-end}
+use lib.Dec.{eqb}
 use lib.ListN.{length, getD, take, drop, length-drop}
+use Rattle.laws.specs.Lists.{every}
 use Rattle.laws.proofs.Lists.{next}
 use Rattle.callsign.specs.declared.Callsign.{Callsign}
 use Rattle.callsign.specs.declared.AddressRead.{AddressRead}
@@ -18,7 +20,7 @@ use Rattle.header.specs.declared.PathRead.{PathRead}
 use Rattle.header.specs.declared.HeaderRead.{HeaderRead}
 use Rattle.header.specs.Header.{mostBytes, Hops, refused, these, pathOf, headerRefused, headerAccepted, unlessRefused, withHops}
 use Rattle.header.specs.Frame.{control, protocol, startsWithPair, frameHops, withPair, readSource, readFrameHeader}
-use Rattle.header.specs.Private.{pathRefused, frameRead}
+use Rattle.header.specs.Private.{noHops, frameRead}
 use Rattle.header.proofs.Walks.{InFrame, Sound, none, some, frame-sound}
 
 -- ---- the two bytes behind the addresses
@@ -30,66 +32,60 @@ starts-short (a ∷ []) h = refl
 starts-short (a ∷ b ∷ l) h = absurd (omega arith)
 
 module _ (s : List ℕ) (at : ℕ) where
-  pub pair-short : length s < at + 2 → startsWithPair (drop at s) ≡ false
-  pair-short h = starts-short (drop at s) (simp length-drop (omega arith))
+  pub pair-short : length s < at + 2 → false ≡ startsWithPair (drop at s)
+  pair-short h = sym (starts-short (drop at s) (simp length-drop (omega arith)))
 
   module _ (long : at + 2 ≤ length s) where
     two : drop at s ≡ getD s at 0 ∷ getD s (at + 1) 0 ∷ drop (at + 1 + 1) s
     two = next 0 s at (omega arith) ∙ ap {B = List ℕ} (λ l. getD s at 0 ∷ l) (next 0 s (at + 1) (omega arith))
 
-    pub pair-first : (getD s at 0 ≡ control → ⊥) → startsWithPair (drop at s) ≡ false
+    pub pair-first : (getD s at 0 ≡ control → ⊥) → false ≡ startsWithPair (drop at s)
     unfolding startsWithPair
     pair-first e = rw (two, ne-eqb (getD s at 0) control e)
 
-    pub pair-second : getD s at 0 ≡ control → (getD s (at + 1) 0 ≡ protocol → ⊥) → startsWithPair (drop at s) ≡ false
+    pub pair-second : getD s at 0 ≡ control → eqb (getD s (at + 1) 0) protocol ≡ startsWithPair (drop at s)
     unfolding startsWithPair
-    pair-second p e = rw (two, eq-eqb (getD s at 0) control p, ne-eqb (getD s (at + 1) 0) protocol e)
+    pair-second p = rw (two, eq-eqb (getD s at 0) control p)
 
-    pub pair-both : getD s at 0 ≡ control → getD s (at + 1) 0 ≡ protocol → startsWithPair (drop at s) ≡ true
-    unfolding startsWithPair
-    pair-both p e = rw (two, eq-eqb (getD s at 0) control p, eq-eqb (getD s (at + 1) 0) protocol e)
-
-module _ (from to : Callsign) (p : Path) (s : List ℕ) (r : HeaderRead) where
-  wrong : startsWithPair (drop (14 + 7 * p .count) s) ≡ false → r ≡ headerRefused 2 → r ≡ withPair from to p s
+module _ (from to : Callsign) (p : Path) (s : List ℕ) (r : HeaderRead) (u : Bool) (e : u ≡ startsWithPair (drop (14 + 7 * p .count) s)) where
+  pub no-pair : u ≡ false → r ≡ headerRefused 2 → r ≡ withPair from to p s
   unfolding withPair
-  wrong e w = rw e w
+  no-pair h w = rw (← e, h) w
 
-  pub no-pair : length s < 14 + 7 * p .count + 2 → r ≡ headerRefused 2 → r ≡ withPair from to p s
-  no-pair h w = wrong (pair-short s (14 + 7 * p .count) h) w
+  pub pair-there : u ≡ true → r ≡ headerAccepted from to p (14 + 7 * p .count + 2) 0 → r ≡ withPair from to p s
+  unfolding withPair
+  pair-there h w = rw (← e, h) w
 
-  module _ (h : 14 + 7 * p .count + 2 ≤ length s) where
-    pub no-control : (getD s (14 + 7 * p .count) 0 ≡ control → ⊥) → r ≡ headerRefused 2 → r ≡ withPair from to p s
-    no-control e w = wrong (pair-first s (14 + 7 * p .count) h e) w
+-- ---- the hops, of a source that is the last address or not
 
-    module _ (c : getD s (14 + 7 * p .count) 0 ≡ control) where
-      pub no-protocol : (getD s (14 + 7 * p .count + 1) 0 ≡ protocol → ⊥) → r ≡ headerRefused 2 → r ≡ withPair from to p s
-      no-protocol e w = wrong (pair-second s (14 + 7 * p .count) h c e) w
+module _ (last : Bool) (s : List ℕ) (p : PathRead) where
+  pub none-behind : last ≡ true → p ≡ noHops 0 → p ≡ frameRead (cond last (these []) (frameHops 8 (drop 14 s)))
+  unfolding noHops frameRead
+  none-behind l e = rw l e
 
-      pub pair-there : getD s (14 + 7 * p .count + 1) 0 ≡ protocol → r ≡ headerAccepted from to p (14 + 7 * p .count + 2) 0 → r ≡ withPair from to p s
-      unfolding withPair
-      pair-there e w = rw (pair-both s (14 + 7 * p .count) h c e) w
+  pub some-behind : last ≡ false → p ≡ frameRead (frameHops 8 (take (length s - 14) (drop 14 s))) → p ≡ frameRead (cond last (these []) (frameHops 8 (drop 14 s)))
+  some-behind l e = rw l (e ∙ rw (part-to-end s 14))
 
--- ---- what a walk can give
-
-pub none-count : (p : Path) → p ≡ pathOf [] → p .count ≤ 8
-unfolding pathOf
-none-count p e = rw e (omega arith)
+hops-sound : (last : Bool) (s : List ℕ) → Sound InFrame 8 (cond last (these []) (frameHops 8 s))
+unfolding every
+hops-sound true s = some [] (omega arith) refl
+hops-sound false s = frame-sound 8 s
 
 sound-count : (k : ℕ) {w : Hops} → Sound InFrame k w → frameRead w .path .count ≤ k
-unfolding frameRead pathRefused pathOf
+unfolding frameRead noHops pathOf
 sound-count k (none n p) = omega arith
 sound-count k (some l m q) = m
 
-pub walk-count : (p : PathRead) (s : List ℕ) → p ≡ frameRead (frameHops 8 s) → p .path .count ≤ 8
-walk-count p s e = rw e (sound-count 8 (frame-sound 8 s))
+pub hops-count : (p : PathRead) (last : Bool) (s : List ℕ) → p ≡ frameRead (cond last (these []) (frameHops 8 s)) → p .path .count ≤ 8
+hops-count p last s e = rw e (sound-count 8 (hops-sound last s))
 
 hops-refused : (w : Hops) (next : List Hop → HeaderRead) → (frameRead w .refusal ≡ 0 → ⊥) → headerRefused (frameRead w .refusal) ≡ withHops w next
-unfolding frameRead pathRefused withHops
+unfolding frameRead noHops withHops
 hops-refused (refused n) next z = refl
 hops-refused (these l) next z = absurd (z refl)
 
 hops-given : (next : Path → HeaderRead) {w : Hops} → Sound InFrame 8 w → frameRead w .refusal ≡ 0 → next (frameRead w .path) ≡ withHops w (λ l. next (pathOf l))
-unfolding frameRead pathRefused withHops
+unfolding frameRead noHops withHops
 hops-given next (none n p) z = let m = p .low in absurd (omega arith)
 hops-given next (some l m q) z = refl
 
@@ -105,26 +101,18 @@ module _ (to : Callsign) (s : List ℕ) (r : HeaderRead) where
     unfolding readSource unlessRefused
     source-refused z w = rw (le-ltb (length s) 14 h, ← q, ne-eqb (from .refusal) 0 z) w
 
-    module _ (z : from .refusal ≡ 0) where
-      pub source-alone : (p : Path) → from .last ≡ true → p ≡ pathOf [] → r ≡ withPair (from .call) to p s → r ≡ readSource to s
-      unfolding readSource unlessRefused withHops
-      source-alone p l e w = rw (le-ltb (length s) 14 h, ← q, eq-eqb (from .refusal) 0 z, l, ← e) w
+    module _ (z : from .refusal ≡ 0) (p : PathRead) (e : p ≡ frameRead (cond (from .last) (these []) (frameHops 8 (drop 14 s)))) where
+      pub source-hops-refused : (p .refusal ≡ 0 → ⊥) → r ≡ headerRefused (p .refusal) → r ≡ readSource to s
+      unfolding readSource unlessRefused
+      source-hops-refused y w =
+          rw (le-ltb (length s) 14 h, ← q, eq-eqb (from .refusal) 0 z)
+          (w ∙ rw e (hops-refused (cond (from .last) (these []) (frameHops 8 (drop 14 s))) _ (λ x. y (ap (λ (a : PathRead). a .refusal) e ∙ x))))
 
-      module _ (l : from .last ≡ false) (p : PathRead) (e : p ≡ frameRead (frameHops 8 (take (length s - 14) (drop 14 s)))) where
-        hops-are : p ≡ frameRead (frameHops 8 (drop 14 s))
-        hops-are = e ∙ rw (part-to-end s 14)
-
-        pub source-hops-refused : (p .refusal ≡ 0 → ⊥) → r ≡ headerRefused (p .refusal) → r ≡ readSource to s
-        unfolding readSource unlessRefused
-        source-hops-refused y w =
-            rw (le-ltb (length s) 14 h, ← q, eq-eqb (from .refusal) 0 z, l)
-            (w ∙ rw hops-are (hops-refused (frameHops 8 (drop 14 s)) _ (λ x. y (ap (λ (a : PathRead). a .refusal) hops-are ∙ x))))
-
-        pub source-hops : p .refusal ≡ 0 → r ≡ withPair (from .call) to (p .path) s → r ≡ readSource to s
-        unfolding readSource unlessRefused
-        source-hops y w =
-            rw (le-ltb (length s) 14 h, ← q, eq-eqb (from .refusal) 0 z, l)
-            (w ∙ rw hops-are (hops-given (λ x. withPair (from .call) to x s) (frame-sound 8 (drop 14 s)) (sym (ap (λ (a : PathRead). a .refusal) hops-are) ∙ y)))
+      pub source-hops : p .refusal ≡ 0 → r ≡ withPair (from .call) to (p .path) s → r ≡ readSource to s
+      unfolding readSource unlessRefused
+      source-hops y w =
+          rw (le-ltb (length s) 14 h, ← q, eq-eqb (from .refusal) 0 z)
+          (w ∙ rw e (hops-given (λ x. withPair (from .call) to x s) (hops-sound (from .last) (drop 14 s)) (sym (ap (λ (a : PathRead). a .refusal) e) ∙ y)))
 
 -- ---- the frame
 

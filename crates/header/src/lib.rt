@@ -1,17 +1,19 @@
 // The header of a packet: source, destination, up to eight hops, and where the body starts; of a line of text and of an
 // AX.25 frame, read and written.
 ghost use mathlib.Core.Path.{_≡_};
+ghost use mathlib.Core.Bool.{cond};
 ghost use mathlib.Core.List.{[]};
 ghost use Prim.Native.Nat.{_≤_, max};
 ghost use lib.ListN.{length, take, drop};
-ghost use Rattle.laws.specs.Lists.{every};
+ghost use Rattle.laws.specs.Bytes.{comma};
+ghost use Rattle.laws.specs.Lists.{indexOf, every};
 ghost use Rattle.buffer.specs.Wrote.{ends, wrote};
 ghost use Rattle.callsign.specs.Packed.{writeAddress};
-ghost use Rattle.header.specs.Header.{blankHop, pathOf, blankHeader, headerRefused, headerAccepted};
-ghost use Rattle.header.specs.Text.{fields, isQ, readHop, textHops, readRoute, readBefore, readHeaderText, readTextHeader, headerText};
-ghost use Rattle.header.specs.Frame.{frameHops, withPair, readSource, readFrameHeader, headerFrame};
+ghost use Rattle.header.specs.Header.{these, blankHop, pathOf, blankHeader, headerRefused, headerAccepted};
+ghost use Rattle.header.specs.Text.{fields, othersOf, isQ, readHop, textHops, readRoute, readBefore, readHeaderText, readTextHeader, headerText};
+ghost use Rattle.header.specs.Frame.{startsWithPair, frameHops, withPair, readSource, readFrameHeader, headerFrame};
 ghost use Rattle.header.specs.Range.{isBlank, textRefusal, frameRefusal};
-ghost use Rattle.header.specs.Private.{pathRefused, frameRead, textRead, starredRead, isTidy, building, plain, callPiece, addressPiece, withPiece, withPieces, heardUpTo, endPieces, hopPieces, textPieces, endAddressPieces, hopAddressPieces, framePieces};
+ghost use Rattle.header.specs.Private.{noHops, frameRead, textRead, starredRead, isTidy, building, plain, callPiece, addressPiece, withPiece, withPieces, heardUpTo, endPieces, hopPieces, textPieces, endAddressPieces, hopAddressPieces, framePieces};
 use callsign::Callsign;
 use callsign::Field;
 
@@ -117,8 +119,9 @@ fn accepted(from: Callsign, to: Callsign, path: Path, body: usize, stars: u8) ->
     }
 }
 
-fn path_refused(n: u8) -> PathRead
-    ensures { λ r. ⌜ r ≡ pathRefused n ⌝ }
+// No hops, with that refusal or 0.
+fn no_hops(n: u8) -> PathRead
+    ensures { λ r. ⌜ r ≡ noHops n ⌝ }
 {
     let path = no_path();
     PathRead {
@@ -172,13 +175,8 @@ fn carry(hops: [Hop; 8], n: usize) -> PathRead
     let mut i = n;
     while 0 < i {
         i -= 1;
-        let h = out[i];
-        let call = h.call;
-        stars = 2 * stars + (h.heard as u8);
-        out[i] = Hop {
-            call,
-            heard: stars != 0,
-        };
+        stars = 2 * stars + (out[i].heard as u8);
+        out[i].heard = stars != 0;
     }
     let path = Path {
         hops: out,
@@ -201,12 +199,12 @@ fn read_hops(s: &[u8]) -> PathRead
     let mut t = s;
     loop {
         if n == 8 {
-            return path_refused(5);
+            return no_hops(5);
         }
         let e = laws::find(t, b',');
         let h = read_hop(&t[..e]);
         if h.refusal != 0 {
-            return path_refused(h.refusal);
+            return no_hops(h.refusal);
         }
         let hop = h.hop;
         hops[n] = hop;
@@ -218,6 +216,17 @@ fn read_hops(s: &[u8]) -> PathRead
     }
 }
 
+// The hops behind the comma at the place d, if one stands in t.
+fn hops_behind(t: &[u8], d: usize) -> PathRead
+    requires { ⌜ d ≡ indexOf comma (now t) ⌝ }
+    ensures { λ r. ⌜ r ≡ textRead (textHops 8 (othersOf (fields (now (t .entry))))) ⌝ }
+{
+    if d == t.len() {
+        return no_hops(0);
+    }
+    read_hops(&t[d + 1..])
+}
+
 // Destination and hops: what stands between `>` and `:`.
 fn read_route(from: Callsign, t: &[u8], body: usize) -> HeaderRead
     ensures { λ r. ⌜ r ≡ readRoute from (now (t .entry)) body ⌝ }
@@ -227,16 +236,11 @@ fn read_route(from: Callsign, t: &[u8], body: usize) -> HeaderRead
     if to.refusal != 0 {
         return refused(to.refusal);
     }
-    let destination = to.call;
-    if d == t.len() {
-        return accepted(from, destination, no_path(), body, 0);
-    }
-    let hops = read_hops(&t[d + 1..]);
+    let hops = hops_behind(t, d);
     if hops.refusal != 0 {
         return refused(hops.refusal);
     }
-    let path = hops.path;
-    accepted(from, destination, path, body, hops.stars)
+    accepted(from, to.call, hops.path, body, hops.stars)
 }
 
 // What stands before `:`.
@@ -251,8 +255,7 @@ fn read_before(t: &[u8], body: usize) -> HeaderRead
     if from.refusal != 0 {
         return refused(from.refusal);
     }
-    let source = from.call;
-    read_route(source, &t[g + 1..], body)
+    read_route(from.call, &t[g + 1..], body)
 }
 
 // Reads the header of a text, however long: refused with 2 to 6, as document 01 orders them; hops before a starred one are
@@ -337,7 +340,7 @@ fn walk(s: &[u8]) -> PathRead
         }
     }
     if refusal != 0 {
-        return path_refused(refusal);
+        return no_hops(refusal);
     }
     let path = Path { hops, count };
     PathRead {
@@ -347,23 +350,42 @@ fn walk(s: &[u8]) -> PathRead
     }
 }
 
+// The hops of a frame whose source is its last address, or not.
+fn hops_of(last: bool, s: &[u8]) -> PathRead
+    requires { ⌜ 14 ≤ length (now s) ⌝ }
+    ensures { λ r. ⌜ r ≡ frameRead (cond last (these []) (frameHops 8 (drop 14 (now (s .entry))))) ⌝ }
+{
+    if last {
+        return no_hops(0);
+    }
+    walk(&s[14..])
+}
+
+// Whether the control and protocol bytes stand in s at the place `at`.
+fn has_pair(s: &[u8], at: usize) -> bool
+    requires { ⌜ at ≤ 70 ⌝ }
+    ensures { λ r. ⌜ r ≡ startsWithPair (drop at (now (s .entry))) ⌝ }
+{
+    if s.len() < at + 2 {
+        return false;
+    }
+    let pair = b"\x03\xf0";
+    if s[at] != pair[0] {
+        return false;
+    }
+    s[at + 1] == pair[1]
+}
+
 // The header of a source, a destination and a path, if the control and protocol bytes follow the addresses in s.
 fn with_pair(from: Callsign, to: Callsign, path: Path, s: &[u8]) -> HeaderRead
     requires { ⌜ path .count ≤ 8 ⌝ }
     ensures { λ r. ⌜ r ≡ withPair from to path (now (s .entry)) ⌝ }
 {
     let at = 14 + 7 * path.count;
-    if s.len() < at + 2 {
-        return refused(2);
+    if has_pair(s, at) {
+        return accepted(from, to, path, at + 2, 0);
     }
-    let pair = b"\x03\xf0";
-    if s[at] != pair[0] {
-        return refused(2);
-    }
-    if s[at + 1] != pair[1] {
-        return refused(2);
-    }
-    accepted(from, to, path, at + 2, 0)
+    refused(2)
 }
 
 // Source and hops of a frame whose destination is read.
@@ -377,16 +399,11 @@ fn read_source(to: Callsign, s: &[u8]) -> HeaderRead
     if from.refusal != 0 {
         return refused(from.refusal);
     }
-    let source = from.call;
-    if from.last {
-        return with_pair(source, to, no_path(), s);
-    }
-    let hops = walk(&s[14..]);
+    let hops = hops_of(from.last, s);
     if hops.refusal != 0 {
         return refused(hops.refusal);
     }
-    let path = hops.path;
-    with_pair(source, to, path, s)
+    with_pair(from.call, to, hops.path, s)
 }
 
 // Reads the header of a frame: refused with 1, 2, 3 or 5, as document 01 orders them; each hop's heard bit as it is.
@@ -406,8 +423,7 @@ pub fn read_frame(s: &[u8]) -> HeaderRead
     if to.last {
         return refused(2);
     }
-    let destination = to.call;
-    read_source(destination, s)
+    read_source(to.call, s)
 }
 
 // ---- which paths can be written
@@ -419,8 +435,7 @@ fn is_blank(h: Hop) -> bool
     if h.heard {
         return false;
     }
-    let call = h.call;
-    callsign::is_blank(call)
+    callsign::is_blank(h.call)
 }
 
 // Whether the hops from n on are blank.
@@ -443,12 +458,11 @@ fn spare_blank(hops: [Hop; 8], n: usize) -> bool
 fn is_tidy(p: Path) -> bool
     ensures { λ r. ⌜ r ≡ isTidy p ⌝ }
 {
-    let n = p.count;
-    if 8 < n {
+    if 8 < p.count {
         return false;
     }
     let hops = p.hops;
-    spare_blank(hops, n)
+    spare_blank(hops, p.count)
 }
 
 // ---- pieces put into a scratch array, each judged by its own writer
@@ -529,9 +543,9 @@ fn heard_up_to(hops: [Hop; 8], n: usize) -> usize
     let mut last: usize = 0;
     let mut i: usize = 0;
     while i < n {
-        let h = hops[i];
+        let heard = hops[i].heard;
         i += 1;
-        if h.heard {
+        if heard {
             last = i;
         }
     }
@@ -548,10 +562,9 @@ fn put_hops(p: Put, hops: [Hop; 8], n: usize, scratch: &mut [u8]) -> Put
     let mut i: usize = 0;
     while i < n {
         let h = hops[i];
-        let call = h.call;
         i += 1;
         let comma = put_bytes(done, b",", scratch);
-        done = put_call(comma, call, i == last, scratch);
+        done = put_call(comma, h.call, i == last, scratch);
     }
     done
 }
@@ -571,13 +584,10 @@ fn put_text(h: Header, scratch: &mut [u8]) -> Put
     requires { ⌜ h .path .count ≤ 8 ⌝ }
     ensures { λ r. ⌜ building (r .refusal) (now (scratch .exit)) (r .at) ≡ withPieces (building 0 (now (scratch .entry)) 0) (textPieces h) ⌝ }
 {
-    let from = h.from;
-    let to = h.to;
     let path = h.path;
     let hops = path.hops;
-    let n = path.count;
-    let ends = put_ends(from, to, scratch);
-    let route = put_hops(ends, hops, n, scratch);
+    let ends = put_ends(h.from, h.to, scratch);
+    let route = put_hops(ends, hops, path.count, scratch);
     put_bytes(route, b":", scratch)
 }
 
@@ -585,8 +595,7 @@ fn put_text(h: Header, scratch: &mut [u8]) -> Put
 pub fn write_text(h: Header, out: &mut [u8]) -> buffer::Answer
     ensures { λ r. ⌜ ends r (now (out .exit)) ≡ wrote (textRefusal h) (headerText h) (now (out .entry)) ⌝ }
 {
-    let path = h.path;
-    if !is_tidy(path) {
+    if !is_tidy(h.path) {
         return buffer::refused(15);
     }
     let mut scratch = [0u8; 178];
@@ -605,10 +614,9 @@ fn put_hop_addresses(p: Put, hops: [Hop; 8], n: usize, scratch: &mut [u8]) -> Pu
     let mut i: usize = 0;
     while i < n {
         let h = hops[i];
-        let call = h.call;
         let field = Field::Hop(h.heard);
         i += 1;
-        done = put_address(done, call, field, i == n, scratch);
+        done = put_address(done, h.call, field, i == n, scratch);
     }
     done
 }
@@ -627,13 +635,10 @@ fn put_frame(h: Header, scratch: &mut [u8]) -> Put
     requires { ⌜ h .path .count ≤ 8 ⌝ }
     ensures { λ r. ⌜ building (r .refusal) (now (scratch .exit)) (r .at) ≡ withPieces (building 0 (now (scratch .entry)) 0) (framePieces h) ⌝ }
 {
-    let from = h.from;
-    let to = h.to;
     let path = h.path;
     let hops = path.hops;
-    let n = path.count;
-    let ends = put_end_addresses(to, from, n == 0, scratch);
-    let route = put_hop_addresses(ends, hops, n, scratch);
+    let ends = put_end_addresses(h.to, h.from, path.count == 0, scratch);
+    let route = put_hop_addresses(ends, hops, path.count, scratch);
     put_bytes(route, b"\x03\xf0", scratch)
 }
 
@@ -641,8 +646,7 @@ fn put_frame(h: Header, scratch: &mut [u8]) -> Put
 pub fn write_frame(h: Header, out: &mut [u8]) -> buffer::Answer
     ensures { λ r. ⌜ ends r (now (out .exit)) ≡ wrote (frameRefusal h) (headerFrame h) (now (out .entry)) ⌝ }
 {
-    let path = h.path;
-    if !is_tidy(path) {
+    if !is_tidy(h.path) {
         return buffer::refused(15);
     }
     let mut scratch = [0u8; 72];

@@ -17,14 +17,14 @@ loop-holds c = search carrying-start
 sub-i : tie.Need-sub-i Inv-loop μ-loop
 sub-i c = omega arith
 
-mul-h : tie.Need-mul-h Inv-loop μ-loop
-mul-h c = search needs
-
-array-copy-out-h : tie.Need-array-copy-out-h Inv-loop μ-loop
-array-copy-out-h c = search needs
-
 mul-stars : tie.Need-mul-stars Inv-loop μ-loop
 mul-stars c = search twice-fits
+
+mul-stars-2 : tie.Need-mul-stars-2 Inv-loop μ-loop
+mul-stars-2 c = search needs
+
+element-copy-out-stars : tie.Need-element-copy-out-stars Inv-loop μ-loop
+element-copy-out-stars c = search needs
 
 cast-stars : tie.Need-cast-stars Inv-loop μ-loop
 cast-stars c = search needs
@@ -35,8 +35,8 @@ add-stars c = search star-fits
 mul-out : tie.Need-mul-out Inv-loop μ-loop
 mul-out c = search needs
 
-array-set-from-out : tie.Need-array-set-from-out Inv-loop μ-loop
-array-set-from-out c = search needs
+way-write-given-out : tie.Need-way-write-given-out Inv-loop μ-loop
+way-write-given-out c = search needs
 
 loop-less : tie.Need-loop-less Inv-loop μ-loop
 loop-less c = omega arith
@@ -55,13 +55,13 @@ carry-spec =
     μ-loop
     loop-holds
     sub-i
-    mul-h
-    array-copy-out-h
     mul-stars
+    mul-stars-2
+    element-copy-out-stars
     cast-stars
     add-stars
     mul-out
-    array-set-from-out
+    way-write-given-out
     loop-less
     loop-again
     returns)

@@ -18,11 +18,11 @@ loop-holds : tie.Need-loop-holds Inv-loop μ-loop
 unfolding heardUpTo
 loop-holds c = (omega arith, refl)
 
-mul-h : tie.Need-mul-h Inv-loop μ-loop
-mul-h c = omega arith
+mul-heard : tie.Need-mul-heard Inv-loop μ-loop
+mul-heard c = omega arith
 
-array-copy-out-h : tie.Need-array-copy-out-h Inv-loop μ-loop
-array-copy-out-h c = omega arith
+element-copy-out-heard : tie.Need-element-copy-out-heard Inv-loop μ-loop
+element-copy-out-heard c = omega arith
 
 add-i : tie.Need-add-i Inv-loop μ-loop
 add-i c = omega arith
@@ -49,8 +49,8 @@ heard-up-to-spec =
     Inv-loop
     μ-loop
     loop-holds
-    mul-h
-    array-copy-out-h
+    mul-heard
+    element-copy-out-heard
     add-i
     loop-less
     loop-again
