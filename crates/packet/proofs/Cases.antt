@@ -13,7 +13,7 @@ use Rattle.callsign.specs.Text.{joined, made, isZero, callAccepted, parted, rea
 use Rattle.callsign.specs.Range.{callPart, ssidPart, textOf as callText, withStar}
 use Rattle.header.specs.Header.{pathOf, hopsOf, headerOf, headerAccepted, unlessRefused, before, withHops}
 use Rattle.header.specs.Text.{onFirst, fields, firstOf, othersOf, isQ, hopOf, readHop, hopThen, textHops, starsOf, anyHeard, carried}
-use Rattle.header.specs.Text.{readRoute, readBefore, readHeaderText, readTextHeader, hopsText, routeText, headerText}
+use Rattle.header.specs.Text.{readRoute, readBefore, readHeaderText, hopsText, routeText, headerText}
 use Rattle.header.proofs.Theorems.{P11-text, P11-hops}
 use Rattle.numbers.specs.Sign.{signedOf, isMinus}
 use Rattle.lonlat.specs.Digits.{lastAs, degreesOf, minutesOf, hundredthsOf, valueOf, sizeOf, fits, angleIn, placesOf, textOf}
@@ -25,7 +25,7 @@ use Rattle.body.specs.declared.Kind.the-variants.{Position}
 use Rattle.body.specs.Body.{noReport, openingOf, commentFrom, positionBody, bodyAfter, readBody}
 use Rattle.body.specs.Written.{toAs, writtenTo, positionBytes, bytesAs, bodyBytes}
 use Rattle.packet.specs.declared.Record.{Record}
-use Rattle.packet.specs.Packet.{keptTo, recordOf, packetOf, packetAfter, readText}
+use Rattle.packet.specs.Packet.{keptTo, recordOf, packetOf, packetAfter, readAnyText, readText}
 use Rattle.packet.specs.Written.{writtenHeader, bytesOf, textBytes}
 
 -- `X>Y,A,B*,C:!0000.00N/00000.00E-`
@@ -50,7 +50,7 @@ P11-record =
 
 pub P11-read : readText P11-line ≡ record { refusal = 0; «record» = P11-record }
 unfolding
-    readText packetAfter packetOf recordOf keptTo readBody openingOf bodyAfter positionBody commentFrom readTextHeader readHeaderText
+    readText readAnyText packetAfter packetOf recordOf keptTo readBody openingOf bodyAfter positionBody commentFrom readHeaderText
     readBefore readRoute withHops starsOf pathOf headerOf unlessRefused headerAccepted firstOf othersOf fields onFirst textHops hopThen
     before readHop isQ hopOf readCall readUnstarred parted callAccepted indexOf utf8 characters after within isZero made
     joined padTo carried anyHeard readPosition isUncompressed isNumeric withLatitude withLongitude

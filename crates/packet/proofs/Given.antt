@@ -6,7 +6,7 @@ use mathlib.Core.Bool.{Bool, true, false, not, cond}
 use mathlib.Core.List.{List}
 use Prim.Native.Nat.{ℕ, _+_, _≤_}
 use native.Mathlib.Omega.{arith}
-use lib.Dec.{eqb}
+use lib.Dec.{eqb, ltb}
 use lib.ListN.{length}
 use Rattle.laws.specs.Lists.{padTo, zeros}
 use Rattle.callsign.specs.declared.Callsign.{Callsign}
@@ -14,13 +14,13 @@ use Rattle.callsign.specs.Text.{made, joined, blankCall}
 use Rattle.callsign.specs.Range.{inRange, isBlankCall}
 use Rattle.callsign.proofs.Made.{blank-range as blank-call-range}
 use Rattle.header.specs.declared.HeaderRead.{HeaderRead}
-use Rattle.header.specs.Header.{blankHeader}
-use Rattle.header.specs.Text.{readTextHeader}
+use Rattle.header.specs.Header.{mostBytes, blankHeader}
+use Rattle.header.specs.Text.{readHeaderText}
 use Rattle.header.specs.Frame.{readFrameHeader}
 use Rattle.header.specs.Range.{headerInRange}
 use Rattle.header.proofs.Answers.{blank-header-range}
 use Rattle.header.proofs.InRange.{from-fine, to-fine, path-fine}
-use Rattle.header.proofs.Theorems.{text-is-in-range, frame-is-in-range}
+use Rattle.header.proofs.Theorems.{any-text-is-in-range, frame-is-in-range}
 use Rattle.body.specs.declared.Kind.{Kind}
 use Rattle.body.specs.declared.Kind.the-variants.{Unknown, Position, MicE}
 use Rattle.body.specs.declared.BodyRead.{BodyRead}
@@ -31,7 +31,7 @@ use Rattle.packet.specs.declared.Record.{Record}
 use Rattle.packet.specs.declared.PacketRead.{PacketRead}
 use Rattle.packet.specs.Record.{blankRecord, packetRefused}
 use Rattle.packet.specs.Range.{recordInRange}
-use Rattle.packet.specs.Packet.{headerTo, keptTo, recordOf, packetOf, packetAfter, readText, readFrame}
+use Rattle.packet.specs.Packet.{headerTo, keptTo, recordOf, packetOf, packetAfter, readAnyText, readText, readFrame}
 
 -- ---- "A refused decode returns the blank record"
 
@@ -43,6 +43,11 @@ refused-blank : (t : Bool) (n : ℕ) (p : PacketRead) → Blank p → Blank (con
 unfolding packetRefused
 refused-blank true n p f = f
 refused-blank false n p f = λ z. refl
+
+pub refused-first : (t : Bool) (n : ℕ) (p : PacketRead) → Blank p → Blank (cond t (packetRefused n) p)
+unfolding packetRefused
+refused-first true n p f = λ z. refl
+refused-first false n p f = f
 
 pub after-blank : (h : HeaderRead) (s : List ℕ) → Blank (packetAfter h s)
 unfolding packetAfter packetOf
@@ -104,9 +109,17 @@ module _ (h : HeaderRead) (s : List ℕ) (e : headerInRange (h .header) ≡ true
       go true false = blank-given (length s)
       go false u = blank-given (length s)
 
+pub any-text-given : (s : List ℕ) → Given (length s) (readAnyText s .«record»)
+unfolding readAnyText
+any-text-given s = after-given (readHeaderText s) s (any-text-is-in-range s)
+
 pub text-given : (s : List ℕ) → Given (length s) (readText s .«record»)
-unfolding readText
-text-given s = after-given (readTextHeader s) s (text-is-in-range s)
+unfolding readText packetRefused
+text-given s = go (ltb mostBytes (length s))
+  where
+    go : (t : Bool) → Given (length s) (cond t (packetRefused 1) (readAnyText s) .«record»)
+    go true = blank-given (length s)
+    go false = any-text-given s
 
 pub frame-given : (s : List ℕ) → Given (length s) (readFrame s .«record»)
 unfolding readFrame

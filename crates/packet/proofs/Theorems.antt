@@ -4,9 +4,10 @@ use mathlib.Core.Path.{_≡_, refl, ap, _∙_}
 use mathlib.Core.Bool.{Bool, true, false, not, cond}
 use mathlib.Core.List.{List}
 use Prim.Native.Nat.{ℕ, _+_, _≤_}
+use lib.Dec.{ltb}
 use lib.ListN.{length}
 use Rattle.buffer.specs.Wrote.{overBy}
-use Rattle.header.specs.Text.{readTextHeader}
+use Rattle.header.specs.Text.{readHeaderText}
 use Rattle.header.specs.Frame.{readFrameHeader}
 use Rattle.header.specs.Range.{frameRefusal as headerFrameRefusal}
 use Rattle.body.specs.Range.{isExcepted}
@@ -14,23 +15,30 @@ use Rattle.body.specs.Written.{kindRefusal}
 use Rattle.packet.specs.declared.Record.{Record}
 use Rattle.packet.specs.Record.{packetRefused}
 use Rattle.packet.specs.Range.{recordInRange, rangeRefusal}
-use Rattle.packet.specs.Packet.{readText, readFrame}
+use Rattle.packet.specs.Packet.{readAnyText, readText, readFrame}
 use Rattle.header.specs.Header.{mostBytes}
 use Rattle.packet.specs.Written.{writtenHeader, textBytes, frameBytes, orElse, recordRefusal, textRefusal, frameRefusal}
 use Rattle.packet.proofs.Order.{or-or}
-use Rattle.packet.proofs.Given.{Given, after-blank, text-given, frame-given}
+use Rattle.packet.proofs.Given.{Given, after-blank, refused-first, any-text-given, text-given, frame-given}
 
 -- ---- "A refused decode returns the blank record"
 
+pub any-text-refused-blank : (s : List ℕ) → (readAnyText s .refusal ≡ 0 → ⊥) → readAnyText s ≡ packetRefused (readAnyText s .refusal)
+unfolding readAnyText
+any-text-refused-blank s = after-blank (readHeaderText s) s
+
 pub text-refused-blank : (s : List ℕ) → (readText s .refusal ≡ 0 → ⊥) → readText s ≡ packetRefused (readText s .refusal)
 unfolding readText
-text-refused-blank s = after-blank (readTextHeader s) s
+text-refused-blank s = refused-first (ltb mostBytes (length s)) 1 (readAnyText s) (any-text-refused-blank s)
 
 pub frame-refused-blank : (s : List ℕ) → (readFrame s .refusal ≡ 0 → ⊥) → readFrame s ≡ packetRefused (readFrame s .refusal)
 unfolding readFrame
 frame-refused-blank s = after-blank (readFrameHeader s) s
 
 -- ---- what is read is in range but for a Mic-E angle of 180 degrees and a position symbol byte of 128 or more
+
+pub any-text-range : (s : List ℕ) → recordInRange (readAnyText s .«record») ≡ not (isExcepted (readAnyText s .«record» .body))
+any-text-range s = any-text-given s .range
 
 pub text-range : (s : List ℕ) → recordInRange (readText s .«record») ≡ not (isExcepted (readText s .«record» .body))
 text-range s = text-given s .range
@@ -39,6 +47,9 @@ pub frame-range : (s : List ℕ) → recordInRange (readFrame s .«record») ≡
 frame-range s = frame-given s .range
 
 -- ---- a comment is a place in the input
+
+pub any-text-comment-within : (s : List ℕ) → readAnyText s .«record» .body .comment .at + readAnyText s .«record» .body .comment .len ≤ length s
+any-text-comment-within s = any-text-given s .within
 
 pub text-comment-within : (s : List ℕ) → readText s .«record» .body .comment .at + readText s .«record» .body .comment .len ≤ length s
 text-comment-within s = text-given s .within
@@ -61,11 +72,20 @@ module _ {size : ℕ} {r : Record} (g : Given size r) where
   unfolding recordRefusal
   given-refusal n = or-or (rangeRefusal r) (kindRefusal (r .body .kind)) n ∙ ap (λ (k : ℕ). orElse k (orElse (kindRefusal (r .body .kind)) n)) (given-range g)
 
+  given-text : (comment : List ℕ) → textRefusal r comment
+      ≡ orElse (cond (isExcepted (r .body)) 15 0) (orElse (kindRefusal (r .body .kind)) (overBy mostBytes (textBytes r comment)))
+  unfolding textRefusal
+  given-text comment = given-refusal (overBy mostBytes (textBytes r comment))
+
+pub any-text-unwritten : (s comment : List ℕ) → textRefusal (readAnyText s .«record») comment
+    ≡ orElse (cond (isExcepted (readAnyText s .«record» .body)) 15 0)
+    (orElse (kindRefusal (readAnyText s .«record» .body .kind)) (overBy mostBytes (textBytes (readAnyText s .«record») comment)))
+any-text-unwritten s = given-text (any-text-given s)
+
 pub text-unwritten : (s comment : List ℕ) → textRefusal (readText s .«record») comment
     ≡ orElse (cond (isExcepted (readText s .«record» .body)) 15 0)
     (orElse (kindRefusal (readText s .«record» .body .kind)) (overBy mostBytes (textBytes (readText s .«record») comment)))
-unfolding textRefusal
-text-unwritten s comment = given-refusal (text-given s) (overBy mostBytes (textBytes (readText s .«record») comment))
+text-unwritten s = given-text (text-given s)
 
 -- the same of a frame, where 13 stands before 1
 pub frame-unwritten : (s comment : List ℕ) → frameRefusal (readFrame s .«record») comment

@@ -11,11 +11,14 @@ use Rattle.buffer.proofs.Wrote.{one-end}
 use Rattle.packet.specs.declared.Record.{Record}
 use Rattle.packet.specs.declared.PacketRead.{PacketRead}
 use Rattle.packet.specs.Record.{blankRecord}
-use Rattle.packet.specs.Packet.{readText, readFrame}
+use Rattle.packet.specs.Packet.{readAnyText, readText, readFrame}
 use Rattle.packet.specs.Written.{textBytes, frameBytes, textRefusal, frameRefusal}
 
 pub unique-blank : (r r′ : Record) → r ≡ blankRecord → r′ ≡ blankRecord → r ≡ r′
 unique-blank r r′ = one-value r r′ blankRecord
+
+pub unique-read-any-length : (s : List ℕ) (r r′ : PacketRead) → r ≡ readAnyText s → r′ ≡ readAnyText s → r ≡ r′
+unique-read-any-length s r r′ = one-value r r′ (readAnyText s)
 
 pub unique-read : (framed : Bool) (s : List ℕ) (r r′ : PacketRead)
     → r ≡ cond framed (readFrame s) (readText s)

@@ -4,12 +4,14 @@
 use Prim.Native.Nat.{ℕ}
 use mathlib.Core.Bool.{cond}
 use mathlib.Core.List.{List}
-use lib.Dec.{eqb}
+use lib.Dec.{eqb, ltb}
+use lib.ListN.{length}
 use Rattle.callsign.specs.declared.Callsign.{Callsign}
 use Rattle.callsign.specs.Text.{blankCall}
 use Rattle.header.specs.declared.Header.{Header}
 use Rattle.header.specs.declared.HeaderRead.{HeaderRead}
-use Rattle.header.specs.Text.{readTextHeader}
+use Rattle.header.specs.Header.{mostBytes}
+use Rattle.header.specs.Text.{readHeaderText}
 use Rattle.header.specs.Frame.{readFrameHeader}
 use Rattle.body.specs.declared.Kind.{Kind}
 use Rattle.body.specs.declared.Kind.the-variants.{Unknown, Position, MicE}
@@ -45,9 +47,13 @@ packetAfter h s =
     (packetOf (h .header) (readBody (h .header .to) s (h .body)))
     (packetRefused (h .refusal))
 
--- a line of text
+-- a text, however long
+unfoldable pub readAnyText : List ℕ → PacketRead
+readAnyText s = packetAfter (readHeaderText s) s
+
+-- a line of text: 1, and then that
 unfoldable pub readText : List ℕ → PacketRead
-readText s = packetAfter (readTextHeader s) s
+readText s = cond (ltb mostBytes (length s)) (packetRefused 1) (readAnyText s)
 
 -- an AX.25 frame
 unfoldable pub readFrame : List ℕ → PacketRead

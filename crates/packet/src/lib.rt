@@ -3,12 +3,10 @@ ghost use mathlib.Core.Path.{_≡_};
 ghost use mathlib.Core.Bool.{cond};
 ghost use Prim.Native.Nat.{_≤_};
 ghost use lib.ListN.{take};
-ghost use Rattle.header.specs.Text.{readTextHeader};
-ghost use Rattle.header.specs.Frame.{readFrameHeader};
 ghost use Rattle.header.specs.Range.{textRefusal as headerTextRefusal};
 ghost use Rattle.buffer.specs.Wrote.{refusedBy, ends, wrote};
 ghost use Rattle.packet.specs.Record.{blankRecord, packetRefused};
-ghost use Rattle.packet.specs.Packet.{headerTo, keptTo, recordOf, packetAfter, readText, readFrame};
+ghost use Rattle.packet.specs.Packet.{headerTo, keptTo, recordOf, packetAfter, readAnyText, readText, readFrame};
 ghost use Rattle.packet.specs.Written.{textBytes, frameBytes, orElse, textRefusal, frameRefusal};
 ghost use Rattle.packet.specs.Private.{headBytes, headRefusal, wroteBehind};
 use body::Body;
@@ -95,34 +93,38 @@ fn packet_after(h: HeaderRead, s: &[u8]) -> PacketRead
     PacketRead { record, refusal: 0 }
 }
 
-fn header_in(s: &[u8], framed: bool) -> HeaderRead
-    ensures { λ r. ⌜ r ≡ cond framed (readFrameHeader (now (s .entry))) (readTextHeader (now (s .entry))) ⌝ }
+// Reads a text, however long: the record, or the number of its first fault and the blank record.
+pub fn read_any_length(s: &[u8]) -> PacketRead
+    ensures { λ r. ⌜ r ≡ readAnyText (now (s .entry)) ⌝ }
 {
-    if framed {
-        return header::read_frame(s);
-    }
-    header::read_text(s)
+    packet_after(header::read_any_length(s), s)
 }
 
-// Reads an AX.25 frame where framed, else a line of text: the record, or the number of its first fault and the blank record.
-pub fn read(s: &[u8], framed: bool) -> PacketRead
-    ensures { λ r. ⌜ r ≡ cond framed (readFrame (now (s .entry))) (readText (now (s .entry))) ⌝ }
-{
-    packet_after(header_in(s, framed), s)
-}
-
-// Reads a line of text.
+// Reads a line of text: refused with 1, and then as a text of any length.
 pub fn read_text(s: &[u8]) -> PacketRead
     ensures { λ r. ⌜ r ≡ readText (now (s .entry)) ⌝ }
 {
-    read(s, false)
+    if MOST < s.len() {
+        return refused(1);
+    }
+    read_any_length(s)
 }
 
 // Reads an AX.25 frame, from its destination to the end of its information.
 pub fn read_frame(s: &[u8]) -> PacketRead
     ensures { λ r. ⌜ r ≡ readFrame (now (s .entry)) ⌝ }
 {
-    read(s, true)
+    packet_after(header::read_frame(s), s)
+}
+
+// Reads an AX.25 frame where framed, else a line of text.
+pub fn read(s: &[u8], framed: bool) -> PacketRead
+    ensures { λ r. ⌜ r ≡ cond framed (readFrame (now (s .entry))) (readText (now (s .entry))) ⌝ }
+{
+    if framed {
+        return read_frame(s);
+    }
+    read_text(s)
 }
 
 // ---- written

@@ -1,17 +1,20 @@
--- The header of a frame or of a line, and what follows it. Assumes nothing.
-use Rattle.packet.proofs.Packets.{either-read}
+-- A frame or a line, by the flag. Assumes nothing.
+use Rattle.laws.proofs.Picks.{picks}
 use borrow.Author.Needs.{needs}
 use Rattle.packet.proofs.read.Statement.{statement}
 use Rattle.packet.proofs.read.Tie as tie
 
-header-in-requires : tie.Need-header-in-requires
-header-in-requires c κs = search needs
-
-packet-after-requires : tie.Need-packet-after-requires
-packet-after-requires c κs = search needs
+read-frame-requires : tie.Need-read-frame-requires
+read-frame-requires c κs = search needs
 
 returns : tie.Need-returns
-returns c = search either-read
+returns c = search picks
+
+read-text-requires : tie.Need-read-text-requires
+read-text-requires c κs = search needs
+
+returns-2 : tie.Need-returns-2
+returns-2 c = search picks
 
 pub read-spec : {M : Type 1} → statement M
-read-spec = tie.close (tie.spec header-in-requires packet-after-requires returns)
+read-spec = tie.close (tie.spec read-frame-requires returns read-text-requires returns-2)
