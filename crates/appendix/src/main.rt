@@ -4,54 +4,22 @@
 ghost use Prim.Native.Nat.{_≤_};
 ghost use lib.ListN.{length};
 
-mod input;
-mod page;
-mod sent;
-mod setting;
-mod tell;
-mod tidy;
+mod part;
+mod table;
 
-use input::Input;
-
-// Puts argument i and a space behind the first `at` bytes of input. Where it does not fit, all of input counts as used.
-fn add(i: usize, input: &mut [u8], at: usize) -> usize {
-    let most = input.len();
-    if most < at {
-        return most;
-    }
-    let n = os::arg(i, &mut input[at..]);
-    if os::errno() != 0 {
-        return most;
-    }
-    if most - at < n {
-        return most;
-    }
-    buffer::put_byte(b' ', input, at + n)
-}
-
-// Puts the arguments to the front of input; answers how many bytes they are.
-fn arguments(input: &mut [u8]) -> usize {
-    let count = os::arg_count();
-    let mut at: usize = 0;
-    let mut i: usize = 1;
-    while i < count {
-        at = add(i, input, at);
-        i += 1;
-    }
-    at
-}
+use stream::Whole;
 
 // Puts the settings to the front of input.
-fn gather(input: &mut [u8]) -> Input {
-    if 1 < os::arg_count() {
-        let held = arguments(input);
-        return Input {
-            held,
-            more: false,
-            failed: false,
-        };
+fn gather(input: &mut [u8]) -> Whole {
+    if os::arg_count() < 2 {
+        return stream::gather(input);
     }
-    input::gather(input)
+    let held = settings::arguments(input);
+    Whole {
+        held,
+        more: false,
+        failed: false,
+    }
 }
 
 // The place where the setting that starts at `from` ends.
@@ -76,39 +44,13 @@ fn filled(text: &[u8]) -> usize
     0
 }
 
-// How many bytes of out are in use, and whether some could not be written.
-struct Output {
-    used: usize,
-    lost: bool,
-}
-
-// Writes the first `used` bytes of out, which are none then.
-fn flush(out: &[u8], used: usize) -> Output {
-    let done = io::write_all(1, lines::cut(out, used));
-    Output {
-        used: 0,
-        lost: !done,
-    }
-}
-
-// Writes what is in use where little room is left.
-fn with_room(out: &[u8], used: usize) -> Output {
-    if used < out.len() {
-        if 8192 < out.len() - used {
-            return Output { used, lost: false };
-        }
-    }
-    flush(out, used)
-}
-
 // Writes what is left of the page, or says that there was no setting; answers whether all could be written.
 fn finish(number: usize, out: &[u8], used: usize) -> bool {
     if number == 0 {
         io::write_all(2, b"usage: there is no setting\n");
         return true;
     }
-    let left = flush(out, used);
-    !left.lost
+    !stream::flush(out, used).lost
 }
 
 // Writes the page of all settings; answers whether all could be written.
@@ -119,13 +61,13 @@ fn print(s: &[u8], out: &mut [u8]) -> bool {
     let mut from: usize = 0;
     while from < s.len() {
         let end = end_of(s, from);
-        let text = tidy::bare(&s[from..end]);
+        let text = settings::bare(&s[from..end]);
         number += filled(text);
-        let left = with_room(out, used);
+        let left = stream::with_room(out, used);
         if left.lost {
             return false;
         }
-        used = page::part(number, shown, text, out, left.used);
+        used = part::part(number, shown, text, out, left.used);
         shown = shown | (left.used < used);
         from = end + 1;
     }
@@ -151,6 +93,6 @@ fn main() {
         io::write_all(2, b"refused: the settings are over 65,535 bytes\n");
         return;
     }
-    tidy::tidy(&mut input);
+    settings::tidy(&mut input);
     answer(lines::cut(&input, read.held));
 }

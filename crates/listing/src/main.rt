@@ -1,59 +1,17 @@
 // Prints document 01's table: standard input, at most 65,536 bytes, one row a line. What fails is said on standard error, by a
 // word at the start of the line that ./tusselgro turns into a status: `refused`, `unread` or `unwritten`.
-mod input;
-
-use input::Input;
 use lines::Line;
+use stream::Output;
 
-// What stands behind the bytes held: something only if they fill the buffer.
-fn beyond(held: usize) -> Input {
-    let mut one = [0u8; 1];
-    if held < 65536 {
-        return Input {
-            held: 0,
-            more: false,
-            failed: false,
-        };
-    }
-    input::gather(&mut one)
-}
-
-// Writes the first `used` bytes of out; answers whether they could be written.
-fn flush(out: &[u8], used: usize) -> bool {
-    io::write_all(1, lines::cut(out, used))
-}
-
-// How many bytes of out are in use, and whether some could not be written.
-struct Rows {
-    used: usize,
-    lost: bool,
-}
-
-// Puts the row of a line behind the first `used` bytes of out; where it does not fit, those are written first.
-fn put_row(number: usize, line: &[u8], out: &mut [u8], used: usize) -> Rows {
-    if out.len() < used {
-        return Rows {
-            used: 0,
-            lost: false,
-        };
-    }
-    let w = row::write_row(number, line, &mut out[used..]);
-    if w.refusal == 0 {
-        return Rows {
-            used: used + w.reported,
-            lost: false,
-        };
-    }
-    if !flush(out, used) {
-        return Rows {
-            used: 0,
-            lost: true,
-        };
-    }
-    let w = row::write_row(number, line, out);
-    Rows {
-        used: w.reported,
-        lost: false,
+// Puts the row of a line, which has 142 bytes at most, behind the first `used` bytes of out; those are written first where
+// little room is left.
+fn put_row(number: usize, line: &[u8], out: &mut [u8], used: usize) -> Output {
+    let mut text = [0u8; 142];
+    let w = row::write_row(number, line, &mut text);
+    let o = stream::with_room(out, used);
+    Output {
+        used: buffer::put(lines::cut(&text, w.reported), out, o.used),
+        lost: o.lost,
     }
 }
 
@@ -75,7 +33,7 @@ fn list(s: &[u8], out: &mut [u8]) -> bool {
         used = rows.used;
         from = next;
     }
-    flush(out, used)
+    !stream::flush(out, used).lost
 }
 
 // Says that there is too much input: document 01's words alone on standard output.
@@ -97,13 +55,12 @@ fn answer(input: &[u8]) {
 
 fn main() {
     let mut input = io::large_buffer();
-    let read = input::gather(&mut input);
-    let rest = beyond(read.held);
-    if read.failed | rest.failed {
+    let read = stream::read_all(&mut input);
+    if read.failed {
         os::fail(b"unread");
         return;
     }
-    if 0 < rest.held {
+    if read.more {
         refuse();
         return;
     }

@@ -1,4 +1,9 @@
-// Standard input a line at a time, of any length, and standard output in parts. Part of the programs inspect and bench.
+// Standard input, a line at a time and of any length, or whole; and standard output in parts. Part of programs.
+mod whole;
+
+pub use whole::Whole;
+pub use whole::gather;
+pub use whole::read_all;
 
 // The line in hand, if there is one: where it starts in the buffer, and its length. What is held behind it goes from the place
 // `next` up to `held`. Passing: that is the rest of a line which was too long, and is passed over. Over: all was read.
