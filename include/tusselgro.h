@@ -1,9 +1,10 @@
 /*
  * Tusselgro for C: APRS packets and their parts read and written, Mic-E fields listed, the bounds of a position.
  *
- * Link with the static library of the crate boundary (x86-64 Linux): `rt staticlib boundary` writes it to
- * target/staticlib/libboundary.a, and it needs only memcpy and memset of the C library. Every function is proved to end,
- * to read only the bytes that it is lent, and to change only the output bytes that it reports.
+ * Link with the static libraries of the crates boundary (packets, fields, bounds) and parts (the parts of a packet), for
+ * x86-64 Linux: `rt staticlib boundary` writes target/staticlib/libboundary.a, `rt staticlib parts` libparts.a beside it.
+ * They need only memcpy and memset of the C library. Every function is proved to end, to read only the bytes that it is
+ * lent, and to change only the output bytes that it reports.
  */
 #ifndef TUSSELGRO_H
 #define TUSSELGRO_H

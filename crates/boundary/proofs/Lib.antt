@@ -1,6 +1,5 @@
 pub mod Numbers
 pub mod Records
 pub mod Writing
-pub mod Parts
 pub mod Theorems
 pub mod Unique

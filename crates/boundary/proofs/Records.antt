@@ -3,7 +3,7 @@
 use mathlib.Core.Path.{_≡_}
 use Prim.Native.Nat.{ℕ}
 use Rattle.mic_e.specs.declared.Message.{Message}
-use Rattle.mic_e.specs.Message.{messageNumber}
+use Rattle.mic_e.specs.Message.{messageNumber, messageAt}
 use Rattle.body.specs.declared.Kind.{Kind}
 use Rattle.body.specs.declared.Report.{Report}
 use Rattle.body.specs.declared.Body.{Body}
@@ -11,7 +11,7 @@ use Rattle.packet.specs.declared.PacketRead.{PacketRead}
 use Rattle.boundary.specs.declared.CReport.{CReport}
 use Rattle.boundary.specs.declared.CBody.{CBody}
 use Rattle.boundary.specs.declared.CRecord.{CRecord}
-use Rattle.boundary.specs.Numbers.{kindNumber, kindAt, messageAt}
+use Rattle.boundary.specs.Numbers.{kindNumber, kindAt}
 use Rattle.boundary.specs.Record.{reportInC, bodyInC, recordInC, readInC, reportMeant, bodyMeant, recordMeant}
 
 -- ---- what a reader gives

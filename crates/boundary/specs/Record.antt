@@ -5,7 +5,7 @@ use Prim.Native.Nat.{ℕ}
 use mathlib.Core.Bool.{Bool, cond, _&&_}
 use mathlib.Core.List.{List}
 use lib.Dec.{leb}
-use Rattle.mic_e.specs.Message.{messageNumber}
+use Rattle.mic_e.specs.Message.{messageNumber, messageAt, mostMessage}
 use Rattle.body.specs.declared.Report.{Report}
 use Rattle.body.specs.declared.Body.{Body}
 use Rattle.packet.specs.declared.Record.{Record}
@@ -15,7 +15,7 @@ use Rattle.boundary.specs.declared.CReport.{CReport}
 use Rattle.boundary.specs.declared.CBody.{CBody}
 use Rattle.boundary.specs.declared.CRecord.{CRecord}
 use Rattle.boundary.specs.declared.CRead.{CRead}
-use Rattle.boundary.specs.Numbers.{kindNumber, kindAt, messageAt, mostKind, mostMessage}
+use Rattle.boundary.specs.Numbers.{kindNumber, kindAt, mostKind}
 
 -- ---- what a reader gives
 

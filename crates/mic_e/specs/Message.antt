@@ -90,3 +90,7 @@ messages = M0 ∷ M1 ∷ M2 ∷ M3 ∷ M4 ∷ M5 ∷ M6 ∷ C0 ∷ C1 ∷ C2 ∷
 -- the message of a number; above the last, Unknown
 unfoldable pub messageAt : ℕ → Message
 messageAt n = getD messages n Unknown
+
+-- the highest number of a message
+abbrev pub mostMessage : ℕ
+mostMessage = 15

@@ -1,0 +1,79 @@
+-- What each public function promises fixes its result: two results that meet one promise are equal.
+-- Assumes nothing.
+use mathlib.Core.Path.{_≡_}
+use mathlib.Core.Bool.{Bool}
+use mathlib.Core.List.{List}
+use Prim.Native.Nat.{ℕ}
+use lib.IntN.{ℤ}
+use Rattle.buffer.specs.declared.Answer.{Answer}
+use Rattle.buffer.specs.Wrote.{ends, wrote}
+use Rattle.laws.proofs.Unique.{one-value}
+use Rattle.buffer.proofs.Wrote.{one-end}
+use Rattle.callsign.specs.declared.Callsign.{Callsign}
+use Rattle.callsign.specs.Text.{readText}
+use Rattle.callsign.specs.Range.{rangeRefusal, textOf, withStar}
+use Rattle.callsign.specs.Address.{readAddress}
+use Rattle.lonlat.specs.Latitude.{readLatitude, latitudeRefusal, latitudeText}
+use Rattle.lonlat.specs.Longitude.{readLongitude, longitudeRefusal, longitudeText}
+use Rattle.position.specs.declared.Place.{Place}
+use Rattle.position.specs.declared.PositionRead.{PositionRead}
+use Rattle.position.specs.Position.{readPosition, positionRefusal, positionText}
+use Rattle.mic_e.specs.declared.Information.{Information}
+use Rattle.mic_e.specs.declared.DestinationWritten.{DestinationWritten}
+use Rattle.mic_e.specs.Destination.{readDestination}
+use Rattle.mic_e.specs.Information.{readInformation, informationRefusal, informationBytes}
+use Rattle.parts.specs.declared.CCallsignRead.{CCallsignRead}
+use Rattle.parts.specs.declared.CAddressRead.{CAddressRead}
+use Rattle.parts.specs.declared.CAddress.{CAddress}
+use Rattle.parts.specs.declared.CLatitudeRead.{CLatitudeRead}
+use Rattle.parts.specs.declared.CLongitudeRead.{CLongitudeRead}
+use Rattle.parts.specs.declared.CDestinationRead.{CDestinationRead}
+use Rattle.parts.specs.declared.CInformationRead.{CInformationRead}
+use Rattle.parts.specs.Parts.{callsignInC, addressInC, addressFor, latitudeInC, longitudeInC, destinationInC, destinationFor, informationInC}
+
+module _ (s : List ℕ) where
+  pub unique-tusselgro-read-callsign : (r r′ : CCallsignRead) → r ≡ callsignInC (readText s) → r′ ≡ callsignInC (readText s) → r ≡ r′
+  unique-tusselgro-read-callsign r r′ = one-value r r′ (callsignInC (readText s))
+
+  pub unique-tusselgro-read-address : (r r′ : CAddressRead) → r ≡ addressInC (readAddress s) → r′ ≡ addressInC (readAddress s) → r ≡ r′
+  unique-tusselgro-read-address r r′ = one-value r r′ (addressInC (readAddress s))
+
+  pub unique-tusselgro-read-latitude : (r r′ : CLatitudeRead) → r ≡ latitudeInC (readLatitude s) → r′ ≡ latitudeInC (readLatitude s) → r ≡ r′
+  unique-tusselgro-read-latitude r r′ = one-value r r′ (latitudeInC (readLatitude s))
+
+  pub unique-tusselgro-read-longitude : (blanks : ℕ) → (r r′ : CLongitudeRead) → r ≡ longitudeInC (readLongitude s blanks) → r′ ≡ longitudeInC (readLongitude s blanks) → r ≡ r′
+  unique-tusselgro-read-longitude blanks r r′ = one-value r r′ (longitudeInC (readLongitude s blanks))
+
+  pub unique-tusselgro-read-position : (r r′ : PositionRead) → r ≡ readPosition s → r′ ≡ readPosition s → r ≡ r′
+  unique-tusselgro-read-position r r′ = one-value r r′ (readPosition s)
+
+  pub unique-tusselgro-read-destination : (r r′ : CDestinationRead) → r ≡ destinationInC (readDestination s) → r′ ≡ destinationInC (readDestination s) → r ≡ r′
+  unique-tusselgro-read-destination r r′ = one-value r r′ (destinationInC (readDestination s))
+
+  pub unique-tusselgro-read-information : (hundred west : Bool) → (r r′ : CInformationRead) → r ≡ informationInC (readInformation s hundred west) → r′ ≡ informationInC (readInformation s hundred west) → r ≡ r′
+  unique-tusselgro-read-information hundred west r r′ = one-value r r′ (informationInC (readInformation s hundred west))
+
+module _ (out : List ℕ) (a a′ : Answer) (o o′ : List ℕ) where
+  pub unique-tusselgro-write-callsign : (call : Callsign) (starred : Bool) → ends a o ≡ wrote (rangeRefusal call) (withStar (textOf call) starred) out → ends a′ o′ ≡ wrote (rangeRefusal call) (withStar (textOf call) starred) out → (a ≡ a′) × (o ≡ o′)
+  unique-tusselgro-write-callsign call starred = one-end a a′ o o′ (wrote (rangeRefusal call) (withStar (textOf call) starred) out)
+
+  pub unique-tusselgro-write-latitude : (latitude : ℤ) (blanks : ℕ) → ends a o ≡ wrote (latitudeRefusal latitude blanks) (latitudeText latitude blanks) out → ends a′ o′ ≡ wrote (latitudeRefusal latitude blanks) (latitudeText latitude blanks) out → (a ≡ a′) × (o ≡ o′)
+  unique-tusselgro-write-latitude latitude blanks = one-end a a′ o o′ (wrote (latitudeRefusal latitude blanks) (latitudeText latitude blanks) out)
+
+  pub unique-tusselgro-write-longitude : (longitude : ℤ) → ends a o ≡ wrote (longitudeRefusal longitude) (longitudeText longitude) out → ends a′ o′ ≡ wrote (longitudeRefusal longitude) (longitudeText longitude) out → (a ≡ a′) × (o ≡ o′)
+  unique-tusselgro-write-longitude longitude = one-end a a′ o o′ (wrote (longitudeRefusal longitude) (longitudeText longitude) out)
+
+  pub unique-tusselgro-write-position : (place : Place) → ends a o ≡ wrote (positionRefusal place) (positionText place) out → ends a′ o′ ≡ wrote (positionRefusal place) (positionText place) out → (a ≡ a′) × (o ≡ o′)
+  unique-tusselgro-write-position place = one-end a a′ o o′ (wrote (positionRefusal place) (positionText place) out)
+
+  pub unique-tusselgro-write-information : (information : Information) → ends a o ≡ wrote (informationRefusal information) (informationBytes information) out → ends a′ o′ ≡ wrote (informationRefusal information) (informationBytes information) out → (a ≡ a′) × (o ≡ o′)
+  unique-tusselgro-write-information information = one-end a a′ o o′ (wrote (informationRefusal information) (informationBytes information) out)
+
+pub unique-tusselgro-write-address : (call : Callsign) (field : ℕ) (last : Bool) (r r′ : CAddress) → r ≡ addressFor call field last → r′ ≡ addressFor call field last → r ≡ r′
+unique-tusselgro-write-address call field last r r′ = one-value r r′ (addressFor call field last)
+
+pub unique-tusselgro-write-destination : (latitude : ℤ) (blanks message : ℕ) (longitude : ℤ) (r r′ : DestinationWritten)
+    → r ≡ destinationFor latitude blanks message longitude
+    → r′ ≡ destinationFor latitude blanks message longitude
+    → r ≡ r′
+unique-tusselgro-write-destination latitude blanks message longitude r r′ = one-value r r′ (destinationFor latitude blanks message longitude)
