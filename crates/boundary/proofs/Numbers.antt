@@ -2,17 +2,12 @@
 use mathlib.Core.Path.{_≡_, refl}
 use mathlib.Core.Bool.{true}
 use lib.Dec.{leb}
-use lib.IntN.{ℤ}
 use Rattle.mic_e.specs.declared.Message.{Message}
 use Rattle.mic_e.specs.declared.Message.the-variants.{M0, M1, M2, M3, M4, M5, M6, C0, C1, C2, C3, C4, C5, C6, Emergency, Unknown}
 use Rattle.mic_e.specs.Message.{messageNumber, messageAt, mostMessage}
 use Rattle.body.specs.declared.Kind.{Kind}
 use Rattle.body.specs.declared.Kind.the-variants as kind
 use Rattle.boundary.specs.Numbers.{kindNumber, mostKind, kindAt}
-
--- what a callee gave for the number y, which is z
-pub of-number : {A : Type 0} (f : ℤ → A) (y z : ℤ) (w : A) → y ≡ z → w ≡ f y → w ≡ f z
-of-number f y z w e h = rw (← e) h
 
 pub kind-kept : (k : Kind) → (kindAt (kindNumber k) ≡ k) × (leb (kindNumber k) mostKind ≡ true)
 unfolding kindAt kindNumber

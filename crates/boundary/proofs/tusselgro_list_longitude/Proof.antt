@@ -1,9 +1,9 @@
 -- The fields of the longitude that the number is. Assumes nothing.
+use mathlib.Core.Path.{ap, _∙_}
 use lib.IntN.{ℤ}
 use denote.Ref.{now}
 use Rattle.numbers.proofs.Sign.{back}
 use Rattle.fields.specs.Lists.{listed, longitudeRefusal, longitudeFields}
-use Rattle.boundary.proofs.Numbers.{of-number}
 use borrow.Author.Needs.{needs}
 use Rattle.boundary.proofs.tusselgro_list_longitude.Statement.{statement}
 use Rattle.boundary.proofs.tusselgro_list_longitude.Tie as tie
@@ -17,7 +17,7 @@ same-length c = search needs
 returns : tie.Need-returns
 returns c =
     let a = c .before .before .before .before .before .args in
-    of-number (λ (z : ℤ). listed (longitudeRefusal z) (longitudeFields (a .hundred) (a .west) z) (now (a .out))) _ (a .longitude) _ (back (a .longitude) (record { sfits = search needs })) (c .before .before .list-longitude .ensures)
+    c .before .before .list-longitude .ensures ∙ ap (λ (z : ℤ). listed (longitudeRefusal z) (longitudeFields (a .hundred) (a .west) z) (now (a .out))) (back (a .longitude) (record { sfits = search needs }))
 
 pub tusselgro-list-longitude-spec : {M : Type 1} → statement M
 tusselgro-list-longitude-spec = tie.close (tie.spec list-longitude-requires same-length returns)
