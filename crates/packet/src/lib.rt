@@ -121,10 +121,10 @@ pub fn read_frame(s: &[u8]) -> PacketRead
 pub fn read(s: &[u8], framed: bool) -> PacketRead
     ensures { λ r. ⌜ r ≡ cond framed (readFrame (now (s .entry))) (readText (now (s .entry))) ⌝ }
 {
-    if framed {
-        return read_frame(s);
+    if !framed {
+        return read_text(s);
     }
-    read_text(s)
+    read_frame(s)
 }
 
 // ---- written
