@@ -60,7 +60,7 @@ fn read(asked: Setting, found: &[u8]) {
 // Finds the page of a setting.
 fn find(text: &[u8]) {
     let asked = settings::read(text);
-    let mut found = [0u8; 108];
+    let mut found = io::buffer();
     let listed = page::list(asked, &mut found);
     if listed.refusal != 0 {
         page::tell(1, text, asked);
@@ -83,10 +83,10 @@ fn start(text: &[u8]) {
 }
 
 fn main() {
-    let mut words = [0u8; 512];
+    let mut words = io::buffer();
     let n = settings::arguments(&mut words);
-    if n == 512 {
-        io::write_all(2, b"usage: the setting is over 511 bytes\n");
+    if n == 4096 {
+        io::write_all(2, b"usage: the setting is over 4,095 bytes\n");
         return;
     }
     settings::tidy(&mut words);
