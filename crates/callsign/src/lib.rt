@@ -23,6 +23,7 @@ pub struct Callsign {
 
 // What reading a text gives: the refusal's number or 0, the callsign, whether a star followed it, and whether its
 // SSID was a lone `0`, which is dropped.
+#[repr(C)]
 pub struct CallRead {
     pub call: Callsign,
     pub starred: bool,
@@ -31,6 +32,7 @@ pub struct CallRead {
 }
 
 // What reading an address gives: the refusal's number or 0, the callsign, and the two flags of the seventh byte.
+#[repr(C)]
 pub struct AddressRead {
     pub call: Callsign,
     pub heard: bool,
@@ -46,6 +48,7 @@ pub enum Field {
 }
 
 // The seven bytes of an address, or the refusal's number and zeros.
+#[repr(C)]
 pub struct AddressWritten {
     pub bytes: [u8; 7],
     pub refusal: u8,

@@ -7,8 +7,6 @@ use borrow.Author.Tests.{le-leb, lt-leb}
 use lib.IntN.{ℤ, pos}
 use lib.ListN.{replicate}
 use Rattle.callsign.specs.declared.Callsign.{Callsign}
-use Rattle.callsign.specs.declared.CallRead.{CallRead}
-use Rattle.callsign.specs.declared.AddressRead.{AddressRead}
 use Rattle.callsign.specs.declared.AddressWritten.{AddressWritten}
 use Rattle.callsign.specs.declared.Field.{Field}
 use Rattle.callsign.specs.Packed.{unwrittenBy, writeAddress}
@@ -32,27 +30,19 @@ use Rattle.mic_e.specs.Message.{messageNumber, messageAt, mostMessage}
 use Rattle.mic_e.specs.Destination.{destinationNumber, writeDestination}
 use Rattle.mic_e.specs.Information.{informationNumber}
 use Rattle.parts.specs.declared.CLongitudeRead.{CLongitudeRead}
-use Rattle.parts.specs.Parts.{callsignInC, addressInC, writtenInC, fieldAt, mostField, addressFor, latitudeInC, noLongitude, longitudeInC, destinationInC, destinationFor, informationInC}
+use Rattle.parts.specs.Parts.{fieldAt, mostField, addressFor, latitudeInC, noLongitude, longitudeInC, destinationInC, destinationFor, informationInC}
 
 -- ---- callsigns and addresses
 
-pub callsign-in-c : (q a : CallRead) → q ≡ a → record { call = q .call; starred = q .starred; zero = q .zero; refusal = q .refusal } ≡ callsignInC a
-unfolding callsignInC
-callsign-in-c q a e = rw e
-
-pub address-in-c : (q a : AddressRead) → q ≡ a → record { call = q .call; heard = q .heard; last = q .last; refusal = q .refusal } ≡ addressInC a
-unfolding addressInC
-address-in-c q a e = rw e
-
 module _ (call : Callsign) (field : ℕ) (last : Bool) where
   pub no-field : mostField < field → record { bytes = replicate 7 0; refusal = 15 } ≡ addressFor call field last
-  unfolding addressFor writtenInC unwrittenBy
+  unfolding addressFor unwrittenBy
   no-field h = rw (lt-leb field mostField h)
 
   pub in-field : (f : Field) (w : AddressWritten) → field ≤ mostField → f ≡ fieldAt field → w ≡ writeAddress call f last
-      → record { bytes = w .bytes; refusal = w .refusal } ≡ addressFor call field last
-  unfolding addressFor writtenInC
-  in-field f w h e g = rw (le-leb field mostField h, ← e, ← g)
+      → w ≡ addressFor call field last
+  unfolding addressFor
+  in-field f w h e g = rw (le-leb field mostField h, ← e) g
 
 -- ---- angles
 

@@ -10,6 +10,9 @@ use Rattle.buffer.specs.Wrote.{ends, wrote}
 use Rattle.laws.proofs.Unique.{one-value}
 use Rattle.buffer.proofs.Wrote.{one-end}
 use Rattle.callsign.specs.declared.Callsign.{Callsign}
+use Rattle.callsign.specs.declared.CallRead.{CallRead}
+use Rattle.callsign.specs.declared.AddressRead.{AddressRead}
+use Rattle.callsign.specs.declared.AddressWritten.{AddressWritten}
 use Rattle.callsign.specs.Text.{readText}
 use Rattle.callsign.specs.Range.{rangeRefusal, textOf, withStar}
 use Rattle.callsign.specs.Address.{readAddress}
@@ -22,21 +25,18 @@ use Rattle.mic_e.specs.declared.Information.{Information}
 use Rattle.mic_e.specs.declared.DestinationWritten.{DestinationWritten}
 use Rattle.mic_e.specs.Destination.{readDestination}
 use Rattle.mic_e.specs.Information.{readInformation, informationRefusal, informationBytes}
-use Rattle.parts.specs.declared.CCallsignRead.{CCallsignRead}
-use Rattle.parts.specs.declared.CAddressRead.{CAddressRead}
-use Rattle.parts.specs.declared.CAddress.{CAddress}
 use Rattle.parts.specs.declared.CLatitudeRead.{CLatitudeRead}
 use Rattle.parts.specs.declared.CLongitudeRead.{CLongitudeRead}
 use Rattle.parts.specs.declared.CDestinationRead.{CDestinationRead}
 use Rattle.parts.specs.declared.CInformationRead.{CInformationRead}
-use Rattle.parts.specs.Parts.{callsignInC, addressInC, addressFor, latitudeInC, longitudeInC, destinationInC, destinationFor, informationInC}
+use Rattle.parts.specs.Parts.{addressFor, latitudeInC, longitudeInC, destinationInC, destinationFor, informationInC}
 
 module _ (s : List ℕ) where
-  pub unique-tusselgro-read-callsign : (r r′ : CCallsignRead) → r ≡ callsignInC (readText s) → r′ ≡ callsignInC (readText s) → r ≡ r′
-  unique-tusselgro-read-callsign r r′ = one-value r r′ (callsignInC (readText s))
+  pub unique-tusselgro-read-callsign : (r r′ : CallRead) → r ≡ readText s → r′ ≡ readText s → r ≡ r′
+  unique-tusselgro-read-callsign r r′ = one-value r r′ (readText s)
 
-  pub unique-tusselgro-read-address : (r r′ : CAddressRead) → r ≡ addressInC (readAddress s) → r′ ≡ addressInC (readAddress s) → r ≡ r′
-  unique-tusselgro-read-address r r′ = one-value r r′ (addressInC (readAddress s))
+  pub unique-tusselgro-read-address : (r r′ : AddressRead) → r ≡ readAddress s → r′ ≡ readAddress s → r ≡ r′
+  unique-tusselgro-read-address r r′ = one-value r r′ (readAddress s)
 
   pub unique-tusselgro-read-latitude : (r r′ : CLatitudeRead) → r ≡ latitudeInC (readLatitude s) → r′ ≡ latitudeInC (readLatitude s) → r ≡ r′
   unique-tusselgro-read-latitude r r′ = one-value r r′ (latitudeInC (readLatitude s))
@@ -69,7 +69,7 @@ module _ (out : List ℕ) (a a′ : Answer) (o o′ : List ℕ) where
   pub unique-tusselgro-write-information : (information : Information) → ends a o ≡ wrote (informationRefusal information) (informationBytes information) out → ends a′ o′ ≡ wrote (informationRefusal information) (informationBytes information) out → (a ≡ a′) × (o ≡ o′)
   unique-tusselgro-write-information information = one-end a a′ o o′ (wrote (informationRefusal information) (informationBytes information) out)
 
-pub unique-tusselgro-write-address : (call : Callsign) (field : ℕ) (last : Bool) (r r′ : CAddress) → r ≡ addressFor call field last → r′ ≡ addressFor call field last → r ≡ r′
+pub unique-tusselgro-write-address : (call : Callsign) (field : ℕ) (last : Bool) (r r′ : AddressWritten) → r ≡ addressFor call field last → r′ ≡ addressFor call field last → r ≡ r′
 unique-tusselgro-write-address call field last r r′ = one-value r r′ (addressFor call field last)
 
 pub unique-tusselgro-write-destination : (latitude : ℤ) (blanks message : ℕ) (longitude : ℤ) (r r′ : DestinationWritten)

@@ -1,5 +1,5 @@
--- What the readers and writers of a packet's parts give, as C has it. Of an enum it is the values of its case beside document
--- 01's number for it; "A refused decode returns" all else 0. A number that stands for no field or message is 15.
+-- What the readers and writers of a packet's parts give, as C has it: of an enum the values of its case beside document 01's number
+-- for it; "A refused decode returns" all else 0. A number that stands for no field or message is 15.
 -- Assumes nothing.
 use Prim.Native.Nat.{ℕ}
 use mathlib.Core.Bool.{Bool, false, cond}
@@ -7,8 +7,6 @@ use lib.Dec.{eqb, leb}
 use lib.IntN.{ℤ, pos}
 use lib.ListN.{replicate}
 use Rattle.callsign.specs.declared.Callsign.{Callsign}
-use Rattle.callsign.specs.declared.CallRead.{CallRead}
-use Rattle.callsign.specs.declared.AddressRead.{AddressRead}
 use Rattle.callsign.specs.declared.AddressWritten.{AddressWritten}
 use Rattle.callsign.specs.declared.Field.{Field}
 use Rattle.callsign.specs.declared.Field.the-variants.{Destination, Source, Hop}
@@ -27,27 +25,12 @@ use Rattle.mic_e.specs.declared.InformationRead.the-variants as information
 use Rattle.mic_e.specs.Message.{messageNumber, messageAt, mostMessage}
 use Rattle.mic_e.specs.Destination.{destinationNumber, writeDestination}
 use Rattle.mic_e.specs.Information.{informationNumber}
-use Rattle.parts.specs.declared.CCallsignRead.{CCallsignRead}
-use Rattle.parts.specs.declared.CAddressRead.{CAddressRead}
-use Rattle.parts.specs.declared.CAddress.{CAddress}
 use Rattle.parts.specs.declared.CLatitudeRead.{CLatitudeRead}
 use Rattle.parts.specs.declared.CLongitudeRead.{CLongitudeRead}
 use Rattle.parts.specs.declared.CDestinationRead.{CDestinationRead}
 use Rattle.parts.specs.declared.CInformationRead.{CInformationRead}
 
 -- ---- callsigns and addresses
-
--- part by part
-unfoldable pub callsignInC : CallRead → CCallsignRead
-callsignInC r = record { call = r .call; starred = r .starred; zero = r .zero; refusal = r .refusal }
-
--- part by part
-unfoldable pub addressInC : AddressRead → CAddressRead
-addressInC r = record { call = r .call; heard = r .heard; last = r .last; refusal = r .refusal }
-
--- part by part
-unfoldable pub writtenInC : AddressWritten → CAddress
-writtenInC w = record { bytes = w .bytes; refusal = w .refusal }
 
 -- the fields of an address by number: 0 the destination, 1 the source, 2 a hop, 3 a heard hop
 unfoldable pub fieldAt : ℕ → Field
@@ -58,8 +41,8 @@ abbrev pub mostField : ℕ
 mostField = 3
 
 -- the address in the field of that number
-unfoldable pub addressFor : Callsign → ℕ → Bool → CAddress
-addressFor call field last = writtenInC (cond (leb field mostField) (writeAddress call (fieldAt field) last) (unwrittenBy 15))
+unfoldable pub addressFor : Callsign → ℕ → Bool → AddressWritten
+addressFor call field last = cond (leb field mostField) (writeAddress call (fieldAt field) last) (unwrittenBy 15)
 
 -- ---- angles
 

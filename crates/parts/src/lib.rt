@@ -11,7 +11,10 @@ ghost use Rattle.lonlat.specs.Longitude.{readLongitude, longitudeRefusal, longi
 ghost use Rattle.position.specs.Position.{readPosition, positionRefusal, positionText};
 ghost use Rattle.mic_e.specs.Destination.{readDestination};
 ghost use Rattle.mic_e.specs.Information.{readInformation, informationRefusal, informationBytes};
-ghost use Rattle.parts.specs.Parts.{callsignInC, addressInC, fieldAt, addressFor, latitudeInC, noLongitude, longitudeInC, destinationInC, destinationFor, informationInC};
+ghost use Rattle.parts.specs.Parts.{fieldAt, addressFor, latitudeInC, noLongitude, longitudeInC, destinationInC, destinationFor, informationInC};
+use callsign::AddressRead;
+use callsign::AddressWritten;
+use callsign::CallRead;
 use callsign::Callsign;
 use callsign::Field;
 use lonlat::Latitude;
@@ -29,28 +32,12 @@ use position::PositionRead;
 
 // ---- callsigns and addresses
 
-// What reading a callsign's text gives: 0 and all that was seen, or the refusal's number and zeros.
-#[repr(C)]
-pub struct CCallsignRead {
-    pub call: Callsign,
-    pub starred: bool,
-    pub zero: bool,
-    pub refusal: u8,
-}
-
 // Reads a callsign's text, with or without a star at its end; refused with 4 or 3.
 #[no_mangle]
-pub extern "C" fn tusselgro_read_callsign(text: &[u8]) -> CCallsignRead
-    ensures { λ r. ⌜ r ≡ callsignInC (readText (now (text .entry))) ⌝ }
+pub extern "C" fn tusselgro_read_callsign(text: &[u8]) -> CallRead
+    ensures { λ r. ⌜ r ≡ readText (now (text .entry)) ⌝ }
 {
-    let r = callsign::read_text(text);
-    let call = r.call;
-    CCallsignRead {
-        call,
-        starred: r.starred,
-        zero: r.zero,
-        refusal: r.refusal,
-    }
+    callsign::read_text(text)
 }
 
 // Writes a callsign as text, with a star after it where starred; refused with 15 or 16.
@@ -65,35 +52,12 @@ pub extern "C" fn tusselgro_write_callsign(
     callsign::write_text(call, starred, out)
 }
 
-// What reading an address gives: 0, the callsign and the two flags, or the refusal's number and zeros.
-#[repr(C)]
-pub struct CAddressRead {
-    pub call: Callsign,
-    pub heard: bool,
-    pub last: bool,
-    pub refusal: u8,
-}
-
 // Reads the seven bytes of an AX.25 address; refused with 3.
 #[no_mangle]
-pub extern "C" fn tusselgro_read_address(address: &[u8]) -> CAddressRead
-    ensures { λ r. ⌜ r ≡ addressInC (readAddress (now (address .entry))) ⌝ }
+pub extern "C" fn tusselgro_read_address(address: &[u8]) -> AddressRead
+    ensures { λ r. ⌜ r ≡ readAddress (now (address .entry)) ⌝ }
 {
-    let r = callsign::read_address(address);
-    let call = r.call;
-    CAddressRead {
-        call,
-        heard: r.heard,
-        last: r.last,
-        refusal: r.refusal,
-    }
-}
-
-// The seven bytes of an address, or the refusal's number and zeros.
-#[repr(C)]
-pub struct CAddress {
-    pub bytes: [u8; 7],
-    pub refusal: u8,
+    callsign::read_address(address)
 }
 
 // The field of an address by its number: 0 destination, 1 source, 2 hop, 3 heard hop.
@@ -111,21 +75,16 @@ fn field_at(n: u8) -> Field
 
 // Writes a callsign as an AX.25 address in the field of that number; refused with 15 or 13.
 #[no_mangle]
-pub extern "C" fn tusselgro_write_address(call: Callsign, field: u8, last: bool) -> CAddress
+pub extern "C" fn tusselgro_write_address(call: Callsign, field: u8, last: bool) -> AddressWritten
     ensures { λ r. ⌜ r ≡ addressFor call field last ⌝ }
 {
     if 3 < field {
-        return CAddress {
+        return AddressWritten {
             bytes: [0; 7],
             refusal: 15,
         };
     }
-    let w = callsign::write_address(call, field_at(field), last);
-    let bytes = w.bytes;
-    CAddress {
-        bytes,
-        refusal: w.refusal,
-    }
+    callsign::write_address(call, field_at(field), last)
 }
 
 // ---- angles and positions
