@@ -1,16 +1,19 @@
 -- Laws of a packet that is read, one for each answer of the code.
 -- Assumes nothing.
 use mathlib.Core.Path.{_≡_}
+use mathlib.Core.Bool.{Bool, true, false, cond}
 use mathlib.Core.List.{List}
 use Prim.Native.Nat.{ℕ}
 use borrow.Author.Tests.{eq-eqb, ne-eqb}
 use Rattle.header.specs.declared.HeaderRead.{HeaderRead}
+use Rattle.header.specs.Text.{readHeaderText}
+use Rattle.header.specs.Frame.{readFrameHeader}
 use Rattle.body.specs.declared.BodyRead.{BodyRead}
 use Rattle.body.specs.Body.{readBody}
 use Rattle.packet.specs.declared.Record.{Record}
 use Rattle.packet.specs.declared.PacketRead.{PacketRead}
 use Rattle.packet.specs.Record.{packetRefused}
-use Rattle.packet.specs.Packet.{recordOf, packetOf, packetAfter}
+use Rattle.packet.specs.Packet.{recordOf, packetOf, packetAfter, readAnyText, readFrame}
 
 -- ---- what follows a header
 
@@ -28,6 +31,10 @@ module _ (h : HeaderRead) (s : List ℕ) where
     unfolding packetAfter packetOf
     packet-made x n w = rw (eq-eqb (h .refusal) 0 z, ← q, eq-eqb (b .refusal) 0 n, w)
 
--- the header that was read is the definition's
-pub header-then : (s : List ℕ) (h k : HeaderRead) (r : PacketRead) → h ≡ k → r ≡ packetAfter h s → r ≡ packetAfter k s
-header-then s h k r e w = rw (← e) w
+-- ---- a frame, or a text
+
+pub either-read : (s : List ℕ) (h : HeaderRead) (framed : Bool) (r : PacketRead) → h ≡ cond framed (readFrameHeader s) (readHeaderText s) → r ≡ packetAfter h s
+    → r ≡ cond framed (readFrame s) (readAnyText s)
+unfolding readFrame readAnyText
+either-read s h true r e w = rw (← e) w
+either-read s h false r e w = rw (← e) w
