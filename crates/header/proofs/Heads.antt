@@ -15,6 +15,7 @@ use Rattle.callsign.specs.declared.Callsign.{Callsign}
 use Rattle.callsign.specs.declared.CallRead.{CallRead}
 use Rattle.callsign.specs.Text.{readText}
 use Rattle.header.specs.declared.Hop.{Hop}
+use Rattle.header.specs.declared.Path.{Path}
 use Rattle.header.specs.declared.PathRead.{PathRead}
 use Rattle.header.specs.declared.HeaderRead.{HeaderRead}
 use Rattle.header.specs.Header.{Hops, refused, these, pathOf, headerRefused, headerAccepted, unlessRefused, withHops}
@@ -48,18 +49,6 @@ unfolding textRead noHops withHops
 hops-given from to body (none n p) z = let m = p .low in absurd (omega arith)
 hops-given from to body (some l m q) z = refl
 
--- the hops behind the first comma, if there is one
-module _ (t : List ℕ) (d : ℕ) (f : d ≡ indexOf comma t) (p : PathRead) where
-  pub none-behind : d ≡ length t → p ≡ noHops 0 → p ≡ textRead (textHops 8 (othersOf (fields t)))
-  unfolding noHops textRead carried starsOf
-  none-behind l e = e ∙ rw (none-after t (sym f ∙ l))
-
-  pub some-behind : (d ≡ length t → ⊥) → p ≡ textRead (textHops 8 (fields (take (length t - (d + 1)) (drop (d + 1) t)))) → p ≡ textRead (textHops 8 (othersOf (fields t)))
-  unfolding othersOf
-  some-behind l e =
-      let y : indexOf comma t < length t = omega (arith, index-le comma t) in
-      e ∙ rw (fields-two t y, rest-at t d, f)
-
 module _ (from : Callsign) (t : List ℕ) (body d : ℕ) (to : CallRead) (r : HeaderRead) (f : d ≡ indexOf comma t) (q : to ≡ readText (take d t)) where
   its-to : readText (firstOf (fields t)) ≡ to
   its-to = rw first-part (rw (← f) (sym q))
@@ -68,16 +57,30 @@ module _ (from : Callsign) (t : List ℕ) (body d : ℕ) (to : CallRead) (r : He
   unfolding readRoute unlessRefused
   to-refused z w = rw (its-to, ne-eqb (to .refusal) 0 z) w
 
-  module _ (z : to .refusal ≡ 0) (p : PathRead) (e : p ≡ textRead (textHops 8 (othersOf (fields t)))) where
-    pub to-hops-refused : (p .refusal ≡ 0 → ⊥) → r ≡ headerRefused (p .refusal) → r ≡ readRoute from t body
-    unfolding readRoute unlessRefused
-    to-hops-refused y w = rw (its-to, eq-eqb (to .refusal) 0 z) (w ∙ rw e (hops-refused (textHops 8 (othersOf (fields t))) _ (λ x. y (ap (λ (q : PathRead). q .refusal) e ∙ x))))
+  module _ (z : to .refusal ≡ 0) where
+    pub to-alone : (p : Path) → d ≡ length t → p ≡ pathOf [] → r ≡ headerAccepted from (to .call) p body 0 → r ≡ readRoute from t body
+    unfolding readRoute unlessRefused withHops carried starsOf
+    to-alone p l e w = rw (its-to, eq-eqb (to .refusal) 0 z, none-after t (sym f ∙ l), ← e) w
 
-    pub to-hops : p .refusal ≡ 0 → r ≡ headerAccepted from (to .call) (p .path) body (p .stars) → r ≡ readRoute from t body
-    unfolding readRoute unlessRefused
-    to-hops y w =
-        rw (its-to, eq-eqb (to .refusal) 0 z)
-        (w ∙ rw e (hops-given from (to .call) body (text-sound 8 (othersOf (fields t))) (sym (ap (λ (q : PathRead). q .refusal) e) ∙ y)))
+    module _ (p : PathRead) (l : d ≡ length t → ⊥) (e : p ≡ textRead (textHops 8 (fields (take (length t - (d + 1)) (drop (d + 1) t))))) where
+      others : othersOf (fields t) ≡ fields (take (length t - (d + 1)) (drop (d + 1) t))
+      unfolding othersOf
+      others =
+          let y : indexOf comma t < length t = omega (arith, index-le comma t) in
+          rw (fields-two t y, rest-at t d, f)
+
+      hops-are : p ≡ textRead (textHops 8 (othersOf (fields t)))
+      hops-are = e ∙ rw others
+
+      pub to-hops-refused : (p .refusal ≡ 0 → ⊥) → r ≡ headerRefused (p .refusal) → r ≡ readRoute from t body
+      unfolding readRoute unlessRefused
+      to-hops-refused y w = rw (its-to, eq-eqb (to .refusal) 0 z) (w ∙ rw hops-are (hops-refused (textHops 8 (othersOf (fields t))) _ (λ x. y (ap (λ (q : PathRead). q .refusal) hops-are ∙ x))))
+
+      pub to-hops : p .refusal ≡ 0 → r ≡ headerAccepted from (to .call) (p .path) body (p .stars) → r ≡ readRoute from t body
+      unfolding readRoute unlessRefused
+      to-hops y w =
+          rw (its-to, eq-eqb (to .refusal) 0 z)
+          (w ∙ rw hops-are (hops-given from (to .call) body (text-sound 8 (othersOf (fields t))) (sym (ap (λ (q : PathRead). q .refusal) hops-are) ∙ y)))
 
 -- ---- source
 

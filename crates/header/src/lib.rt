@@ -5,12 +5,11 @@ ghost use mathlib.Core.Bool.{cond};
 ghost use mathlib.Core.List.{[]};
 ghost use Prim.Native.Nat.{_≤_, max};
 ghost use lib.ListN.{length, take, drop};
-ghost use Rattle.laws.specs.Bytes.{comma};
-ghost use Rattle.laws.specs.Lists.{indexOf, every};
+ghost use Rattle.laws.specs.Lists.{every};
 ghost use Rattle.buffer.specs.Wrote.{ends, wrote};
 ghost use Rattle.callsign.specs.Packed.{writeAddress};
 ghost use Rattle.header.specs.Header.{these, blankHop, pathOf, blankHeader, headerRefused, headerAccepted};
-ghost use Rattle.header.specs.Text.{fields, othersOf, isQ, readHop, textHops, readRoute, readBefore, readHeaderText, readTextHeader, headerText};
+ghost use Rattle.header.specs.Text.{fields, isQ, readHop, textHops, readRoute, readBefore, readHeaderText, readTextHeader, headerText};
 ghost use Rattle.header.specs.Frame.{startsWithPair, frameHops, withPair, readSource, readFrameHeader, headerFrame};
 ghost use Rattle.header.specs.Range.{isBlank, textRefusal, frameRefusal};
 ghost use Rattle.header.specs.Private.{noHops, frameRead, textRead, starredRead, isTidy, building, plain, callPiece, addressPiece, withPiece, withPieces, heardUpTo, endPieces, hopPieces, textPieces, endAddressPieces, hopAddressPieces, framePieces};
@@ -216,17 +215,6 @@ fn read_hops(s: &[u8]) -> PathRead
     }
 }
 
-// The hops behind the comma at the place d, if one stands in t.
-fn hops_behind(t: &[u8], d: usize) -> PathRead
-    requires { ⌜ d ≡ indexOf comma (now t) ⌝ }
-    ensures { λ r. ⌜ r ≡ textRead (textHops 8 (othersOf (fields (now (t .entry))))) ⌝ }
-{
-    if d == t.len() {
-        return no_hops(0);
-    }
-    read_hops(&t[d + 1..])
-}
-
 // Destination and hops: what stands between `>` and `:`.
 fn read_route(from: Callsign, t: &[u8], body: usize) -> HeaderRead
     ensures { λ r. ⌜ r ≡ readRoute from (now (t .entry)) body ⌝ }
@@ -236,7 +224,10 @@ fn read_route(from: Callsign, t: &[u8], body: usize) -> HeaderRead
     if to.refusal != 0 {
         return refused(to.refusal);
     }
-    let hops = hops_behind(t, d);
+    if d == t.len() {
+        return accepted(from, to.call, no_path(), body, 0);
+    }
+    let hops = read_hops(&t[d + 1..]);
     if hops.refusal != 0 {
         return refused(hops.refusal);
     }
