@@ -3,7 +3,7 @@ ghost use mathlib.Core.Path.{_≡_};
 ghost use mathlib.Core.Bool.{cond};
 ghost use Prim.Native.Nat.{_≤_};
 ghost use lib.ListN.{take};
-ghost use Rattle.header.specs.Text.{readHeaderText};
+ghost use Rattle.header.specs.Text.{readTextHeader};
 ghost use Rattle.header.specs.Frame.{readFrameHeader};
 ghost use Rattle.header.specs.Range.{textRefusal as headerTextRefusal};
 ghost use Rattle.buffer.specs.Wrote.{refusedBy, ends, wrote};
@@ -95,54 +95,41 @@ fn packet_after(h: HeaderRead, s: &[u8]) -> PacketRead
     PacketRead { record, refusal: 0 }
 }
 
-fn header_of(s: &[u8], framed: bool) -> HeaderRead
-    ensures { λ r. ⌜ r ≡ cond framed (readFrameHeader (now (s .entry))) (readHeaderText (now (s .entry))) ⌝ }
-{
-    if framed {
-        return header::read_frame(s);
-    }
-    header::read_any_length(s)
-}
-
-// A frame, or a text of any length: one place where a body is read behind a header, so that the header is not copied.
-fn read_as(s: &[u8], framed: bool) -> PacketRead
-    ensures { λ r. ⌜ r ≡ cond framed (readFrame (now (s .entry))) (readAnyText (now (s .entry))) ⌝ }
-{
-    packet_after(header_of(s, framed), s)
-}
-
 // Reads a text, however long: the record, or the number of its first fault and the blank record.
 pub fn read_any_length(s: &[u8]) -> PacketRead
     ensures { λ r. ⌜ r ≡ readAnyText (now (s .entry)) ⌝ }
 {
-    read_as(s, false)
+    packet_after(header::read_any_length(s), s)
 }
 
-// Reads a line of text: refused with 1, and then as a text of any length.
+fn header_in(s: &[u8], framed: bool) -> HeaderRead
+    ensures { λ r. ⌜ r ≡ cond framed (readFrameHeader (now (s .entry))) (readTextHeader (now (s .entry))) ⌝ }
+{
+    if framed {
+        return header::read_frame(s);
+    }
+    header::read_text(s)
+}
+
+// Reads an AX.25 frame where framed, else a line of text: refused with 1, and then as a text of any length.
+pub fn read(s: &[u8], framed: bool) -> PacketRead
+    ensures { λ r. ⌜ r ≡ cond framed (readFrame (now (s .entry))) (readText (now (s .entry))) ⌝ }
+{
+    packet_after(header_in(s, framed), s)
+}
+
+// Reads a line of text.
 pub fn read_text(s: &[u8]) -> PacketRead
     ensures { λ r. ⌜ r ≡ readText (now (s .entry)) ⌝ }
 {
-    if MOST < s.len() {
-        return refused(1);
-    }
-    read_any_length(s)
+    read(s, false)
 }
 
 // Reads an AX.25 frame, from its destination to the end of its information.
 pub fn read_frame(s: &[u8]) -> PacketRead
     ensures { λ r. ⌜ r ≡ readFrame (now (s .entry)) ⌝ }
 {
-    read_as(s, true)
-}
-
-// Reads an AX.25 frame where framed, else a line of text.
-pub fn read(s: &[u8], framed: bool) -> PacketRead
-    ensures { λ r. ⌜ r ≡ cond framed (readFrame (now (s .entry))) (readText (now (s .entry))) ⌝ }
-{
-    if !framed {
-        return read_text(s);
-    }
-    read_frame(s)
+    read(s, true)
 }
 
 // ---- written
