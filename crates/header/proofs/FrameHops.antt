@@ -19,7 +19,7 @@ use Rattle.header.specs.declared.Hop.{Hop}
 use Rattle.header.specs.declared.PathRead.{PathRead}
 use Rattle.header.specs.Header.{Hops, refused, these, before, blankHop}
 use Rattle.header.specs.Frame.{addressHop, addressThen, frameHops}
-use Rattle.header.specs.Private.{noHops, frameRead}
+use Rattle.header.specs.Private.{pathRefused, frameRead}
 use Rattle.header.proofs.Going.{Going, going-start, going-more, going-refused, going-done}
 
 -- ---- one character of the address at a place
@@ -156,7 +156,7 @@ module _ (s : List ℕ) (hops hops′ : List Hop) (count count′ at refusal′ 
     out-last call n sp i refusal c h l w z q e eh ec er = inr (er ∙ z, rw (eh, ec) (walk-ends s hops count at g more (w .room) c h l q e))
 
 module _ (s : List ℕ) (hops : List Hop) (count refusal : ℕ) (o : Outcome s hops count refusal) where
-  pub walk-refused : (r : PathRead) → (refusal ≡ 0 → ⊥) → r ≡ noHops refusal → r ≡ frameRead (frameHops 8 s)
+  pub walk-refused : (r : PathRead) → (refusal ≡ 0 → ⊥) → r ≡ pathRefused refusal → r ≡ frameRead (frameHops 8 s)
   unfolding Outcome frameRead
   walk-refused r z w = ⊎-elim (λ x. w ∙ sym (rw (x .1))) (λ x. absurd (z (x .0))) o
 

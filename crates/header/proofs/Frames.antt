@@ -20,7 +20,7 @@ use Rattle.header.specs.declared.PathRead.{PathRead}
 use Rattle.header.specs.declared.HeaderRead.{HeaderRead}
 use Rattle.header.specs.Header.{mostBytes, Hops, refused, these, pathOf, headerRefused, headerAccepted, unlessRefused, withHops}
 use Rattle.header.specs.Frame.{control, protocol, startsWithPair, frameHops, withPair, readSource, readFrameHeader}
-use Rattle.header.specs.Private.{noHops, frameRead}
+use Rattle.header.specs.Private.{pathRefused, frameRead}
 use Rattle.header.proofs.Walks.{InFrame, Sound, none, some, frame-sound}
 
 -- ---- the two bytes behind the addresses
@@ -59,9 +59,9 @@ module _ (from to : Callsign) (p : Path) (s : List ℕ) (r : HeaderRead) (u : Bo
 -- ---- the hops, of a source that is the last address or not
 
 module _ (last : Bool) (s : List ℕ) (p : PathRead) where
-  pub none-behind : last ≡ true → p ≡ noHops 0 → p ≡ frameRead (cond last (these []) (frameHops 8 (drop 14 s)))
-  unfolding noHops frameRead
-  none-behind l e = rw l e
+  pub none-behind : (q : Path) → last ≡ true → q ≡ pathOf [] → p ≡ record { path = q; stars = 0; refusal = 0 } → p ≡ frameRead (cond last (these []) (frameHops 8 (drop 14 s)))
+  unfolding frameRead
+  none-behind q l e w = rw (l, ← e) w
 
   pub some-behind : last ≡ false → p ≡ frameRead (frameHops 8 (take (length s - 14) (drop 14 s))) → p ≡ frameRead (cond last (these []) (frameHops 8 (drop 14 s)))
   some-behind l e = rw l (e ∙ rw (part-to-end s 14))
@@ -72,7 +72,7 @@ hops-sound true s = some [] (omega arith) refl
 hops-sound false s = frame-sound 8 s
 
 sound-count : (k : ℕ) {w : Hops} → Sound InFrame k w → frameRead w .path .count ≤ k
-unfolding frameRead noHops pathOf
+unfolding frameRead pathRefused pathOf
 sound-count k (none n p) = omega arith
 sound-count k (some l m q) = m
 
@@ -80,12 +80,12 @@ pub hops-count : (p : PathRead) (last : Bool) (s : List ℕ) → p ≡ frameRead
 hops-count p last s e = rw e (sound-count 8 (hops-sound last s))
 
 hops-refused : (w : Hops) (next : List Hop → HeaderRead) → (frameRead w .refusal ≡ 0 → ⊥) → headerRefused (frameRead w .refusal) ≡ withHops w next
-unfolding frameRead noHops withHops
+unfolding frameRead pathRefused withHops
 hops-refused (refused n) next z = refl
 hops-refused (these l) next z = absurd (z refl)
 
 hops-given : (next : Path → HeaderRead) {w : Hops} → Sound InFrame 8 w → frameRead w .refusal ≡ 0 → next (frameRead w .path) ≡ withHops w (λ l. next (pathOf l))
-unfolding frameRead noHops withHops
+unfolding frameRead pathRefused withHops
 hops-given next (none n p) z = let m = p .low in absurd (omega arith)
 hops-given next (some l m q) z = refl
 

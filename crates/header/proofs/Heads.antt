@@ -20,7 +20,7 @@ use Rattle.header.specs.declared.PathRead.{PathRead}
 use Rattle.header.specs.declared.HeaderRead.{HeaderRead}
 use Rattle.header.specs.Header.{Hops, refused, these, pathOf, headerRefused, headerAccepted, unlessRefused, withHops}
 use Rattle.header.specs.Text.{fields, firstOf, othersOf, textHops, starsOf, carried, readRoute, readBefore, readHeaderText}
-use Rattle.header.specs.Private.{noHops, textRead}
+use Rattle.header.specs.Private.{pathRefused, textRead}
 use Rattle.header.proofs.Walks.{InText, Sound, none, some, text-sound}
 use Rattle.header.proofs.TextHops.{fields-one, fields-two, fields-some, no-parts}
 
@@ -39,13 +39,13 @@ none-after t e = rw (fields-one t e, no-parts 8)
 
 -- what the hops come to, by what the code has of them
 hops-refused : (w : Hops) (next : List Hop → HeaderRead) → (textRead w .refusal ≡ 0 → ⊥) → headerRefused (textRead w .refusal) ≡ withHops w next
-unfolding textRead noHops withHops
+unfolding textRead pathRefused withHops
 hops-refused (refused n) next z = refl
 hops-refused (these l) next z = absurd (z refl)
 
 hops-given : (from to : Callsign) (body : ℕ) {w : Hops} → Sound InText 8 w → textRead w .refusal ≡ 0
     → headerAccepted from to (textRead w .path) body (textRead w .stars) ≡ withHops w (λ l. headerAccepted from to (pathOf (carried l)) body (starsOf l))
-unfolding textRead noHops withHops
+unfolding textRead pathRefused withHops
 hops-given from to body (none n p) z = let m = p .low in absurd (omega arith)
 hops-given from to body (some l m q) z = refl
 

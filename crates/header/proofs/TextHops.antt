@@ -21,7 +21,7 @@ use Rattle.header.specs.declared.HopRead.{HopRead}
 use Rattle.header.specs.declared.PathRead.{PathRead}
 use Rattle.header.specs.Header.{refused, these, blankHop}
 use Rattle.header.specs.Text.{fields, onFirst, readHop, hopThen, textHops}
-use Rattle.header.specs.Private.{noHops, textRead, starredRead}
+use Rattle.header.specs.Private.{pathRefused, textRead, starredRead}
 use Rattle.header.proofs.Going.{Going, going-start, going-more, going-refused, going-carried}
 
 -- ---- the parts of a text, by the place of its first comma
@@ -75,7 +75,7 @@ pub reading-start : (s : List ℕ) (b : Hop) → b ≡ blankHop → Reading s s 
 reading-start s b e = record { going = going-start (textHops 8 (fields s)) b e; within = omega arith }
 
 module _ (s t : List ℕ) (hops : List Hop) (n : ℕ) (g : Reading s t hops n) where
-  pub ninth : (r : PathRead) → n ≡ 8 → r ≡ noHops 5 → r ≡ textRead (textHops 8 (fields s))
+  pub ninth : (r : PathRead) → n ≡ 8 → r ≡ pathRefused 5 → r ≡ textRead (textHops 8 (fields s))
   unfolding textHops textRead
   ninth r e w =
       let p = fields-some t in
@@ -95,7 +95,7 @@ module _ (s t : List ℕ) (hops : List Hop) (n : ℕ) (g : Reading s t hops n) w
         let z : 8 - n ≡ suc (8 - (n + 1)) = omega arith in
         rw (p, z, ← q)
 
-    pub hop-refused : (r : PathRead) → (h .refusal ≡ 0 → ⊥) → r ≡ noHops (h .refusal) → r ≡ textRead (textHops 8 (fields s))
+    pub hop-refused : (r : PathRead) → (h .refusal ≡ 0 → ⊥) → r ≡ pathRefused (h .refusal) → r ≡ textRead (textHops 8 (fields s))
     unfolding hopThen textRead
     hop-refused r z w =
         let p = fields-some t in

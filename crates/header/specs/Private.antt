@@ -25,18 +25,18 @@ use Rattle.header.specs.Range.{isBlank}
 
 -- ---- hops read
 
--- no hops, with that refusal or 0
-unfoldable pub noHops : ℕ → PathRead
-noHops n = record { path = pathOf []; stars = 0; refusal = n }
+-- a refusal, with no hops
+unfoldable pub pathRefused : ℕ → PathRead
+pathRefused n = record { path = pathOf []; stars = 0; refusal = n }
 
 -- a frame's hops, each heard as it is
 unfoldable pub frameRead : Hops → PathRead
-frameRead (refused n) = noHops n
+frameRead (refused n) = pathRefused n
 frameRead (these l) = record { path = pathOf l; stars = 0; refusal = 0 }
 
 -- a text's, their stars as typed and carried back
 unfoldable pub textRead : Hops → PathRead
-textRead (refused n) = noHops n
+textRead (refused n) = pathRefused n
 textRead (these l) = record { path = pathOf (carried l); stars = starsOf l; refusal = 0 }
 
 -- the same of the first n hops in the array

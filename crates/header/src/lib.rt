@@ -12,7 +12,7 @@ ghost use Rattle.header.specs.Header.{these, blankHop, pathOf, blankHead
 ghost use Rattle.header.specs.Text.{fields, isQ, readHop, textHops, readRoute, readBefore, readHeaderText, readTextHeader, headerText};
 ghost use Rattle.header.specs.Frame.{startsWithPair, frameHops, withPair, readSource, readFrameHeader, headerFrame};
 ghost use Rattle.header.specs.Range.{isBlank, textRefusal, frameRefusal};
-ghost use Rattle.header.specs.Private.{noHops, frameRead, textRead, starredRead, isTidy, building, plain, callPiece, addressPiece, withPiece, withPieces, heardUpTo, endPieces, hopPieces, textPieces, endAddressPieces, hopAddressPieces, framePieces};
+ghost use Rattle.header.specs.Private.{pathRefused, frameRead, textRead, starredRead, isTidy, building, plain, callPiece, addressPiece, withPiece, withPieces, heardUpTo, endPieces, hopPieces, textPieces, endAddressPieces, hopAddressPieces, framePieces};
 use callsign::Callsign;
 use callsign::Field;
 
@@ -118,9 +118,8 @@ fn accepted(from: Callsign, to: Callsign, path: Path, body: usize, stars: u8) ->
     }
 }
 
-// No hops, with that refusal or 0.
-fn no_hops(n: u8) -> PathRead
-    ensures { λ r. ⌜ r ≡ noHops n ⌝ }
+fn path_refused(n: u8) -> PathRead
+    ensures { λ r. ⌜ r ≡ pathRefused n ⌝ }
 {
     let path = no_path();
     PathRead {
@@ -198,12 +197,12 @@ fn read_hops(s: &[u8]) -> PathRead
     let mut t = s;
     loop {
         if n == 8 {
-            return no_hops(5);
+            return path_refused(5);
         }
         let e = laws::find(t, b',');
         let h = read_hop(&t[..e]);
         if h.refusal != 0 {
-            return no_hops(h.refusal);
+            return path_refused(h.refusal);
         }
         let hop = h.hop;
         hops[n] = hop;
@@ -331,7 +330,7 @@ fn walk(s: &[u8]) -> PathRead
         }
     }
     if refusal != 0 {
-        return no_hops(refusal);
+        return path_refused(refusal);
     }
     let path = Path { hops, count };
     PathRead {
@@ -347,7 +346,12 @@ fn hops_of(last: bool, s: &[u8]) -> PathRead
     ensures { λ r. ⌜ r ≡ frameRead (cond last (these []) (frameHops 8 (drop 14 (now (s .entry))))) ⌝ }
 {
     if last {
-        return no_hops(0);
+        let path = no_path();
+        return PathRead {
+            path,
+            stars: 0,
+            refusal: 0,
+        };
     }
     walk(&s[14..])
 }

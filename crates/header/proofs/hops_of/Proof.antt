@@ -4,8 +4,8 @@ use borrow.Author.Needs.{needs}
 use Rattle.header.proofs.hops_of.Statement.{statement}
 use Rattle.header.proofs.hops_of.Tie as tie
 
-no-hops-requires : tie.Need-no-hops-requires
-no-hops-requires c κs = search needs
+no-path-requires : tie.Need-no-path-requires
+no-path-requires c κs = search needs
 
 returns : tie.Need-returns
 returns c = search none-behind
@@ -29,7 +29,7 @@ pub hops-of-spec : {M : Type 1} → statement M
 hops-of-spec =
     tie.close
     (tie.spec
-    no-hops-requires
+    no-path-requires
     returns
     sub-walk
     part-walk-start

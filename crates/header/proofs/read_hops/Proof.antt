@@ -19,8 +19,8 @@ blank-hop-requires c κs = search needs
 loop-holds : tie.Need-loop-holds Inv-loop μ-loop
 loop-holds c = search reading-start
 
-no-hops-requires : tie.Need-no-hops-requires Inv-loop μ-loop
-no-hops-requires c κs = search needs
+path-refused-requires : tie.Need-path-refused-requires Inv-loop μ-loop
+path-refused-requires c κs = search needs
 
 returns : tie.Need-returns Inv-loop μ-loop
 returns c = search ninth
@@ -34,8 +34,8 @@ slice-aggregate-read-hop c = search found-part
 read-hop-requires : tie.Need-read-hop-requires Inv-loop μ-loop
 read-hop-requires c κs = search needs
 
-no-hops-requires-2 : tie.Need-no-hops-requires-2 Inv-loop μ-loop
-no-hops-requires-2 c κs = search needs
+path-refused-requires-2 : tie.Need-path-refused-requires-2 Inv-loop μ-loop
+path-refused-requires-2 c κs = search needs
 
 returns-2 : tie.Need-returns-2 Inv-loop μ-loop
 returns-2 c = search hop-refused
@@ -81,12 +81,12 @@ read-hops-spec =
     μ-loop
     blank-hop-requires
     loop-holds
-    no-hops-requires
+    path-refused-requires
     returns
     find-requires
     slice-aggregate-read-hop
     read-hop-requires
-    no-hops-requires-2
+    path-refused-requires-2
     returns-2
     mul-hops
     array-set-from-hops

@@ -102,8 +102,8 @@ hops-less c = omega arith
 hops-again : tie.Need-hops-again Inv-loop μ-loop Inv-hops μ-hops
 hops-again c = (omega arith, search (walk-on, spelt))
 
-no-hops-requires : tie.Need-no-hops-requires Inv-loop μ-loop Inv-hops μ-hops
-no-hops-requires c κs = search needs
+path-refused-requires : tie.Need-path-refused-requires Inv-loop μ-loop Inv-hops μ-hops
+path-refused-requires c κs = search needs
 
 outcome : (c : tie.Joined1 Inv-loop μ-loop Inv-hops μ-hops) → Outcome (now (c .before .before .before .before .args .s)) (c .if1 .hops) (c .if1 .count) (c .if1 .refusal)
 outcome c =
@@ -116,7 +116,7 @@ outcome c =
     (c .if1 .came)
 
 returns : tie.Need-returns Inv-loop μ-loop Inv-hops μ-hops
-returns c = walk-refused _ _ _ _ (outcome (c .before .before)) _ (c .before .if8 .taken) (c .no-hops .ensures)
+returns c = walk-refused _ _ _ _ (outcome (c .before .before)) _ (c .before .if8 .taken) (c .path-refused .ensures)
 
 returns-2 : tie.Need-returns-2 Inv-loop μ-loop Inv-hops μ-hops
 returns-2 c = search (walk-done, outcome)
@@ -156,6 +156,6 @@ walk-spec =
     last-requires-2
     hops-less
     hops-again
-    no-hops-requires
+    path-refused-requires
     returns
     returns-2)
