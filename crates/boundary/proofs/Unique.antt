@@ -10,11 +10,12 @@ use Rattle.buffer.specs.Wrote.{ends, wrote}
 use Rattle.laws.proofs.Unique.{one-value}
 use Rattle.buffer.proofs.Wrote.{one-end}
 use Rattle.lonlat.specs.Angle.{mostLatitude, mostLongitude}
+use Rattle.lonlat.specs.Longitude.{longitudeRefusal}
 use Rattle.position.specs.declared.BoundsAnswer.{BoundsAnswer}
 use Rattle.position.specs.declared.PageBox.{PageBox}
 use Rattle.position.specs.Bounds.{boundsOf}
 use Rattle.position.specs.Page.{boxOf}
-use Rattle.fields.specs.Lists.{listed, motionRefusal, motionFields, longitudeRefusal, longitudeFields}
+use Rattle.fields.specs.Lists.{listed, motionRefusal, motionFields, longitudeFields}
 use Rattle.packet.specs.Packet.{readText, readFrame}
 use Rattle.packet.specs.Written.{textBytes, frameBytes}
 use Rattle.boundary.specs.declared.CRecord.{CRecord}

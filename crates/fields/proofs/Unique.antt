@@ -8,7 +8,8 @@ use lib.IntN.{ℤ}
 use Rattle.buffer.specs.Wrote.{ends}
 use Rattle.buffer.specs.declared.Answer.{Answer}
 use Rattle.buffer.proofs.Wrote.{one-end}
-use Rattle.fields.specs.Lists.{listed, motionFields, motionRefusal, longitudeFields, longitudeRefusal}
+use Rattle.lonlat.specs.Longitude.{longitudeRefusal}
+use Rattle.fields.specs.Lists.{listed, motionFields, motionRefusal, longitudeFields}
 
 module _ (r r′ : Answer) (o o′ out : List ℕ) where
   pub unique-list-motion : (s t : ℕ)

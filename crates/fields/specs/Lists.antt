@@ -1,14 +1,14 @@
 -- The two lists (document 01): all the fields that read as a target, and what a lister answers and leaves. "A lister
--- reports the number of fields, and three times as many bytes change; at 16 it returns those bytes."
+-- reports the number of fields, and three times as many bytes change; at 16 it returns those bytes." A list target may be
+-- 180 degrees: its refusal is `longitudeRefusal` of lonlat, as for a longitude in text.
 -- Assumes nothing.
 use mathlib.Core.Bool.{Bool, false, cond, _&&_}
 use mathlib.Core.List.{List}
 use Prim.Native.Nat.{ℕ}
-use lib.Dec.{eqb, ltb}
-use lib.IntN.{ℤ, pos, negsuc, natAbs}
+use lib.Dec.{eqb}
+use lib.IntN.{ℤ, pos, negsuc}
 use lib.ListN.{length}
 use Rattle.buffer.specs.Wrote.{Wrote, wroteAs}
-use Rattle.lonlat.specs.Angle.{mostLongitude}
 use Rattle.mic_e.specs.Motion.{readMotion, motionOut}
 use Rattle.mic_e.specs.Longitude.{readLongitude}
 use Rattle.mic_e.specs.declared.Field.{Field}
@@ -54,7 +54,3 @@ isLongitude target Lost = false
 -- under an offset and a side
 unfoldable pub longitudeFields : Bool → Bool → ℤ → List Field
 longitudeFields hundred west target = allFields (λ a b c. isLongitude target (readLongitude hundred west a b c))
-
--- "A list target may be 180 degrees."
-unfoldable pub longitudeRefusal : ℤ → ℕ
-longitudeRefusal target = cond (ltb mostLongitude (natAbs target)) 15 0

@@ -3,7 +3,8 @@ use mathlib.Core.Path.{ap, _∙_}
 use lib.IntN.{ℤ}
 use denote.Ref.{now}
 use Rattle.numbers.proofs.Sign.{back}
-use Rattle.fields.specs.Lists.{listed, longitudeRefusal, longitudeFields}
+use Rattle.lonlat.specs.Longitude.{longitudeRefusal}
+use Rattle.fields.specs.Lists.{listed, longitudeFields}
 use borrow.Author.Needs.{needs}
 use Rattle.boundary.proofs.tusselgro_list_longitude.Statement.{statement}
 use Rattle.boundary.proofs.tusselgro_list_longitude.Tie as tie

@@ -6,10 +6,10 @@ use Prim.Native.Nat.{_<_, _≤_}
 use lib.IntN.{ℤ, natAbs}
 use borrow.Author.Tests.{lt-ltb, le-ltb}
 use Rattle.lonlat.specs.Angle.{mostLongitude}
+use Rattle.lonlat.specs.Longitude.{longitudeRefusal}
 use Rattle.numbers.specs.Sign.{isMinus, sidesOf}
 use Rattle.numbers.specs.declared.Sides.{Sides}
 use Rattle.numbers.proofs.Sign.{back}
-use Rattle.fields.specs.Lists.{longitudeRefusal}
 use Rattle.fields.specs.Search.{sameSide}
 use Rattle.fields.proofs.Answers.{out-of-range, empty-list}
 use Rattle.fields.proofs.Sides.{on-side, off-side}
