@@ -182,33 +182,6 @@ fn kind_word(s: &[u8]) -> KindWord {
     }
 }
 
-fn standard(k: usize) -> MessageWord {
-    match k {
-        0 => MessageWord::Is(Message::M0),
-        1 => MessageWord::Is(Message::M1),
-        2 => MessageWord::Is(Message::M2),
-        3 => MessageWord::Is(Message::M3),
-        4 => MessageWord::Is(Message::M4),
-        5 => MessageWord::Is(Message::M5),
-        _ => MessageWord::Is(Message::M6),
-    }
-}
-
-fn custom(k: usize) -> MessageWord {
-    match k {
-        7 => MessageWord::Is(Message::C0),
-        8 => MessageWord::Is(Message::C1),
-        9 => MessageWord::Is(Message::C2),
-        10 => MessageWord::Is(Message::C3),
-        11 => MessageWord::Is(Message::C4),
-        12 => MessageWord::Is(Message::C5),
-        13 => MessageWord::Is(Message::C6),
-        14 => MessageWord::Is(Message::Emergency),
-        15 => MessageWord::Is(Message::Unknown),
-        _ => MessageWord::Bad,
-    }
-}
-
 // A message by its name; a dash for none, where there need be none.
 fn message_word(s: &[u8], needed: bool) -> MessageWord {
     if check::same(s, b"-") {
@@ -221,10 +194,10 @@ fn message_word(s: &[u8], needed: bool) -> MessageWord {
         s,
         b"M0 M1 M2 M3 M4 M5 M6 C0 C1 C2 C3 C4 C5 C6 emergency unknown",
     );
-    if k < 7 {
-        return standard(k);
+    if 15 < k {
+        return MessageWord::Bad;
     }
-    custom(k)
+    MessageWord::Is(mic_e::message_at(k as u8))
 }
 
 fn no_place() -> PlaceWord {

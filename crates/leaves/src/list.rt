@@ -36,7 +36,7 @@ fn listed(w: buffer::Answer, buffer: &[u8], plain: bool, out: &mut [u8], at: usi
 
 fn list_motion(speed: u32, course: u32, buffer: &mut [u8], room: usize) -> buffer::Answer {
     if buffer.len() < room {
-        return buffer::refused(0);
+        return buffer::no_room(room);
     }
     fields::list_motion(Speed(speed), Course(course), &mut buffer[..room])
 }
@@ -68,7 +68,7 @@ fn list_longitude(
     room: usize,
 ) -> buffer::Answer {
     if buffer.len() < room {
-        return buffer::refused(0);
+        return buffer::no_room(room);
     }
     fields::list_longitude(Longitude(angle), hundred, west, &mut buffer[..room])
 }

@@ -13,7 +13,7 @@ fn write_into(
     room: usize,
 ) -> buffer::Answer {
     if buffer.len() < room {
-        return buffer::refused(0);
+        return buffer::no_room(room);
     }
     packet::write(r, framed, comment, &mut buffer[..room])
 }

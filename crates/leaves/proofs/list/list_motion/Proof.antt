@@ -5,8 +5,8 @@ use borrow.Author.Needs.{needs}
 use Rattle.leaves.proofs.list.list_motion.Statement.{statement}
 use Rattle.leaves.proofs.list.list_motion.Tie as tie
 
-refused-requires : tie.Need-refused-requires
-refused-requires c κs = search needs
+no-room-requires : tie.Need-no-room-requires
+no-room-requires c κs = search needs
 
 returns : tie.Need-returns
 returns c = search needs
@@ -30,7 +30,7 @@ pub list-motion-spec : {M : Type 1} → statement M
 list-motion-spec =
     tie.close
     (tie.spec
-    refused-requires
+    no-room-requires
     returns
     slice-relend-prefix-list-motion
     slice-aggregate-list-motion
