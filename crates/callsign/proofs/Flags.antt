@@ -2,17 +2,18 @@
 -- Assumes nothing.
 use mathlib.Core.Path.{_≡_, refl, sym, ap, _∙_}
 use mathlib.Core.Bool.{Bool, true, false, _&&_, _||_, and-true, and-assoc}
-use mathlib.Core.List.{List, [], _∷_}
-use Prim.Native.Nat.{ℕ, zero, suc, _+_, _<_, _≤_}
+use mathlib.Core.List.{List, [], _∷_, _++_}
+use Prim.Native.Nat.{ℕ, zero, suc, _+_, _-_, _<_, _≤_}
 use native.Mathlib.Numerals.{add-one}
 use native.Mathlib.Omega.{arith}
 use lib.Dec.{eqb, ltb}
 use borrow.Author.Tests.{lt-ltb, le-ltb, ltb-true, ltb-false}
-use lib.ListN.{length, take, drop, getD, drop-of-length-le}
-use Rattle.laws.specs.Lists.{every, zeros}
+use lib.ListN.{length, take, drop, getD, replicate, drop-of-length-le}
+use lib.Seq.{take-append-seam}
+use Rattle.laws.specs.Lists.{every, zeros, padTo}
 use Rattle.laws.proofs.Lists.{next}
 use Rattle.laws.proofs.Each.{every-take}
-use Rattle.callsign.specs.Utf8.{ascii}
+use Rattle.callsign.specs.Utf8.{ascii, utf8}
 use Rattle.callsign.specs.Range.{sound}
 use Rattle.callsign.proofs.Unicode.{ascii-utf8}
 
@@ -62,6 +63,14 @@ pub behind-end : (b fine : Bool) (l : List ℕ) (n i m : ℕ) → length l ≡ m
 behind-end b fine l n i m w h e = let k : length l ≤ i = omega arith in sym (e ∙ rw (drop-of-length-le l k) (and-true fine))
 
 -- ---- ASCII
+
+-- a text whose bytes in front of zeros are all ASCII
+pub text-by-ascii : (u r : Bool) (t x : List ℕ) → x ≡ padTo 16 0 t → u ≡ every ascii x → u ≡ true → r ≡ true → r ≡ utf8 t
+unfolding padTo
+text-by-ascii u r t x q e h w =
+    let z : List ℕ = replicate (16 - length t) 0 in
+    let k : every ascii (t ++ z) ≡ true = ap (every ascii) (sym q) ∙ sym e ∙ h in
+    w ∙ sym (ascii-utf8 t (ap (every ascii) (sym (take-append-seam t z)) ∙ every-take ascii (length t) (t ++ z) k))
 
 -- a text of ASCII, whose spare bytes alone are left to test
 pub sound-by-ascii : (u r : Bool) (l : List ℕ) (n : ℕ) → u ≡ every ascii l → u ≡ true → r ≡ zeros (drop n l) → r ≡ sound l n

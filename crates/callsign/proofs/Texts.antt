@@ -7,14 +7,14 @@ use Prim.Native.Nat.{ℕ, suc, _+_, _-_, _<_, _≤_}
 use native.Mathlib.Omega.{arith}
 use lib.Dec.{eqb}
 use borrow.Author.Tests.{eqb-false, eq-eqb, ne-eqb, lt-ltb, le-ltb, not-false}
-use lib.ListN.{length, take, drop, getD, length-drop, length-take}
+use lib.ListN.{length, take, drop, getD, replicate, length-drop, length-take}
 use lib.Seq.{length-take-le, getD-drop}
 use Rattle.laws.specs.Bytes.{star, dash, digit0}
 use Rattle.laws.specs.Lists.{indexOf, padTo}
 use Rattle.laws.proofs.Lists.{part-length}
 use Rattle.laws.proofs.Places.{index-split, index-le}
 use Rattle.callsign.specs.declared.CallRead.{CallRead}
-use Rattle.callsign.specs.Utf8.{utf8}
+use Rattle.callsign.specs.Utf8.{characters, utf8}
 use Rattle.callsign.specs.Text.{joined, callAs, made, isZero, callRefused, callAccepted, parted, readUnstarred, readText}
 use Rattle.callsign.proofs.Ranges.{zero-alone, not-zero, joined-full}
 
@@ -63,10 +63,10 @@ module _ (t : List ℕ) (starred : Bool) where
   pub no-utf8 : (r : CallRead) (u : Bool) → length t ≤ 16 → u ≡ utf8 t → not u ≡ true → r ≡ callRefused 3 → r ≡ readUnstarred t starred
   no-utf8 r u h e n q = sym (short h ∙ rw (← e, n) (sym q))
 
-module _ (t : List ℕ) (starred u : Bool) (d : ℕ) (h : length t ≤ 16) (e : u ≡ utf8 t) (n : not u ≡ false) (f : d ≡ indexOf dash t) where
-  valid : utf8 t ≡ true
-  valid = sym e ∙ not-false u n
+pub text-there : (t : List ℕ) (u : Bool) → u ≡ utf8 t → not u ≡ false → utf8 t ≡ true
+text-there t u e n = sym e ∙ not-false u n
 
+module _ (t : List ℕ) (starred : Bool) (d : ℕ) (h : length t ≤ 16) (valid : utf8 t ≡ true) (f : d ≡ indexOf dash t) where
   pub undashed : (r : CallRead) (x : List ℕ) → d ≡ length t → x ≡ padTo 16 0 t → r ≡ callAccepted (callAs x (length t) 0) starred false → r ≡ readUnstarred t starred
   undashed r x w q s =
       accepted-bare r t x (length t) starred false refl q s ∙ sym (short t starred h ∙ rw (valid, eq-eqb (indexOf dash t) (length t) (sym f ∙ w)))
@@ -110,6 +110,11 @@ module _ (t : List ℕ) (starred u : Bool) (d : ℕ) (h : length t ≤ 16) (e : 
 
         pub ssid-other : (r : CallRead) (x : List ℕ) → (getD t (d + 1) 0 ≡ digit0 → ⊥) → x ≡ padTo 16 0 t → r ≡ callAccepted (callAs x d (length t - d - 1)) starred false → r ≡ readUnstarred t starred
         ssid-other r x w q = ssid-kept r x (λ a b. w b) q
+
+pub empty : (t : List ℕ) (starred : Bool) (r : CallRead) → length t ≡ 0 → r ≡ callAccepted (callAs (replicate 16 0) 0 0) starred false → r ≡ readUnstarred t starred
+unfolding padTo utf8 characters indexOf
+empty [] starred r h e = undashed [] starred 0 (omega arith) refl refl r (replicate 16 0) refl refl e
+empty (b ∷ t) starred r h e = absurd (omega arith)
 
 pub part-le : (t : List ℕ) (d n : ℕ) → length t ≤ n → length (take d t) ≤ n
 part-le t d n h = rw length-take (omega arith)

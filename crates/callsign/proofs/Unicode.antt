@@ -6,8 +6,7 @@ use mathlib.Core.List.{List, [], _∷_, _++_}
 use Prim.Native.Nat.{ℕ, zero, suc, _+_, _-_, _<_, _≤_}
 use native.Mathlib.Omega.{arith}
 use lib.Dec.{T, eqb, leb, eqb→eq}
-use borrow.Rule.Slice.PartAt.{part-to-end}
-use lib.ListN.{length, take, drop, getD, replicate, drop-of-length-le}
+use lib.ListN.{length, drop, getD, replicate, drop-of-length-le}
 use borrow.Author.Tests.{le-leb, lt-leb, ne-eqb, ltb-true}
 use Rattle.laws.specs.Bytes.{within}
 use Rattle.laws.specs.Lists.{every}
@@ -132,17 +131,6 @@ pub ascii-utf8 : (l : List ℕ) → every ascii l ≡ true → utf8 l ≡ true
 unfolding utf8 characters
 ascii-utf8 [] e = refl
 ascii-utf8 (b ∷ l) e = ascii-front b l (ltb-true b 0x80 (every-first ascii b l e)) ∙ ascii-utf8 l (every-rest ascii b l e)
-
-module _ (t : List ℕ) (i : ℕ) (e : utf8 t ≡ utf8 (drop i t)) where
-  pub front-more : i < length t → getD t i 0 < 0x80 → utf8 t ≡ utf8 (drop (i + 1) t)
-  front-more h k = e ∙ ap utf8 (next 0 t i h) ∙ ascii-front (getD t i 0) (drop (i + 1) t) k
-
-  pub front-left : (r : Bool) → r ≡ utf8 (take (length t - i) (drop i t)) → r ≡ utf8 t
-  front-left r q = q ∙ ap utf8 (part-to-end t i) ∙ sym e
-
-  pub front-all : length t ≤ i → true ≡ utf8 t
-  unfolding utf8 characters
-  front-all h = sym (e ∙ ap utf8 (drop-of-length-le t h))
 
 -- ---- ASCII between: a text is UTF-8 where both sides of an ASCII byte are
 

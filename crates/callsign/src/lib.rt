@@ -1,6 +1,7 @@
 // One callsign: its text read and written, its UTF-8 judged, and its AX.25 address unpacked and packed by
 // shifts and masks.
 ghost use mathlib.Core.Path.{_≡_};
+ghost use mathlib.Core.Bool.{true};
 ghost use Prim.Native.Nat.{_≤_, _<_, min};
 ghost use lib.ListN.{length, take, drop};
 ghost use Rattle.laws.specs.Bytes.{isLetterOrDigit, raised};
@@ -91,8 +92,8 @@ fn after_first(b: u8) -> Tails
     Tails(1, 1, 0)
 }
 
-// Whether t is whole characters, whatever its bytes: `count` is how many the character begun still asks for.
-fn is_characters(t: &[u8]) -> bool
+// Whether t is UTF-8: `count` is how many bytes the character begun still asks for.
+fn is_utf8(t: &[u8]) -> bool
     ensures { λ r. ⌜ r ≡ utf8 (now (t .entry)) ⌝ }
 {
     let mut count: u8 = 0;
@@ -123,20 +124,6 @@ fn is_characters(t: &[u8]) -> bool
         hi = next.2;
     }
     count == 0
-}
-
-// Whether t is UTF-8. Plain ASCII takes one comparison a byte.
-fn is_utf8(t: &[u8]) -> bool
-    ensures { λ r. ⌜ r ≡ utf8 (now (t .entry)) ⌝ }
-{
-    let mut i: usize = 0;
-    while i < t.len() {
-        if 0x80 <= t[i] {
-            return is_characters(&t[i..]);
-        }
-        i += 1;
-    }
-    true
 }
 
 // ---- the text read
@@ -195,21 +182,39 @@ fn accepted(text: [u8; 16], n: usize, k: usize, starred: bool, zero: bool) -> Ca
     }
 }
 
-// Reads a text whose star, if it had one, is off.
-fn read_unstarred(t: &[u8], starred: bool) -> CallRead
+// Whether all sixteen bytes are ASCII, tested at once.
+fn is_ascii(text: [u8; 16]) -> bool
+    ensures { λ r. ⌜ r ≡ every ascii text ⌝ }
+{
+    let mut fine = true;
+    let mut i: usize = 0;
+    while i < 16 {
+        fine = fine & (text[i] < 0x80);
+        i += 1;
+    }
+    fine
+}
+
+// Whether t, whose bytes stand in `padded` with zeros behind them, is UTF-8. Nearly all texts are ASCII.
+fn is_text(t: &[u8], padded: [u8; 16]) -> bool
+    requires { ⌜ padded ≡ padTo 16 0 (now t) ⌝ }
+    ensures { λ r. ⌜ r ≡ utf8 (now (t .entry)) ⌝ }
+{
+    if is_ascii(padded) {
+        return true;
+    }
+    is_utf8(t)
+}
+
+// Reads a text that is short enough and UTF-8 by its first dash; its bytes stand in `padded` too, with zeros behind them.
+fn read_parts(t: &[u8], padded: [u8; 16], starred: bool) -> CallRead
+    requires { ⌜ (length (now t) ≤ 16) × (utf8 (now t) ≡ true) × (padded ≡ padTo 16 0 (now t)) ⌝ }
     ensures { λ r. ⌜ r ≡ readUnstarred (now (t .entry)) starred ⌝ }
 {
     let n = t.len();
-    if 16 < n {
-        return refused(4);
-    }
-    if !is_utf8(t) {
-        return refused(3);
-    }
     let d = laws::find(t, b'-');
     if d == n {
-        let text = pad(t);
-        return accepted(text, n, 0, starred, false);
+        return accepted(padded, n, 0, starred, false);
     }
     if d == 0 {
         return refused(3);
@@ -220,12 +225,30 @@ fn read_unstarred(t: &[u8], starred: bool) -> CallRead
     }
     if k == 1 {
         if t[d + 1] == b'0' {
-            let text = pad(&t[..d]);
-            return accepted(text, d, 0, starred, true);
+            let call = pad(&t[..d]);
+            return accepted(call, d, 0, starred, true);
         }
     }
-    let text = pad(t);
-    accepted(text, d, k, starred, false)
+    accepted(padded, d, k, starred, false)
+}
+
+// Reads a text whose star, if it had one, is off. An empty one is told apart so that the bytes of any other lie side by side
+// when they are tested at once.
+fn read_unstarred(t: &[u8], starred: bool) -> CallRead
+    ensures { λ r. ⌜ r ≡ readUnstarred (now (t .entry)) starred ⌝ }
+{
+    let n = t.len();
+    if n == 0 {
+        return accepted([0; 16], 0, 0, starred, false);
+    }
+    if 16 < n {
+        return refused(4);
+    }
+    let padded = pad(t);
+    if !is_text(t, padded) {
+        return refused(3);
+    }
+    read_parts(t, padded, starred)
 }
 
 // Reads a callsign's text: one star at its end comes off and is reported; refused with 4 or 3.
@@ -255,19 +278,6 @@ fn is_spare(text: [u8; 16], n: usize) -> bool
     let mut i: usize = 0;
     while i < 16 {
         fine = fine & ((i < n) | (text[i] == 0));
-        i += 1;
-    }
-    fine
-}
-
-// Whether all sixteen bytes are ASCII, tested at once.
-fn is_ascii(text: [u8; 16]) -> bool
-    ensures { λ r. ⌜ r ≡ every ascii text ⌝ }
-{
-    let mut fine = true;
-    let mut i: usize = 0;
-    while i < 16 {
-        fine = fine & (text[i] < 0x80);
         i += 1;
     }
     fine
