@@ -132,7 +132,13 @@ typedef struct {
 
 /*
  * Where something is. Angles are signed hundredths of a minute, north and east positive: at most 540000 and 1080000;
- * a Mic-E longitude to be written is short of 1080000 on either side. 12 bytes.
+ * a Mic-E longitude to be written is short of 1080000 on either side.
+ *
+ * south and west are the letters: S where south is true, else N; W where west is true, else E. A reader fills them as
+ * they stand in the text, of a Mic-E report as its destination says them. At 0 the letter alone tells the side, and
+ * either may stand. At any other angle it is that of the sign, and a letter that contradicts it is refused with 15.
+ * Writers look at the angle alone: 0 is written N and E, whatever the letters are. A kind without a position has no
+ * letters: both are false, and a writer refuses a true one with 15. 16 bytes.
  */
 typedef struct {
     int32_t latitude;
@@ -140,6 +146,8 @@ typedef struct {
     uint8_t blanks; /* last digits of the latitude that are blank, 0 to 5 */
     uint8_t table;  /* symbol table; a position with 128 or more is read and not written */
     uint8_t code;   /* symbol code; the same */
+    bool south;     /* the latitude's letter is S, not N */
+    bool west;      /* the longitude's letter is W, not E */
 } tusselgro_place;
 
 /* What only a Mic-E report has. 12 bytes. */
@@ -156,7 +164,7 @@ typedef struct {
     size_t len;
 } tusselgro_comment;
 
-/* What a packet says. 48 bytes. */
+/* What a packet says. 56 bytes. */
 typedef struct {
     tusselgro_place place;
     tusselgro_report report;
@@ -165,14 +173,14 @@ typedef struct {
     uint8_t kind;   /* TUSSELGRO_UNKNOWN, .._POSITION or .._MIC_E */
 } tusselgro_body;
 
-/* A packet. What its kind lacks is 0: an Unknown one has its header alone. A record of zeros is the blank one. 440
+/* A packet. What its kind lacks is 0: an Unknown one has its header alone. A record of zeros is the blank one. 448
    bytes. */
 typedef struct {
     tusselgro_header header;
     tusselgro_body body;
 } tusselgro_record;
 
-/* What reading gives: 0 and the record, or the refusal and the blank record (Unknown kind, all zeros). 448 bytes. */
+/* What reading gives: 0 and the record, or the refusal and the blank record (Unknown kind, all zeros). 456 bytes. */
 typedef struct {
     tusselgro_record record;
     uint8_t refusal;
@@ -275,17 +283,15 @@ tusselgro_latitude_read tusselgro_read_latitude(const uint8_t *text, size_t text
    there. Refusals: 15 for more than five blanks, 9. */
 tusselgro_longitude_read tusselgro_read_longitude(const uint8_t *text, size_t text_len, uint8_t blanks);
 
-/* Writes those eight bytes; the digits that are blank are cut off. Refusals: 15, 16. */
+/* Writes those eight bytes, 0 as N; the digits that are blank are cut off. Refusals: 15, 16. */
 tusselgro_answer tusselgro_write_latitude(int32_t latitude, uint8_t blanks, uint8_t *out, size_t out_len);
 
-/* Writes those nine bytes, in full. Refusals: 15, 16. */
+/* Writes those nine bytes, in full, 0 as E. Refusals: 15, 16. */
 tusselgro_answer tusselgro_write_longitude(int32_t longitude, uint8_t *out, size_t out_len);
 
-/* A place; the letters of its angles and their minutes, as above. 20 bytes. */
+/* A place with its letters; whether the minutes of its angles are 60 or more, as above. 20 bytes. */
 typedef struct {
     tusselgro_place place;
-    bool south;
-    bool west;
     bool latitude_sixty;
     bool longitude_sixty;
     uint8_t refusal;
@@ -295,11 +301,11 @@ typedef struct {
    10, 8, 9. */
 tusselgro_position_read tusselgro_read_position(const uint8_t *text, size_t text_len);
 
-/* Writes those 19 bytes. Refusals: 15, 16. */
+/* Writes those 19 bytes, 0 as N and E. Refusals: 15, also for a letter that contradicts its angle; 16. */
 tusselgro_answer tusselgro_write_position(tusselgro_place place, uint8_t *out, size_t out_len);
 
-/* What a Mic-E destination says: a latitude, as above, and a message; of the longitude that goes with it, whether its
-   offset is 100 and its side west. 12 bytes. */
+/* What a Mic-E destination says: a latitude, as above, whose letter is S unless the fourth character is P to Z, and a
+   message; of the longitude that goes with it, whether its offset is 100 and its letter W, also at 0. 12 bytes. */
 typedef struct {
     int32_t latitude;
     uint8_t message;
@@ -320,8 +326,8 @@ typedef struct {
 /* Reads the six call characters of a Mic-E destination; its SSID is no part of them. Refusal: 11. */
 tusselgro_destination_read tusselgro_read_destination(const uint8_t *call, size_t call_len);
 
-/* Writes the destination of a latitude with its blanks, a message, and a longitude, whose offset and side it carries.
-   Refusal: 15. */
+/* Writes the destination of a latitude with its blanks, a message, and a longitude, whose offset and side it carries;
+   angles of 0 as N and E. Refusal: 15. */
 tusselgro_destination tusselgro_write_destination(int32_t latitude, uint8_t blanks, uint8_t message,
                                                   int32_t longitude);
 
@@ -353,7 +359,8 @@ tusselgro_answer tusselgro_write_information(tusselgro_information information, 
 tusselgro_answer tusselgro_list_motion(uint32_t speed, uint32_t course, uint8_t *out, size_t out_len);
 
 /* Lists every Mic-E field of three bytes that means this longitude under a destination whose offset is 100 (hundred) or
-   0, and whose side is west or east. There may be none, which is no refusal. Refusals: 15, 16. */
+   0, and whose side is west or east. There may be none, as for a longitude on the other side, which is no refusal.
+   Refusals: 15, 16. */
 tusselgro_answer tusselgro_list_longitude(int32_t longitude, bool hundred, bool west, uint8_t *out, size_t out_len);
 
 /* ---- bounds and boxes */
@@ -376,9 +383,14 @@ typedef struct {
 tusselgro_bounds tusselgro_latitude_bounds(int32_t latitude, uint8_t blanks);
 tusselgro_bounds tusselgro_longitude_bounds(int32_t longitude, uint8_t blanks);
 
-/* The page's box of such an angle. Refusal: 15. */
-tusselgro_box tusselgro_latitude_box(int32_t latitude, uint8_t blanks);
-tusselgro_box tusselgro_longitude_box(int32_t longitude, uint8_t blanks);
+/*
+ * The page's box of such an angle. Blanked digits are cut off, not rounded, so the angle T is the box's inner edge: it
+ * runs from 2T to 2(T + w) north and east, from 2(T - w) to 2T south and west, where w is the width that 0 to 5 blanks
+ * leave, 1, 10, 100, 1000, 6000 or 60000 hundredths. Nothing is cut off at 90 or 180 degrees. The side is that of the
+ * letter, a place's south or west. Refusal: 15, also for a letter that contradicts an angle that is not 0.
+ */
+tusselgro_box tusselgro_latitude_box(int32_t latitude, uint8_t blanks, bool south);
+tusselgro_box tusselgro_longitude_box(int32_t longitude, uint8_t blanks, bool west);
 
 #ifdef __cplusplus
 }

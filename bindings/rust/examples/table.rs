@@ -1,15 +1,15 @@
-// Sets the callsigns and positions of a capture as a table. The capture has a line a packet; it is the file that the
-// first argument names. A line that is refused is told on standard error, and the status is then 1; it is 2 where no
-// table was set.
+// Sets the callsigns and positions of a capture as a table, with the page's box of each position in half hundredths of
+// a minute. The capture has a line a packet; it is the file that the first argument names. A line that is refused is told
+// on standard error, and the status is then 1; it is 2 where no table was set.
 
 use std::error::Error;
 use std::process::ExitCode;
-use tusselgro::{AprsData, AprsPacket, Latitude, Longitude, Via};
+use tusselgro::{AprsData, AprsPacket, Latitude, Longitude, Precision, Via};
 
-fn place(data: &AprsData<'_>) -> Option<(Latitude, Longitude)> {
+fn place(data: &AprsData<'_>) -> Option<(Latitude, Longitude, Precision)> {
     match data {
-        AprsData::Position(position) => Some((position.latitude, position.longitude)),
-        AprsData::MicE(report) => Some((report.latitude, report.longitude)),
+        AprsData::Position(at) => Some((at.latitude, at.longitude, at.precision)),
+        AprsData::MicE(at) => Some((at.latitude, at.longitude, at.precision)),
         _ => None,
     }
 }
@@ -22,9 +22,12 @@ fn row(packet: &AprsPacket<'_>) -> String {
         .filter(|via| matches!(via, Via::Callsign(_, true)));
     let heard = format!("{}/{}", heard.count(), packet.via.len());
     let mut row = format!("{:<10} {to:<10} {heard:<5}", packet.from);
-    if let Some((latitude, longitude)) = place(&packet.data) {
+    if let Some((latitude, longitude, precision)) = place(&packet.data) {
         row += &format!(" {latitude} {longitude}");
         row += &format!(" {:9.5} {:10.5}", latitude.degrees(), longitude.degrees());
+        for page in [latitude.page_box(precision), longitude.page_box(precision)] {
+            row += &format!(" {}..{}", page.start(), page.end());
+        }
     }
     row.trim_end().to_string()
 }
@@ -41,7 +44,7 @@ fn table() -> Result<ExitCode, Box<dyn Error>> {
     let name = std::env::args().nth(1).ok_or("usage: table CAPTURE")?;
     let capture = std::fs::read(&name).map_err(|error| format!("{name}: {error}"))?;
     let mut status = ExitCode::SUCCESS;
-    println!("from       to         heard latitude longitude   degrees");
+    println!("from       to         heard latitude longitude   degrees            page box");
     for (number, line) in (1..).zip(lines(&capture)) {
         match AprsPacket::decode_textual(line) {
             Ok(packet) => println!("{}", row(&packet)),

@@ -1,5 +1,5 @@
-// What latitude and longitude share: whole hundredths of a minute, and degrees, minutes and hundredths as aprs-parser
-// counts them.
+// What latitude and longitude share: whole hundredths of a minute with a letter, and degrees, minutes and hundredths as
+// aprs-parser counts them.
 
 /// A size in degrees, minutes and hundredths.
 pub fn parts(hundredths: i32) -> (u32, u32, u32) {
@@ -41,30 +41,36 @@ pub fn nearest(degrees: f64, most: i32) -> Option<i32> {
 
 /// The methods that both have.
 macro_rules! angle {
-    ($name:ident, $most:literal, $side:literal) => {
+    ($name:ident, $most:literal, $side:literal, $letter:literal) => {
         impl $name {
             /// The largest, in hundredths of a minute; its negative is the smallest.
             pub const MOST: i32 = $most;
 
-            /// The angle nearest to these degrees.
+            #[doc = concat!("The angle nearest to these degrees; where that is 0, it has the letter ", $letter, ".")]
             ///
             /// aprs-parser keeps the degrees as they are; here they become the hundredths of a minute that it would
             /// write for them. Past the limit, and for what is no number, it is refused.
             pub fn new(degrees: f64) -> Result<Self, Refusal> {
                 let hundredths = angle::nearest(degrees, Self::MOST);
-                hundredths.map($name).ok_or(Refusal::OutOfRange)
+                Self::from_hundredths(hundredths.ok_or(Refusal::OutOfRange)?)
             }
 
-            #[doc = concat!("The angle of so many hundredths of a minute, ", $side, " positive.")]
+            #[doc = concat!("The angle of so many hundredths of a minute, ", $side, " positive; 0 has the letter ", $letter, ".")]
             pub fn from_hundredths(hundredths: i32) -> Result<Self, Refusal> {
-                if (-Self::MOST..=Self::MOST).contains(&hundredths) {
-                    Ok($name(hundredths))
+                Self::lettered(hundredths, hundredths >= 0)
+            }
+
+            /// The angle with its letter; one that contradicts it is out of range.
+            pub(crate) fn lettered(hundredths: i32, positive: bool) -> Result<Self, Refusal> {
+                let within = (-Self::MOST..=Self::MOST).contains(&hundredths);
+                if within && (hundredths == 0 || positive == (hundredths > 0)) {
+                    Ok($name { hundredths, positive })
                 } else {
                     Err(Refusal::OutOfRange)
                 }
             }
 
-            #[doc = concat!("The angle of degrees, minutes and hundredths of a minute; `true` is ", $side, ".")]
+            #[doc = concat!("The angle of degrees, minutes and hundredths of a minute; `true` is ", $side, ", which at 0 is the letter ", $letter, ".")]
             pub fn from_dmh(
                 degrees: u32,
                 minutes: u32,
@@ -72,18 +78,18 @@ macro_rules! angle {
                 positive: bool,
             ) -> Result<Self, Refusal> {
                 let made = angle::made((degrees, minutes, hundredths), positive, Self::MOST);
-                made.map($name).ok_or(Refusal::OutOfRange)
+                Self::lettered(made.ok_or(Refusal::OutOfRange)?, positive)
             }
 
-            #[doc = concat!("Degrees, minutes and hundredths of a minute; `true` is ", $side, ", also at 0.")]
+            #[doc = concat!("Degrees, minutes and hundredths of a minute; `true` is ", $side, ", and so is 0 with either letter, as it is written.")]
             pub fn dmh(self) -> (u32, u32, u32, bool) {
-                let (degrees, minutes, hundredths) = angle::parts(self.0);
-                (degrees, minutes, hundredths, self.0 >= 0)
+                let (degrees, minutes, hundredths) = angle::parts(self.hundredths);
+                (degrees, minutes, hundredths, self.hundredths >= 0)
             }
 
             #[doc = concat!("Hundredths of a minute, ", $side, " positive: nothing is rounded.")]
             pub fn hundredths(self) -> i32 {
-                self.0
+                self.hundredths
             }
 
             #[doc = concat!("In degrees, ", $side, " positive.")]
@@ -91,12 +97,22 @@ macro_rules! angle {
             /// It is the number that aprs-parser has, but that 0 has no sign, and minutes of 60 or more are counted as
             /// degrees first.
             pub fn degrees(self) -> f64 {
-                angle::degrees(self.0)
+                angle::degrees(self.hundredths)
             }
 
             /// The same as [`degrees`](Self::degrees), by aprs-parser's name.
             pub fn value(self) -> f64 {
                 self.degrees()
+            }
+        }
+
+        #[doc = concat!("0, with the letter ", $letter, ".")]
+        impl Default for $name {
+            fn default() -> Self {
+                $name {
+                    hundredths: 0,
+                    positive: true,
+                }
             }
         }
 

@@ -36,7 +36,7 @@ pub struct PacketBuilder<B> {
 }
 
 impl<'a> AprsPacket<'a> {
-    /// Starts a packet with a position, that of [`AprsPosition::new`].
+    /// Starts a packet with a position, that of [`AprsPosition::new`]. Each angle brings its letter with it.
     pub fn position(
         from: impl IntoCallsign,
         to: impl IntoCallsign,
@@ -216,6 +216,25 @@ mod tests {
         assert_eq!(line(&position.unwrap()), b"A>B:!3325.64N/11207.74W/");
         let report = AprsPacket::mic_e("A", latitude, longitude).build().unwrap();
         assert_eq!(AprsPacket::decode_textual(&line(&report)), Ok(report));
+    }
+
+    /// With the angle's own letters, N and E at 0.
+    #[test]
+    fn zero_is_north_and_east_unless_it_is_told_otherwise() {
+        let (north, east) = (Latitude::default(), Longitude::default());
+        let built = AprsPacket::position("A", "B", north, east).build().unwrap();
+        assert_eq!(
+            AprsPacket::decode_textual(b"A>B:!0000.00N/00000.00E/"),
+            Ok(built)
+        );
+        let south = Latitude::from_dmh(0, 0, 0, false).unwrap();
+        let west = Longitude::from_dmh(0, 0, 0, false).unwrap();
+        let told = AprsPacket::position("A", "B", south, west).build().unwrap();
+        assert_eq!(
+            AprsPacket::decode_textual(b"A>B:!0000.00S/00000.00W/"),
+            Ok(told.clone())
+        );
+        assert_eq!(line(&told), b"A>B:!0000.00N/00000.00E/");
     }
 
     #[test]

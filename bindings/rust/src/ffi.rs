@@ -82,6 +82,10 @@ pub struct Place {
     pub table: u8,
     /// The symbol's code.
     pub code: u8,
+    /// Whether the latitude's letter is S, else N. At 0 either may stand; at any other angle it is that of the sign.
+    pub south: bool,
+    /// Whether the longitude's letter is W, else E; the same.
+    pub west: bool,
 }
 
 /// What only a Mic-E report has.
@@ -230,10 +234,6 @@ pub struct LongitudeRead {
 pub struct PositionRead {
     /// Where it is.
     pub place: Place,
-    /// Whether the latitude's letter is S, also at 0.
-    pub south: bool,
-    /// Whether the longitude's letter is W, also at 0.
-    pub west: bool,
     /// Whether the latitude's minutes are 60 or more.
     pub latitude_sixty: bool,
     /// Whether the longitude's minutes are 60 or more.
@@ -414,10 +414,10 @@ extern "C" {
     pub fn tusselgro_latitude_bounds(latitude: i32, blanks: u8) -> Bounds;
     /// The bounds of a longitude in degrees.
     pub fn tusselgro_longitude_bounds(longitude: i32, blanks: u8) -> Bounds;
-    /// The page's box of a latitude.
-    pub fn tusselgro_latitude_box(latitude: i32, blanks: u8) -> PageBox;
-    /// The page's box of a longitude.
-    pub fn tusselgro_longitude_box(longitude: i32, blanks: u8) -> PageBox;
+    /// The page's box of a latitude on the side of its letter.
+    pub fn tusselgro_latitude_box(latitude: i32, blanks: u8, south: bool) -> PageBox;
+    /// The page's box of a longitude on the side of its letter.
+    pub fn tusselgro_longitude_box(longitude: i32, blanks: u8, west: bool) -> PageBox;
 }
 
 #[cfg(test)]
@@ -429,9 +429,9 @@ mod tests {
     fn records_have_the_sizes_that_the_header_states() {
         assert_eq!((size_of::<Callsign>(), size_of::<Hop>()), (32, 40));
         assert_eq!((size_of::<Path>(), size_of::<Header>()), (328, 392));
-        assert_eq!((size_of::<Place>(), size_of::<Report>()), (12, 12));
-        assert_eq!((size_of::<Comment>(), size_of::<Body>()), (16, 48));
-        assert_eq!((size_of::<Record>(), size_of::<Read>()), (440, 448));
+        assert_eq!((size_of::<Place>(), size_of::<Report>()), (16, 12));
+        assert_eq!((size_of::<Comment>(), size_of::<Body>()), (16, 56));
+        assert_eq!((size_of::<Record>(), size_of::<Read>()), (448, 456));
         assert_eq!((size_of::<Answer>(), size_of::<CallsignRead>()), (24, 40));
         assert_eq!((size_of::<AddressRead>(), size_of::<Address>()), (40, 8));
         assert_eq!(

@@ -8,7 +8,10 @@ use crate::refusal::Refusal;
 use std::fmt;
 use std::ops::RangeInclusive;
 
-/// A latitude in whole hundredths of a minute, at most 90 degrees.
+/// A latitude in whole hundredths of a minute, at most 90 degrees, and its letter, N or S.
+///
+/// The letter is that of the sign; at 0 it is the one that was read, so `0000.00N` and `0000.00S` are two latitudes,
+/// not equal, of the same hundredths. The page's box of 0 lies on the letter's side. Either is written `0000.00N`.
 ///
 /// ```
 /// use tusselgro::{Latitude, Precision};
@@ -18,25 +21,29 @@ use std::ops::RangeInclusive;
 /// assert_eq!(latitude.degrees(), 49. + 3. / 60. + 50. / 6_000.);
 /// assert_eq!(latitude.to_string(), "4903.50N");
 ///
-/// let read = Latitude::decode_textual(b"4903.  N")?;
-/// assert_eq!((read.latitude.hundredths(), read.precision), (294300, Precision::OneMinute));
+/// let read = Latitude::decode_textual(b"0000.  S")?;
+/// assert_eq!((read.latitude.hundredths(), read.latitude.is_south()), (0, true));
+/// assert_eq!(read.precision, Precision::OneMinute);
+/// assert_eq!(read.latitude.page_box(read.precision), -200..=0);
 /// # Ok::<(), tusselgro::Refusal>(())
 /// ```
-#[derive(Clone, Copy, Debug, Default, PartialEq, Eq, PartialOrd, Ord, Hash)]
-pub struct Latitude(i32);
+#[derive(Clone, Copy, Debug, PartialEq, Eq, PartialOrd, Ord, Hash)]
+pub struct Latitude {
+    hundredths: i32,
+    /// Whether the letter is N: where the hundredths are not 0, just when they are positive.
+    positive: bool,
+}
 
-angle!(Latitude, 540_000, "north");
+angle!(Latitude, 540_000, "north", "N");
 
 /// All that a latitude's text says.
 #[derive(Clone, Copy, Debug, PartialEq, Eq, Hash)]
 #[non_exhaustive]
 pub struct LatitudeRead {
-    /// The angle; blank digits count as 0.
+    /// The angle with its letter; blank digits count as 0.
     pub latitude: Latitude,
     /// By the digits that are blank.
     pub precision: Precision,
-    /// Whether the letter is S, also at 0.
-    pub south: bool,
     /// Whether the minutes are 60 or more.
     pub sixty: bool,
 }
@@ -48,34 +55,41 @@ impl Latitude {
         let read = unsafe { ffi::tusselgro_read_latitude(text.as_ptr(), text.len()) };
         Refusal::check(read.refusal)?;
         Ok(LatitudeRead {
-            latitude: Latitude::from_hundredths(read.latitude)?,
+            latitude: Latitude::lettered(read.latitude, !read.south)?,
             precision: Precision::try_from(read.blanks)?,
-            south: read.south,
             sixty: read.sixty,
         })
     }
 
-    /// Appends those eight bytes; the digits that the precision leaves out are cut, not rounded.
+    /// Whether its letter is S.
+    pub fn is_south(self) -> bool {
+        !self.positive
+    }
+
+    /// Appends those eight bytes; the digits that the precision leaves out are cut, not rounded, and 0 is written N.
     pub fn encode_textual(self, precision: Precision, out: &mut Vec<u8>) -> Result<(), Refusal> {
         // SAFETY: the pointer and the length are those of one slice that is lent to nobody else.
         to_vec(out, |at, length| unsafe {
-            ffi::tusselgro_write_latitude(self.0, precision.blanks(), at, length)
+            ffi::tusselgro_write_latitude(self.hundredths, precision.blanks(), at, length)
         })
     }
 
-    // An angle and a precision are in range by their types, so the library refuses neither of the two below.
+    // An angle and a precision are in range by their types, and so are an angle and its letter: the library refuses
+    // neither of the two below.
 
     /// Where it may lie, in degrees.
     pub fn bounding(self, precision: Precision) -> RangeInclusive<f64> {
         // SAFETY: the function takes numbers only.
-        let bounds = unsafe { ffi::tusselgro_latitude_bounds(self.0, precision.blanks()) };
+        let bounds = unsafe { ffi::tusselgro_latitude_bounds(self.hundredths, precision.blanks()) };
         bounds.lower..=bounds.upper
     }
 
-    /// The page's box of it, in half hundredths of a minute.
+    /// The page's box of it, in half hundredths of a minute: from the digits that are printed away from 0, as far as
+    /// the precision leaves it open. At 0 it lies on the side of the letter.
     pub fn page_box(self, precision: Precision) -> RangeInclusive<i32> {
+        let (blanks, south) = (precision.blanks(), self.is_south());
         // SAFETY: the function takes numbers only.
-        let page = unsafe { ffi::tusselgro_latitude_box(self.0, precision.blanks()) };
+        let page = unsafe { ffi::tusselgro_latitude_box(self.hundredths, blanks, south) };
         page.lower..=page.upper
     }
 }
@@ -85,7 +99,7 @@ impl fmt::Display for Latitude {
     fn fmt(&self, f: &mut fmt::Formatter<'_>) -> fmt::Result {
         // SAFETY: the pointer and the length are those of one slice that is lent to nobody else.
         show(f, |at, length| unsafe {
-            ffi::tusselgro_write_latitude(self.0, 0, at, length)
+            ffi::tusselgro_write_latitude(self.hundredths, 0, at, length)
         })
     }
 }
@@ -122,19 +136,55 @@ mod tests {
             let found = read(text);
             assert_eq!(found.latitude.hundredths(), hundredths, "{text}");
             assert_eq!((found.precision.blanks(), found.sixty), (blanks, false));
+            assert_eq!(found.latitude.is_south(), text.ends_with('S'));
             assert_eq!(written(hundredths, blanks), format!("!{text}"));
         }
     }
 
     #[test]
-    fn what_a_latitude_alone_does_not_keep_is_reported() {
+    fn minutes_of_sixty_are_reported() {
         let sixty = read("8960.00N");
         assert_eq!((sixty.latitude.hundredths(), sixty.sixty), (540000, true));
-        let zero = read("0000.00S");
+    }
+
+    /// Document 02's R-1: "At 0 the side is the letter read", and "a writer still takes N or E for 0".
+    #[test]
+    fn zero_keeps_its_letter_and_is_written_north() {
+        let (north, south) = (read("0000.00N").latitude, read("0000.00S").latitude);
+        assert_eq!((north.hundredths(), south.hundredths()), (0, 0));
+        assert_eq!((north.is_south(), south.is_south()), (false, true));
+        assert_ne!(north, south);
+        assert_eq!(south.to_string(), "0000.00N");
+        let mut out = Vec::new();
+        south
+            .encode_textual(Precision::OneMinute, &mut out)
+            .unwrap();
+        assert_eq!(out, b"0000.  N");
+        assert_eq!(written(-50, 2), "!0000.  S");
+    }
+
+    #[test]
+    fn zero_is_north_unless_it_is_told_otherwise() {
         assert_eq!(
-            (zero.latitude.to_string(), zero.south),
-            ("0000.00N".into(), true)
+            Latitude::from_dmh(0, 0, 0, false),
+            Ok(read("0000.00S").latitude)
         );
+        let north = read("0000.00N").latitude;
+        assert_eq!(Latitude::from_dmh(0, 0, 0, true), Ok(north));
+        assert_eq!(Latitude::from_hundredths(0), Ok(north));
+        assert_eq!(Latitude::new(-1e-9), Ok(north));
+        assert_eq!(Latitude::default(), north);
+    }
+
+    #[test]
+    fn a_letter_that_contradicts_its_angle_is_out_of_range() {
+        for hundredths in [-540000, -1, 1, 540000] {
+            let own = Latitude::from_hundredths(hundredths).unwrap();
+            assert_eq!(own.is_south(), hundredths < 0);
+            assert_eq!(Latitude::lettered(hundredths, hundredths > 0), Ok(own));
+            let other = Latitude::lettered(hundredths, hundredths < 0);
+            assert_eq!(other, Err(Refusal::OutOfRange));
+        }
     }
 
     #[test]
@@ -185,13 +235,24 @@ mod tests {
 
     /// Neither is refused anywhere in the type's range, or both sides would be 0.
     #[test]
-    fn bounds_lie_around_every_angle() {
-        for hundredths in [-Latitude::MOST, -1, 0, 1, Latitude::MOST] {
-            let angle = Latitude::from_hundredths(hundredths).unwrap();
-            for precision in (0..=5).filter_map(|blanks| Precision::try_from(blanks).ok()) {
-                let (bounds, page) = (angle.bounding(precision), angle.page_box(precision));
+    fn bounds_lie_around_every_angle_and_boxes_away_from_0() {
+        let angles = [-Latitude::MOST, -1, 0, 1, Latitude::MOST].map(Latitude::from_hundredths);
+        for angle in angles
+            .into_iter()
+            .chain([Latitude::from_dmh(0, 0, 0, false)])
+        {
+            let angle = angle.unwrap();
+            for (blanks, width) in (0..).zip([1, 10, 100, 1000, 6000, 60000]) {
+                let precision = Precision::try_from(blanks).unwrap();
+                let bounds = angle.bounding(precision);
                 assert!(*bounds.start() < angle.degrees() && angle.degrees() < *bounds.end());
-                assert!(*page.start() < 2 * hundredths && 2 * hundredths < *page.end());
+                let (edge, page) = (2 * angle.hundredths(), angle.page_box(precision));
+                let outward = if angle.is_south() {
+                    edge - 2 * width..=edge
+                } else {
+                    edge..=edge + 2 * width
+                };
+                assert_eq!(page, outward);
             }
         }
     }
@@ -205,7 +266,20 @@ mod tests {
             let around = latitude.degrees() - half..=latitude.degrees() + half;
             assert_eq!(latitude.bounding(Precision::HundredthMinute), around);
         }
-        let latitude = Latitude::from_hundredths(294350).unwrap();
-        assert_eq!(latitude.page_box(Precision::OneMinute), 588600..=588800);
+    }
+
+    /// Document 02's R-1, worked by hand.
+    #[test]
+    fn boxes_on_the_side_of_the_letter() {
+        let page = |text: &str| {
+            let found = read(text);
+            found.latitude.page_box(found.precision)
+        };
+        assert_eq!(page("9000.00N"), 1080000..=1080002);
+        assert_eq!(page("4903.  N"), 588600..=588800);
+        assert_eq!(page("4903.  S"), -588800..=-588600);
+        assert_eq!((page("0000.  N"), page("0000.  S")), (0..=200, -200..=0));
+        let by_hand = Latitude::from_hundredths(-50).unwrap();
+        assert_eq!(by_hand.page_box(Precision::OneMinute), -300..=-100);
     }
 }

@@ -15,6 +15,7 @@ mod longitude;
 pub mod mic_e;
 mod out;
 mod packet;
+mod place;
 mod position;
 mod precision;
 mod record;

@@ -5,6 +5,7 @@ use crate::ffi;
 use crate::latitude::Latitude;
 use crate::longitude::Longitude;
 use crate::out::to_vec;
+use crate::place::{angles_of, place_of};
 use crate::precision::Precision;
 use crate::refusal::Refusal;
 use std::ops::RangeInclusive;
@@ -20,9 +21,9 @@ pub struct AprsPosition<'a> {
     pub to: Callsign,
     /// Whether the station takes messages: `=`, not `!`.
     pub messaging_supported: bool,
-    /// Where it is; where it may be says [`latitude_bounding`](Self::latitude_bounding).
+    /// Where it is, with its letter; where it may be says [`latitude_bounding`](Self::latitude_bounding).
     pub latitude: Latitude,
-    /// The longitude that goes with it.
+    /// The longitude that goes with it, with its letter.
     pub longitude: Longitude,
     /// By the digits of the latitude that are blank.
     pub precision: Precision,
@@ -52,9 +53,8 @@ impl<'a> AprsPosition<'a> {
         }
     }
 
-    /// Reads a body from its type byte on; any but `!` and `=` is not carried. What a position does not keep, the
-    /// letters of angles that are 0 and minutes of 60 or more, [`Latitude`] and [`Longitude`] tell of their own
-    /// texts.
+    /// Reads a body from its type byte on; any but `!` and `=` is not carried. What a position does not keep, minutes
+    /// of 60 or more, [`Latitude`] and [`Longitude`] tell of their own texts.
     ///
     /// ```
     /// use tusselgro::{AprsPosition, Callsign};
@@ -83,11 +83,12 @@ impl<'a> AprsPosition<'a> {
         messaging_supported: bool,
         comment: &'a [u8],
     ) -> Result<Self, Refusal> {
+        let (latitude, longitude) = angles_of(&place)?;
         Ok(AprsPosition {
             to,
             messaging_supported,
-            latitude: Latitude::from_hundredths(place.latitude)?,
-            longitude: Longitude::from_hundredths(place.longitude)?,
+            latitude,
+            longitude,
             precision: Precision::try_from(place.blanks)?,
             symbol_table: place.table,
             symbol_code: place.code,
@@ -96,16 +97,11 @@ impl<'a> AprsPosition<'a> {
     }
 
     pub(crate) fn place(&self) -> ffi::Place {
-        ffi::Place {
-            latitude: self.latitude.hundredths(),
-            longitude: self.longitude.hundredths(),
-            blanks: self.precision.blanks(),
-            table: self.symbol_table,
-            code: self.symbol_code,
-        }
+        let symbol = (self.symbol_table, self.symbol_code);
+        place_of((self.latitude, self.longitude), self.precision, symbol)
     }
 
-    /// Appends the body: the type byte, the position and the comment.
+    /// Appends the body: the type byte, the position and the comment. An angle of 0 is written N or E.
     pub fn encode(&self, out: &mut Vec<u8>) -> Result<(), Refusal> {
         let mut body = vec![if self.messaging_supported { b'=' } else { b'!' }];
         // SAFETY: the pointer and the length are those of one slice that is lent to nobody else.
@@ -131,6 +127,7 @@ impl<'a> AprsPosition<'a> {
 #[cfg(test)]
 mod tests {
     use super::*;
+    use crate::longitude::Side;
 
     fn decode(body: &[u8]) -> Result<AprsPosition<'_>, Refusal> {
         AprsPosition::decode(body, Callsign::default())
@@ -158,6 +155,40 @@ mod tests {
             (48.5..=49.5, -72.5..=-71.5)
         );
         assert_eq!((blank.symbol_table, blank.symbol_code), (b'/', b'-'));
+    }
+
+    /// Document 02's R-1: the record carries both letters, and 0 is written N and E.
+    #[test]
+    fn letters_are_read_and_zero_is_written_north_and_east() {
+        let letters = |position: &AprsPosition<'_>| {
+            let west = position.longitude.side() == Side::West;
+            (position.latitude.is_south(), west)
+        };
+        for (body, south, west) in [
+            (b"!0000.00N/00000.00E-", false, false),
+            (b"!0000.00S/00000.00E-", true, false),
+            (b"!0000.00N/00000.00W-", false, true),
+            (b"!0000.00S/00000.00W-", true, true),
+        ] {
+            let position = decode(body).unwrap();
+            assert_eq!(letters(&position), (south, west));
+            let mut out = Vec::new();
+            position.encode(&mut out).unwrap();
+            assert_eq!(out, b"!0000.00N/00000.00E-");
+        }
+        let found = decode(b"!4903.50S/07201.75W-").unwrap();
+        assert_eq!(letters(&found), (true, true));
+    }
+
+    /// An angle brings its letter with it, so no field that is set contradicts another.
+    #[test]
+    fn a_position_may_be_moved_across_the_equator() {
+        let mut position = decode(b"!4903.50N/07201.75W-").unwrap();
+        position.latitude = Latitude::from_dmh(33, 25, 64, false).unwrap();
+        position.longitude = Longitude::from_dmh(112, 7, 74, true).unwrap();
+        let mut out = Vec::new();
+        position.encode(&mut out).unwrap();
+        assert_eq!(out, b"!3325.64S/11207.74E-");
     }
 
     #[test]

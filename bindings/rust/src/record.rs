@@ -2,10 +2,9 @@
 
 use crate::callsign::Callsign;
 use crate::ffi;
-use crate::latitude::Latitude;
-use crate::longitude::Longitude;
 use crate::mic_e::{AprsMicE, Course, Message, Speed};
 use crate::packet::{AprsData, AprsPacket};
+use crate::place::{angles_of, place_of};
 use crate::position::AprsPosition;
 use crate::precision::Precision;
 use crate::refusal::Refusal;
@@ -44,8 +43,8 @@ fn mic_e_of<'a>(
     report: &ffi::Report,
     comment: &'a [u8],
 ) -> Result<AprsMicE<'a>, Refusal> {
-    let latitude = Latitude::from_hundredths(place.latitude)?;
-    let mut found = AprsMicE::new(latitude, Longitude::from_hundredths(place.longitude)?);
+    let (latitude, longitude) = angles_of(place)?;
+    let mut found = AprsMicE::new(latitude, longitude);
     found.precision = Precision::try_from(place.blanks)?;
     found.message = Message::try_from(report.message)?;
     found.speed = Speed::new(report.speed)?;
@@ -98,13 +97,8 @@ fn position_body(position: &AprsPosition<'_>) -> ffi::Body {
 }
 
 fn mic_e_body(found: &AprsMicE<'_>) -> ffi::Body {
-    let place = ffi::Place {
-        latitude: found.latitude.hundredths(),
-        longitude: found.longitude.hundredths(),
-        blanks: found.precision.blanks(),
-        table: found.symbol_table,
-        code: found.symbol_code,
-    };
+    let angles = (found.latitude, found.longitude);
+    let symbol = (found.symbol_table, found.symbol_code);
     let report = ffi::Report {
         speed: found.speed.knots(),
         course: found.course.degrees(),
@@ -112,7 +106,7 @@ fn mic_e_body(found: &AprsMicE<'_>) -> ffi::Body {
         current: found.current,
     };
     ffi::Body {
-        place,
+        place: place_of(angles, found.precision, symbol),
         report,
         kind: ffi::MIC_E,
         ..Default::default()
@@ -135,6 +129,9 @@ mod tests {
             b"A>B,1,2,3,4,5,6,7,8*:=49  .  S/072  .  W-",
             b"A>S32UVT:`(_fn\"Oj/Comment",
             b"A>S32UVT:'(_fn\"Oj/",
+            b"A>B:!0000.00S/00000.00W-",
+            b"A>B:!0000.00N/00000.00W-",
+            b"A>0LLLLL:`vX\x1cn\"Oj/",
             b"A>B-7:hi",
         ] {
             let mut record = read(line);
@@ -148,11 +145,19 @@ mod tests {
     #[test]
     fn a_record_made_by_hand_is_refused_and_does_not_trap() {
         let line = b"A>S32UVT,B:`(_fn\"Oj/Comment";
-        let spoilt: [fn(&mut ffi::Record); 8] = [
+        let spoilt: [fn(&mut ffi::Record); 10] = [
             |record| record.body.comment.at = usize::MAX,
             |record| record.body.comment.len = usize::MAX,
-            |record| record.body.place.latitude = i32::MIN,
-            |record| record.body.place.longitude = i32::MAX,
+            |record| {
+                record.body.place.latitude = i32::MIN;
+                record.body.place.south = true;
+            },
+            |record| {
+                record.body.place.longitude = i32::MAX;
+                record.body.place.west = false;
+            },
+            |record| record.body.place.south = true,
+            |record| record.body.place.west = false,
             |record| record.body.place.blanks = 6,
             |record| record.body.report.message = 16,
             |record| record.body.report.speed = u32::MAX,

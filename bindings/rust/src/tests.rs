@@ -103,6 +103,48 @@ fn what_is_read_is_written_as_it_stood() {
     }
 }
 
+/// Document 02's R-1, with Mic-E's sides of `0LLLLL` among them.
+#[test]
+fn a_zero_is_read_with_its_letter_and_written_north_or_east() {
+    let cases: [(&[u8], bool, Side, &[u8]); 4] = [
+        (
+            b"A>B:!0000.00S/00000.00W-",
+            true,
+            Side::West,
+            b"A>B:!0000.00N/00000.00E-",
+        ),
+        (
+            b"A>B:=0000.00N/00000.00W-",
+            false,
+            Side::West,
+            b"A>B:=0000.00N/00000.00E-",
+        ),
+        (
+            b"A>0LLLLL:`(_fn\"Oj/",
+            true,
+            Side::East,
+            b"A>0LLZLL:`(_fn\"Oj/",
+        ),
+        (
+            b"A>0000PP:`vX\x1cn\"Oj/",
+            true,
+            Side::West,
+            b"A>000PP0:`vX\x1cn\"Oj/",
+        ),
+    ];
+    for (line, south, side, expected) in cases {
+        let packet = read(line);
+        let (latitude, longitude) = match &packet.data {
+            AprsData::Position(position) => (position.latitude, position.longitude),
+            AprsData::MicE(report) => (report.latitude, report.longitude),
+            AprsData::Unknown(_) => panic!("{packet:?}"),
+        };
+        assert_eq!((latitude.hundredths(), latitude.is_south()), (0, south));
+        assert_eq!(longitude.side(), side);
+        assert_eq!(written(&packet), Ok(expected.to_vec()));
+    }
+}
+
 #[test]
 fn a_vector_keeps_what_it_has() {
     let mut out = b"first\n".to_vec();

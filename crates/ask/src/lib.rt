@@ -38,8 +38,18 @@ struct ReportWord {
     good: bool,
 }
 
+// Which letters two words are, whether a record of their kind can hold them, and whether they are any.
+struct LettersWord {
+    south: bool,
+    west: bool,
+    held: bool,
+    good: bool,
+}
+
+// A body; one that no record can hold is out of range, whatever else it has.
 pub struct BodyWord {
     pub body: Body,
+    pub held: bool,
     pub good: bool,
 }
 
@@ -201,16 +211,8 @@ fn message_word(s: &[u8], needed: bool) -> MessageWord {
 }
 
 fn no_place() -> PlaceWord {
-    PlaceWord {
-        place: Place {
-            latitude: Latitude(0),
-            longitude: Longitude(0),
-            blanks: 0,
-            table: 0,
-            code: 0,
-        },
-        good: false,
-    }
+    let place = position::blank();
+    PlaceWord { place, good: false }
 }
 
 // `BLANKS TABLE CODE`, behind the angles
@@ -235,6 +237,8 @@ fn symbol_word(latitude: i32, longitude: i32, s: &[u8]) -> PlaceWord {
             blanks: blanks as u8,
             table: table as u8,
             code: code as u8,
+            south: false,
+            west: false,
         },
         good: true,
     }
@@ -266,7 +270,7 @@ fn report_made(good: bool, message: Message, speed: u32, course: u32, current: b
     }
 }
 
-// `MESSAGE SPEED COURSE`, at the end; only Mic-E must have a message. The words of a later request go behind them.
+// `MESSAGE SPEED COURSE`, and more behind it; only Mic-E must have a message.
 fn report_word(mic_e: bool, current: bool, s: &[u8]) -> ReportWord {
     let read = message_word(lines::first(s), mic_e);
     let MessageWord::Is(message) = read else {
@@ -277,19 +281,69 @@ fn report_word(mic_e: bool, current: bool, s: &[u8]) -> ReportWord {
     let Count::Is(speed) = read else {
         return report_made(false, Message::M0, 0, 0, false);
     };
-    let read = numbers::read_count(lines::rest(s), 0xffff_ffff);
+    let read = numbers::read_count(lines::first(lines::rest(s)), 0xffff_ffff);
     let Count::Is(course) = read else {
         return report_made(false, Message::M0, 0, 0, false);
     };
     report_made(true, message, speed, course, current)
 }
 
-fn no_body() -> BodyWord {
-    let body = body::blank();
-    BodyWord { body, good: false }
+// ---- words of the change requests, behind `COURSE`: in their order, each at most once, any left out
+
+// Whether nothing else stands there.
+fn is_known(s: &[u8]) -> bool {
+    words::past(s, b" letters=").len() == 0
 }
 
-// The words of the place and of the report. The flag is Mic-E's own, or that a position takes messages.
+fn has_position(k: Kind) -> bool {
+    match k {
+        Kind::Unknown => false,
+        Kind::Position => true,
+        Kind::MicE => true,
+    }
+}
+
+// Each letter is 0 for N or E, 1 for S or W, 2 for none, and more for what is no letter. A kind with a position holds two, another
+// none.
+fn letters_made(positioned: bool, latitude: usize, longitude: usize) -> LettersWord {
+    let two = (latitude < 2) & (longitude < 2);
+    let none = (latitude == 2) & (longitude == 2);
+    LettersWord {
+        south: latitude == 1,
+        west: longitude == 1,
+        held: if positioned { two } else { none },
+        good: (latitude <= 2) & (longitude <= 2),
+    }
+}
+
+// `letters=XY`; left out, a kind with a position has its angles' own, which are N and E at 0.
+fn letters_word(positioned: bool, p: Place, s: &[u8]) -> LettersWord {
+    if words::has(s, b" letters=") {
+        let letters = words::value(s, b" letters=");
+        let latitude = words::place(lines::cut(letters, 1), b"N S -");
+        let longitude = words::place(lines::tail(letters, 1), b"E W -");
+        return letters_made(positioned, latitude, longitude);
+    }
+    if positioned {
+        let south = p.latitude.0 < 0;
+        let west = p.longitude.0 < 0;
+        return letters_made(true, south as usize, west as usize);
+    }
+    letters_made(false, 2, 2)
+}
+
+// ---- the body's parts together
+
+fn no_body() -> BodyWord {
+    let body = body::blank();
+    BodyWord {
+        body,
+        held: false,
+        good: false,
+    }
+}
+
+// The words of the place, of the report, and behind them. The flag is Mic-E's own, or that a position takes messages.
 fn body_of(kind: Kind, mic_e: bool, flag: bool, s: &[u8]) -> BodyWord {
     let placed = place_word(s);
     if !placed.good {
@@ -299,7 +353,17 @@ fn body_of(kind: Kind, mic_e: bool, flag: bool, s: &[u8]) -> BodyWord {
     if !told.good {
         return no_body();
     }
-    let place = placed.place;
+    let more = words::behind(words::skip(s, 7));
+    if !is_known(more) {
+        return no_body();
+    }
+    let mut place = placed.place;
+    let letters = letters_word(has_position(kind), place, more);
+    if !letters.good {
+        return no_body();
+    }
+    place.south = letters.south;
+    place.west = letters.west;
     let report = told.report;
     let comment = Comment { at: 0, len: 0 };
     let body = Body {
@@ -309,7 +373,11 @@ fn body_of(kind: Kind, mic_e: bool, flag: bool, s: &[u8]) -> BodyWord {
         messaging: !mic_e & flag,
         kind,
     };
-    BodyWord { body, good: true }
+    BodyWord {
+        body,
+        held: letters.held,
+        good: true,
+    }
 }
 
 // `KIND FLAG`, the words of a header, and what follows

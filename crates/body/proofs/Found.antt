@@ -1,9 +1,10 @@
--- What reading a body gives: the blank body at a refusal, a body in range but for two cases, and a comment within the input.
+-- What reading a body gives: the blank body at a refusal, a body in range but for two cases, a place that is always in range and on
+-- the sides of its letters, and a comment within the input.
 -- Assumes nothing.
 use mathlib.Core.Path.{_≡_, refl}
 use mathlib.Core.Bool.{Bool, true, false, not, cond, and-true, Bool·not-not}
 use mathlib.Core.List.{List}
-use Prim.Native.Nat.{ℕ, _+_, _≤_}
+use Prim.Native.Nat.{ℕ, _+_, _%_, _≤_}
 use native.Mathlib.Omega.{arith}
 use borrow.Author.Tests.{le-leb, ltb-true, eqb-true}
 use lib.Dec.{eqb, ltb}
@@ -11,9 +12,10 @@ use lib.IntN.{natAbs}
 use lib.ListN.{length, drop, getD, length-drop}
 use Rattle.callsign.specs.declared.Callsign.{Callsign}
 use Rattle.callsign.specs.Range.{callPart, isBlankCall}
-use Rattle.lonlat.specs.Angle.{mostLatitude, mostLongitude}
+use Rattle.numbers.specs.Sign.{isOn}
+use Rattle.lonlat.specs.Angle.{mostLatitude, mostLongitude, widthOf}
 use Rattle.position.specs.Reach.{inReach}
-use Rattle.position.specs.Position.{fixedBytes, readPosition, placeInRange, symbolsInRange}
+use Rattle.position.specs.Position.{fixedBytes, readPosition, placeInRange, lettersAgree, symbolsInRange, positionFits}
 use Rattle.position.proofs.Lengths.{position-long}
 use Rattle.position.proofs.Theorems.{read-position-answered}
 use Rattle.mic_e.specs.declared.Destination.{Destination}
@@ -31,7 +33,7 @@ use Rattle.body.specs.declared.Opening.{Opening}
 use Rattle.body.specs.declared.Opening.the-variants.{Unported, Untimed, Mic, Other}
 use Rattle.body.specs.declared.BodyRead.{BodyRead}
 use Rattle.body.specs.Body.{noReport, noComment, blankBody, bodyAccepted, bodyRefused, openingOf, commentFrom, positionBody, reportBody, micEBody, bodyAfter, readBody}
-use Rattle.body.specs.Range.{isNoPlace, isNoReport, isShort, motionInRange, unknownInRange, positionInRange, micEInRange, inRangeAs, bodyInRange, exceptedAs, isExcepted}
+use Rattle.body.specs.Range.{isNoLetter, isNoPlace, isNoReport, isShort, motionInRange, unknownInRange, positionInRange, micEInRange, inRangeAs, bodyInRange, exceptedAs, isExcepted}
 
 no-report : isNoReport noReport ≡ true
 unfolding isNoReport noReport messageNumber
@@ -42,11 +44,26 @@ no-report = refl
 pub record Found (size : ℕ) (r : BodyRead) : Type 0 where
   pub blank : (r .refusal ≡ 0 → ⊥) → r ≡ bodyRefused (r .refusal)
   pub range : (to : Callsign) → (r .body .kind ≡ MicE → isBlankCall to ≡ true) → bodyInRange (r .body) to ≡ not (isExcepted (r .body))
+  pub near : placeInRange (r .body .place) ≡ true
+  pub agree : lettersAgree (r .body .place) ≡ true
+  pub latitude-whole : natAbs (r .body .place .latitude .0) % widthOf (r .body .place .blanks) ≡ 0
+  pub longitude-whole : (r .body .kind ≡ MicE → ⊥) → natAbs (r .body .place .longitude .0) % widthOf (r .body .place .blanks) ≡ 0
   pub within : r .body .comment .at + r .body .comment .len ≤ size
 
 blank-found : (n size : ℕ) → Found size (record { refusal = n; body = blankBody })
-unfolding blankBody noComment noReport bodyInRange inRangeAs isExcepted exceptedAs unknownInRange isNoPlace isNoReport messageNumber
-blank-found n size = record { blank = λ z. refl; range = λ to h. refl; within = omega arith }
+unfolding
+    blankBody noComment noReport bodyInRange inRangeAs isExcepted exceptedAs unknownInRange isNoPlace isNoLetter isNoReport messageNumber
+    placeInRange inReach lettersAgree isOn widthOf
+blank-found n size =
+    record {
+      blank = λ z. refl;
+      range = λ to h. refl;
+      near = refl;
+      agree = refl;
+      latitude-whole = refl;
+      longitude-whole = λ k. refl;
+      within = omega arith;
+    }
 
 module _ (s : List ℕ) (at : ℕ) (start : at ≤ length s) where
   comment-within : (n : ℕ) → n ≤ length (drop at s) → commentFrom s (at + n) .at + commentFrom s (at + n) .len ≤ length s
@@ -57,7 +74,7 @@ module _ (s : List ℕ) (at : ℕ) (start : at ≤ length s) where
 
   module _ (messaging : Bool) where
     position-found : Found (length s) (positionBody (readPosition (drop at s)) messaging (commentFrom s (at + fixedBytes)))
-    unfolding positionBody bodyInRange inRangeAs isExcepted exceptedAs positionInRange
+    unfolding positionBody bodyInRange inRangeAs isExcepted exceptedAs positionInRange positionFits
     position-found = go (eqb (readPosition (drop at s) .refusal) 0) refl
       where
         go : (t : Bool) → eqb (readPosition (drop at s) .refusal) 0 ≡ t
@@ -67,9 +84,14 @@ module _ (s : List ℕ) (at : ℕ) (start : at ≤ length s) where
             (bodyRefused (readPosition (drop at s) .refusal)))
         go true e =
             let z = eqb-true (readPosition (drop at s) .refusal) 0 e in
+            let a = read-position-answered (drop at s) in
             record {
               blank = λ n. absurd (n refl);
-              range = λ to h. rw (no-report, read-position-answered (drop at s) .near z, Bool·not-not (symbolsInRange (readPosition (drop at s) .place)));
+              range = λ to h. rw (no-report, a .near z, a .agree, Bool·not-not (symbolsInRange (readPosition (drop at s) .place)));
+              near = a .near z;
+              agree = a .agree;
+              latitude-whole = a .latitude-whole;
+              longitude-whole = λ k. a .longitude-whole;
               within = comment-within fixedBytes (position-long (drop at s) z);
             }
         go false e = blank-found _ (length s)
@@ -78,7 +100,7 @@ module _ (s : List ℕ) (at : ℕ) (start : at ≤ length s) where
 
   module _ (current : Bool) (call : List ℕ) (d : Destination) (q : readDestination call ≡ destination.Read d) where
     report-found : (x : InformationRead) → readInformation (drop at s) (d .hundred) (d .west) ≡ x → Found (length s) (reportBody d x current (commentFrom s (at + 8)))
-    unfolding reportBody bodyInRange inRangeAs isExcepted exceptedAs micEInRange placeInRange inReach motionInRange isShort
+    unfolding reportBody bodyInRange inRangeAs isExcepted exceptedAs micEInRange lettersAgree placeInRange inReach motionInRange isShort
     report-found (information.Read i) e =
         let a = read-destination-found call d q in
         let b = read-information-found (drop at s) (d .hundred) (d .west) i e in
@@ -86,14 +108,20 @@ module _ (s : List ℕ) (at : ℕ) (start : at ≤ length s) where
           blank = λ n. absurd (n refl);
           range = λ to h. rw (
             h refl,
-            le-leb (natAbs (d .latitude .0)) mostLatitude (a .0),
-            le-leb (d .blanks) 5 (a .1),
+            a .angle .side,
+            b .side,
+            le-leb (natAbs (d .latitude .0)) mostLatitude (a .angle .near),
+            le-leb (d .blanks) 5 (a .few),
             le-leb (natAbs (i .longitude .0)) mostLongitude (b .near),
             le-leb (i .speed .0) mostSpeed (b .slow),
             le-leb (i .course .0) mostCourse (b .turned),
             and-true,
             Bool·not-not,
           );
+          near = rw (le-leb (natAbs (d .latitude .0)) mostLatitude (a .angle .near), le-leb (d .blanks) 5 (a .few), le-leb (natAbs (i .longitude .0)) mostLongitude (b .near));
+          agree = rw (a .angle .side, b .side);
+          latitude-whole = a .angle .whole;
+          longitude-whole = λ k. absurd (k refl);
           within = comment-within 8 (information-long (drop at s) (d .hundred) (d .west) i e);
         }
     report-found information.Refused e = blank-found _ (length s)

@@ -15,7 +15,7 @@ use Rattle.lonlat.specs.Angle.{mostLatitude, mostLongitude}
 use Rattle.lonlat.specs.Latitude.{latitudeRefusal}
 use Rattle.position.specs.declared.Place.{Place}
 use Rattle.position.specs.Reach.{inReach}
-use Rattle.position.specs.Position.{placeInRange}
+use Rattle.position.specs.Position.{placeInRange, lettersAgree}
 use Rattle.mic_e.specs.Longitude.{longitudeOut}
 use Rattle.mic_e.specs.Motion.{mostSpeed, mostCourse, motionOut}
 use Rattle.mic_e.specs.Destination.{destinationRefusal}
@@ -74,6 +74,7 @@ information-judges place report e =
 pub record Reported (b : Body) (to : Callsign) : Type 0 where
   pub no-call : isBlankCall to ≡ true
   pub no-messaging : b .messaging ≡ false
+  pub agree : lettersAgree (b .place) ≡ true
   pub near : placeInRange (b .place) ≡ true
   pub short : natAbs (b .place .longitude .0) < mostLongitude
   pub slow : b .report .speed .0 ≤ mostSpeed
@@ -83,19 +84,22 @@ pub mic-e-held : (b : Body) (to : Callsign) → micEInRange b to ≡ true → Re
 unfolding micEInRange isShort motionInRange
 mic-e-held b to e =
     let a₂ = not (b .messaging) in
-    let a₃ = placeInRange (b .place) in
-    let a₄ = ltb (natAbs (b .place .longitude .0)) mostLongitude in
-    let a₅ = leb (b .report .speed .0) mostSpeed in
-    let a₆ = leb (b .report .course .0) mostCourse in
-    let e₂ = and-second (isBlankCall to) (a₂ && (a₃ && (a₄ && (a₅ && a₆)))) e in
-    let e₃ = and-second a₂ (a₃ && (a₄ && (a₅ && a₆))) e₂ in
-    let e₄ = and-second a₃ (a₄ && (a₅ && a₆)) e₃ in
-    let e₅ = and-second a₄ (a₅ && a₆) e₄ in
+    let a₃ = lettersAgree (b .place) in
+    let a₄ = placeInRange (b .place) in
+    let a₅ = ltb (natAbs (b .place .longitude .0)) mostLongitude in
+    let a₆ = leb (b .report .speed .0) mostSpeed in
+    let a₇ = leb (b .report .course .0) mostCourse in
+    let e₂ = and-second (isBlankCall to) (a₂ && (a₃ && (a₄ && (a₅ && (a₆ && a₇))))) e in
+    let e₃ = and-second a₂ (a₃ && (a₄ && (a₅ && (a₆ && a₇)))) e₂ in
+    let e₄ = and-second a₃ (a₄ && (a₅ && (a₆ && a₇))) e₃ in
+    let e₅ = and-second a₄ (a₅ && (a₆ && a₇)) e₄ in
+    let e₆ = and-second a₅ (a₆ && a₇) e₅ in
     record {
-      no-call = and-first (isBlankCall to) (a₂ && (a₃ && (a₄ && (a₅ && a₆)))) e;
-      no-messaging = not-true (b .messaging) (and-first a₂ (a₃ && (a₄ && (a₅ && a₆))) e₂);
-      near = and-first a₃ (a₄ && (a₅ && a₆)) e₃;
-      short = ltb-true (natAbs (b .place .longitude .0)) mostLongitude (and-first a₄ (a₅ && a₆) e₄);
-      slow = leb-true (b .report .speed .0) mostSpeed (and-first a₅ a₆ e₅);
-      turned = leb-true (b .report .course .0) mostCourse (and-second a₅ a₆ e₅);
+      no-call = and-first (isBlankCall to) (a₂ && (a₃ && (a₄ && (a₅ && (a₆ && a₇))))) e;
+      no-messaging = not-true (b .messaging) (and-first a₂ (a₃ && (a₄ && (a₅ && (a₆ && a₇)))) e₂);
+      agree = and-first a₃ (a₄ && (a₅ && (a₆ && a₇))) e₃;
+      near = and-first a₄ (a₅ && (a₆ && a₇)) e₄;
+      short = ltb-true (natAbs (b .place .longitude .0)) mostLongitude (and-first a₅ (a₆ && a₇) e₅);
+      slow = leb-true (b .report .speed .0) mostSpeed (and-first a₆ a₇ e₆);
+      turned = leb-true (b .report .course .0) mostCourse (and-second a₆ a₇ e₆);
     }

@@ -68,7 +68,7 @@ module _ (d : Destination) (s : List ℕ) (at : ℕ) (x : InformationRead) (q : 
     pub information-read : (i : Information) → x ≡ information.Read i
         → r ≡ bodyAccepted (record {
           kind = MicE;
-          place = record { latitude = d .latitude; longitude = i .longitude; blanks = d .blanks; table = i .table; code = i .code };
+          place = record { latitude = d .latitude; longitude = i .longitude; blanks = d .blanks; table = i .table; code = i .code; south = d .south; west = d .west };
           messaging = false;
           report = record { message = d .message; speed = i .speed; course = i .course; current = current };
           comment = record { at = at + 8; len = length s - (at + 8) };

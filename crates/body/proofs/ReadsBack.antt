@@ -1,5 +1,6 @@
 -- A Mic-E body as written reads back. Document 01: "A Mic-E body and destination as written, read by themselves, give back the
--- Mic-E part of the record and the comment bytes, if latitude is a multiple of the width its blanks leave."
+-- Mic-E part of the record and the comment bytes, if latitude is a multiple of the width its blanks leave." Document 02, R-1: "its
+-- Mic-E read-back rule excepts the letter at 0".
 -- Assumes nothing.
 use mathlib.Core.Path.{_≡_, refl, sym, ap, _∙_}
 use mathlib.Core.Bool.{Bool, true, false, cond}
@@ -15,6 +16,7 @@ use Rattle.callsign.specs.declared.Callsign.{Callsign}
 use Rattle.callsign.specs.Range.{callPart}
 use Rattle.callsign.proofs.Made.{made-call}
 use Rattle.lonlat.specs.Angle.{mostLatitude, widthOf}
+use Rattle.position.specs.Position.{asWritten}
 use Rattle.position.proofs.Reach.{latitude-near, reach-near, reach-few}
 use Rattle.mic_e.specs.declared.DestinationRead.the-variants as destination
 use Rattle.mic_e.specs.Destination.{readDestination, destinationBytes}
@@ -31,9 +33,9 @@ use Rattle.body.specs.Range.{inRangeAs, bodyInRange}
 use Rattle.body.specs.Written.{micECall, toAs, writtenTo, informationOf, micEBytes, bytesAs, bodyBytes}
 use Rattle.body.proofs.Judged.{Reported, mic-e-held}
 
--- a body with its comment at that place and of that length
-abbrev pub commented : Body → ℕ → ℕ → Body
-commented b at size = record { kind = b .kind; place = b .place; messaging = b .messaging; report = b .report; comment = record { at = at; len = size } }
+-- a body as it comes back: with the letters that are written, and its comment at that place and of that length
+abbrev pub comesBack : Body → ℕ → ℕ → Body
+comesBack b at size = record { kind = b .kind; place = asWritten (b .place); messaging = b .messaging; report = b .report; comment = record { at = at; len = size } }
 
 opens-again : (current : Bool) → openingOf (cond current backquote apostrophe) ≡ Mic current
 unfolding openingOf
@@ -87,8 +89,8 @@ module _ (b : Body) (to : Callsign) (h : Reported b to) (width : natAbs (b .plac
       rw (at, len)
 
   pub report-back : readBody (micECall (b .place) (b .report)) input (length before)
-      ≡ bodyAccepted (record { kind = MicE; place = b .place; messaging = false; report = b .report; comment = record { at = length before + 9; len = length comment } })
-  unfolding readBody bodyAfter micEBody reportBody destinationFor informationOf
+      ≡ bodyAccepted (record { kind = MicE; place = asWritten (b .place); messaging = false; report = b .report; comment = record { at = length before + 9; len = length comment } })
+  unfolding readBody bodyAfter micEBody reportBody destinationFor informationOf asWritten
   report-back =
       rw (
         lt-ltb (length before) (length input) (omega (arith, sized)),
@@ -107,7 +109,7 @@ unfolding micEBytes
 fixed-nine b = omega (arith, information-length (informationOf (b .place) (b .report)))
 
 module _ (b : Body) (to : Callsign) (k : b .kind ≡ MicE) (e : bodyInRange b to ≡ true) where
-  held : Reported b to
+  pub held : Reported b to
   unfolding bodyInRange inRangeAs
   held = mic-e-held b to (ap (λ (x : Kind). inRangeAs x b to) (sym k) ∙ e)
 
@@ -120,7 +122,7 @@ module _ (b : Body) (to : Callsign) (k : b .kind ≡ MicE) (e : bodyInRange b to
   its-bytes = ap (λ (x : Kind). bytesAs x b) k
 
   pub body-back : natAbs (b .place .latitude .0) % widthOf (b .place .blanks) ≡ 0 → (before comment : List ℕ)
-      → readBody (writtenTo b to) (before ++ (bodyBytes b ++ comment)) (length before) ≡ bodyAccepted (commented b (length before + 9) (length comment))
+      → readBody (writtenTo b to) (before ++ (bodyBytes b ++ comment)) (length before) ≡ bodyAccepted (comesBack b (length before + 9) (length comment))
   body-back width before comment = rw (its-call, its-bytes) (report-back b to held width before comment ∙ rw (k, held .no-messaging))
 
   pub comment-back : (before comment : List ℕ) → drop (length before + 9) (before ++ (bodyBytes b ++ comment)) ≡ comment

@@ -1,28 +1,33 @@
--- The crate's theorems: what is read, what of it is not written, what is written, and that a Mic-E body as written reads back.
+-- The crate's theorems: what is read, what of it is not written, the boxes of what is read, what is written, and that a Mic-E body as
+-- written reads back.
 -- Assumes nothing.
 use mathlib.Core.Path.{_≡_, refl}
 use mathlib.Core.Bool.{Bool, true, false, not, cond}
-use mathlib.Core.List.{List, _++_}
+use mathlib.Core.List.{List, [], _++_}
 use Prim.Native.Nat.{ℕ, _+_, _%_, _≤_}
 use native.Mathlib.Omega.{arith}
-use lib.IntN.{natAbs}
+use lib.IntN.{pos, natAbs}
 use lib.ListN.{length, take, drop}
 use lib.Seq.{take-at}
 use Rattle.laws.specs.Lists.{padTo}
 use Rattle.callsign.specs.declared.Callsign.{Callsign}
+use Rattle.callsign.specs.Text.{blankCall}
 use Rattle.callsign.specs.Range.{inRange, isBlankCall}
-use Rattle.lonlat.specs.Angle.{widthOf}
+use Rattle.lonlat.specs.Angle.{mostLatitude, mostLongitude, widthOf}
+use Rattle.position.specs.Page.{boxOf}
+use Rattle.position.proofs.InnerEdge.{InnerEdge}
+use Rattle.position.proofs.Theorems.{latitude-is-inner-edge, longitude-is-inner-edge, zero-is-north, zero-is-east, latitude-letter-kept, longitude-letter-kept, letters-kept}
 use Rattle.mic_e.specs.Message.{messageNumber}
 use Rattle.body.specs.declared.Kind.the-variants.{MicE}
 use Rattle.body.specs.declared.Body.{Body}
 use Rattle.body.specs.declared.BodyWritten.{BodyWritten}
 use Rattle.body.specs.Body.{noReport, blankBody, bodyAccepted, bodyRefused, readBody}
-use Rattle.body.specs.Range.{isNoPlace, isNoReport, unknownInRange, inRangeAs, bodyInRange, isExcepted}
+use Rattle.body.specs.Range.{isNoLetter, isNoPlace, isNoReport, unknownInRange, inRangeAs, bodyInRange, isExcepted}
 use Rattle.body.specs.Written.{writtenTo, bodyBytes, kindRefusal, unwritten, writtenAs, writeBody}
 use Rattle.body.proofs.Writing.{fixed-short}
 use Rattle.body.proofs.Built as built
 use Rattle.body.proofs.Found.{body-found}
-use Rattle.body.proofs.ReadsBack.{commented, body-back, comment-back}
+use Rattle.body.proofs.ReadsBack.{comesBack, held, body-back, comment-back}
 
 -- ---- what is read, accepted or not
 
@@ -51,9 +56,37 @@ module _ (to : Callsign) (s : List ℕ) (from : ℕ) where
         turned true = refl
         turned false = refl
 
+-- ---- the boxes of what was read, from its digits on outward (document 02, R-1)
+
+-- each angle is the inner edge of its box; a Mic-E longitude keeps the digits that its latitude's blanks leave open, so it is one
+-- where these are 0, as without blanks
+pub record InnerEdges (b : Body) : Type 0 where
+  pub latitude : InnerEdge (b .place .south) (b .place .blanks) (b .place .latitude .0) (boxOf mostLatitude (b .place .latitude .0) (b .place .blanks) (b .place .south))
+  pub longitude : natAbs (b .place .longitude .0) % widthOf (b .place .blanks) ≡ 0
+      → InnerEdge (b .place .west) (b .place .blanks) (b .place .longitude .0) (boxOf mostLongitude (b .place .longitude .0) (b .place .blanks) (b .place .west))
+  pub longitude-whole : (b .kind ≡ MicE → ⊥) → natAbs (b .place .longitude .0) % widthOf (b .place .blanks) ≡ 0
+  pub without-blanks : b .place .blanks ≡ 0 → natAbs (b .place .longitude .0) % widthOf (b .place .blanks) ≡ 0
+
+pub read-inner-edges : (to : Callsign) (s : List ℕ) (from : ℕ) → InnerEdges (readBody to s from .body)
+unfolding widthOf
+read-inner-edges to s from =
+    let f = body-found to s from in
+    let place = readBody to s from .body .place in
+    record {
+      latitude = latitude-is-inner-edge place (f .near) (f .agree) (f .latitude-whole);
+      longitude = longitude-is-inner-edge place (f .near) (f .agree);
+      longitude-whole = f .longitude-whole;
+      without-blanks = λ e. rw e (omega arith);
+    }
+
+-- of the blank body too, which an empty body reads as
+pub blank-inner-edges : InnerEdges blankBody
+unfolding readBody
+blank-inner-edges = read-inner-edges blankCall [] 0
+
 -- the blank body is in range, beside any destination
 pub blank-range : (to : Callsign) → bodyInRange blankBody to ≡ true
-unfolding blankBody noReport bodyInRange inRangeAs unknownInRange isNoPlace isNoReport messageNumber
+unfolding blankBody noReport bodyInRange inRangeAs unknownInRange isNoPlace isNoLetter isNoReport messageNumber
 blank-range to = refl
 
 -- ---- what is written
@@ -78,12 +111,30 @@ module _ (b : Body) (to : Callsign) where
   fixed-bytes e = rw e (take-at (bodyBytes b) _ (length (bodyBytes b)) refl)
 
 -- ---- "A Mic-E body and destination as written, read by themselves, give back the Mic-E part of the record and the comment
--- bytes, if latitude is a multiple of the width its blanks leave." They may stand behind other bytes.
+-- bytes, if latitude is a multiple of the width its blanks leave." They may stand behind other bytes. Document 02, R-1, "excepts
+-- the letter at 0".
 
 module _ (b : Body) (to : Callsign) (k : b .kind ≡ MicE) (e : bodyInRange b to ≡ true) (before comment : List ℕ) where
   pub mic-e-reads-back : natAbs (b .place .latitude .0) % widthOf (b .place .blanks) ≡ 0
-      → readBody (writtenTo b to) (before ++ (bodyBytes b ++ comment)) (length before) ≡ bodyAccepted (commented b (length before + 9) (length comment))
+      → readBody (writtenTo b to) (before ++ (bodyBytes b ++ comment)) (length before) ≡ bodyAccepted (comesBack b (length before + 9) (length comment))
   mic-e-reads-back width = body-back b to k e width before comment
+
+  -- its place is the record's, where neither angle is 0
+  pub mic-e-letters-back : (b .place .latitude .0 ≡ pos 0 → ⊥) → (b .place .longitude .0 ≡ pos 0 → ⊥) → comesBack b (length before + 9) (length comment) .place ≡ b .place
+  mic-e-letters-back = letters-kept (b .place) (held b to k e .agree)
+
+  -- one that is 0 comes back N or E, and the other letter is the record's
+  pub mic-e-north-at-zero : b .place .latitude .0 ≡ pos 0 → comesBack b (length before + 9) (length comment) .place .south ≡ false
+  mic-e-north-at-zero = zero-is-north (b .place)
+
+  pub mic-e-east-at-zero : b .place .longitude .0 ≡ pos 0 → comesBack b (length before + 9) (length comment) .place .west ≡ false
+  mic-e-east-at-zero = zero-is-east (b .place)
+
+  pub mic-e-latitude-letter-back : (b .place .latitude .0 ≡ pos 0 → ⊥) → comesBack b (length before + 9) (length comment) .place .south ≡ b .place .south
+  mic-e-latitude-letter-back = latitude-letter-kept (b .place) (held b to k e .agree)
+
+  pub mic-e-longitude-letter-back : (b .place .longitude .0 ≡ pos 0 → ⊥) → comesBack b (length before + 9) (length comment) .place .west ≡ b .place .west
+  mic-e-longitude-letter-back = longitude-letter-kept (b .place) (held b to k e .agree)
 
   -- the bytes at the comment's place
   pub mic-e-comment-back : drop (length before + 9) (before ++ (bodyBytes b ++ comment)) ≡ comment

@@ -22,7 +22,7 @@ use Rattle.callsign.specs.Text.{made}
 use Rattle.callsign.specs.Range.{isBlankCall}
 use Rattle.callsign.specs.Address.{ssidOf, ssidText}
 use Rattle.position.specs.declared.Place.{Place}
-use Rattle.position.specs.Position.{placeInRange, symbolsInRange, positionText, positionRefusal}
+use Rattle.position.specs.Position.{placeInRange, lettersAgree, positionFits, positionText, positionRefusal}
 use Rattle.position.proofs.Lengths.{position-length}
 use Rattle.mic_e.specs.declared.Message.{Message}
 use Rattle.mic_e.specs.declared.DestinationWritten.{DestinationWritten}
@@ -86,7 +86,7 @@ full l e = rw e (append-nil l)
 module _ (b : Body) (u : Bool) (e : u ≡ isNoReport (b .report)) (f : not u ≡ false) (p : Answer) (out last : List ℕ)
     (w : ends p last ≡ wrote (positionRefusal (b .place)) (positionText (b .place)) out) (m : 19 ≡ length out) where
   abbrev fine : Bool
-  fine = placeInRange (b .place) && symbolsInRange (b .place)
+  fine = positionFits (b .place)
 
   says : p .refusal ≡ cond fine 0 15
   unfolding positionRefusal
@@ -184,11 +184,12 @@ module _ (latitude : ℤ) (blanks : ℕ) (message : Message) (longitude : ℤ) (
   unfolding writeDestination
   destination-is z = rw (q, sym destination-says ∙ eq-eqb (d .refusal) 0 z)
 
-module _ (b : Body) (to : Callsign) (u : Bool) (e : u ≡ isBlankCall to) (f : not u ≡ false) (g : b .messaging ≡ false) (d : DestinationWritten)
+module _ (b : Body) (to : Callsign) (u : Bool) (e : u ≡ isBlankCall to) (f : not u ≡ false) (g : b .messaging ≡ false)
+    (v : Bool) (i : v ≡ lettersAgree (b .place)) (j : not v ≡ false) (d : DestinationWritten)
     (q : d ≡ writeDestination (b .place .latitude .0) (b .place .blanks) (b .report .message) (b .place .longitude .0)) where
   left : micEInRange b to ≡ ((placeInRange (b .place) && isShort (b .place)) && motionInRange (b .report))
   unfolding micEInRange
-  left = rw (← e, not-false u f, g) (apart (placeInRange (b .place)) (isShort (b .place)) (motionInRange (b .report)))
+  left = rw (← e, not-false u f, g, ← i, not-false v j) (apart (placeInRange (b .place)) (isShort (b .place)) (motionInRange (b .report)))
     where
       apart : (x y z : Bool) → (x && (y && z)) ≡ ((x && y) && z)
       apart true y z = refl
@@ -233,7 +234,7 @@ module _ (b : Body) (to : Callsign) where
 -- at most 20 bytes: a position's
 position-accepts : (b : Body) → positionInRange b ≡ true → positionRefusal (b .place) ≡ 0
 unfolding positionInRange positionRefusal
-position-accepts b e = rw (and-second (isNoReport (b .report)) (placeInRange (b .place) && symbolsInRange (b .place)) e)
+position-accepts b e = rw (and-second (isNoReport (b .report)) (positionFits (b .place)) e)
 
 pub fixed-short : (b : Body) (to : Callsign) → bodyInRange b to ≡ true → length (bodyBytes b) ≤ 20
 unfolding bodyInRange bodyBytes inRangeAs bytesAs positionBytes micEBytes

@@ -85,12 +85,12 @@ positionBody p messaging comment =
     (bodyAccepted (record { kind = Position; place = p .place; messaging = messaging; report = noReport; comment = comment }))
     (bodyRefused (p .refusal))
 
--- a Mic-E report, of a destination and of information that was read
+-- a Mic-E report, of a destination and of information that was read; its letters are those that the destination says
 unfoldable pub reportBody : Destination → InformationRead → Bool → Comment → BodyRead
 reportBody d (information.Read i) current comment =
     bodyAccepted (record {
       kind = MicE;
-      place = record { latitude = d .latitude; longitude = i .longitude; blanks = d .blanks; table = i .table; code = i .code };
+      place = record { latitude = d .latitude; longitude = i .longitude; blanks = d .blanks; table = i .table; code = i .code; south = d .south; west = d .west };
       messaging = false;
       report = record { message = d .message; speed = i .speed; course = i .course; current = current };
       comment = comment;

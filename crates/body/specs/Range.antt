@@ -1,6 +1,6 @@
 -- Which bodies are in range, beside a destination. Document 01: "15 is given for: an angle, speed or course out of range;
 -- precision outside 0 to 5; .. parts its kind lacks not zero; a Mic-E angle of 180 degrees ..; a position symbol byte of 128
--- or more". A comment's place and length are not judged.
+-- or more"; and document 02, R-1: "15 also for a record's letter that contradicts a nonzero angle". A comment's place and length are not judged.
 -- Assumes nothing.
 use mathlib.Core.Bool.{Bool, false, not, _&&_}
 use lib.Dec.{eqb, leb, ltb}
@@ -9,7 +9,7 @@ use Rattle.lonlat.specs.Angle.{mostLongitude}
 use Rattle.callsign.specs.declared.Callsign.{Callsign}
 use Rattle.callsign.specs.Range.{isBlankCall}
 use Rattle.position.specs.declared.Place.{Place}
-use Rattle.position.specs.Position.{placeInRange, symbolsInRange}
+use Rattle.position.specs.Position.{placeInRange, lettersAgree, symbolsInRange, positionFits}
 use Rattle.mic_e.specs.Message.{messageNumber}
 use Rattle.mic_e.specs.Motion.{mostSpeed, mostCourse}
 use Rattle.body.specs.declared.Kind.{Kind}
@@ -19,14 +19,19 @@ use Rattle.body.specs.declared.Body.{Body}
 
 -- ---- parts that a kind lacks: all zero
 
--- angles, blanks and symbol
+-- neither S nor W; N and E are said by neither
+unfoldable pub isNoLetter : Place → Bool
+isNoLetter p = not (p .south) && not (p .west)
+
+-- angles, blanks, symbol and letters
 unfoldable pub isNoPlace : Place → Bool
 isNoPlace p =
     eqb (natAbs (p .latitude .0)) 0
     && (eqb (natAbs (p .longitude .0)) 0
     && (eqb (p .blanks) 0
     && (eqb (p .table) 0
-    && eqb (p .code) 0)))
+    && (eqb (p .code) 0
+    && isNoLetter p))))
 
 -- the message of number 0, no speed, no course, not current
 unfoldable pub isNoReport : Report → Bool
@@ -52,14 +57,19 @@ motionInRange m = leb (m .speed .0) mostSpeed && leb (m .course .0) mostCourse
 unfoldable pub unknownInRange : Body → Bool
 unknownInRange b = isNoPlace (b .place) && (not (b .messaging) && isNoReport (b .report))
 
--- no report; "an angle .. out of range; precision outside 0 to 5", "a position symbol byte of 128 or more"
+-- no report; what a position may be
 unfoldable pub positionInRange : Body → Bool
-positionInRange b = isNoReport (b .report) && (placeInRange (b .place) && symbolsInRange (b .place))
+positionInRange b = isNoReport (b .report) && positionFits (b .place)
 
--- no destination, no messaging; angles and precision, 180 degrees, speed and course
+-- no destination, no messaging; letters, angles and precision, 180 degrees, speed and course
 unfoldable pub micEInRange : Body → Callsign → Bool
 micEInRange b to =
-    isBlankCall to && (not (b .messaging) && (placeInRange (b .place) && (isShort (b .place) && motionInRange (b .report))))
+    isBlankCall to
+    && (not (b .messaging)
+    && (lettersAgree (b .place)
+    && (placeInRange (b .place)
+    && (isShort (b .place)
+    && motionInRange (b .report)))))
 
 -- a body as one of that kind
 unfoldable pub inRangeAs : Kind → Body → Callsign → Bool

@@ -10,11 +10,9 @@ ghost use Rattle.position.specs.Position.{fixedBytes, readPosition};
 ghost use Rattle.mic_e.specs.Destination.{readDestination, destinationBytes};
 ghost use Rattle.mic_e.specs.Information.{readInformation, informationOut};
 ghost use Rattle.body.specs.Body.{noReport, blankBody, bodyAccepted, bodyRefused, openingOf, commentFrom, positionBody, reportBody, micEBody, readBody};
-ghost use Rattle.body.specs.Range.{isNoPlace, isNoReport, unknownInRange, positionInRange, micEInRange};
+ghost use Rattle.body.specs.Range.{isNoLetter, isNoPlace, isNoReport, unknownInRange, positionInRange, micEInRange};
 ghost use Rattle.body.specs.Written.{micECall, informationOf, positionBytes, micEBytes, unwritten, writtenAs, writeBody};
 use callsign::Callsign;
-use lonlat::Latitude;
-use lonlat::Longitude;
 use mic_e::Course;
 use mic_e::Destination;
 use mic_e::DestinationRead;
@@ -96,13 +94,7 @@ fn no_report() -> Report
 pub fn blank() -> Body
     ensures { λ r. ⌜ r ≡ blankBody ⌝ }
 {
-    let place = Place {
-        latitude: Latitude(0),
-        longitude: Longitude(0),
-        blanks: 0,
-        table: 0,
-        code: 0,
-    };
+    let place = position::blank();
     let report = no_report();
     let comment = Comment { at: 0, len: 0 };
     Body {
@@ -196,6 +188,8 @@ fn read_report(d: Destination, s: &[u8], at: usize, current: bool) -> BodyRead
                 blanks: d.blanks,
                 table: i.table,
                 code: i.code,
+                south: d.south,
+                west: d.west,
             };
             let message = d.message;
             let speed = i.speed;
@@ -253,6 +247,15 @@ pub fn read(to: Callsign, s: &[u8], from: usize) -> BodyRead
 
 // ---- parts that a kind lacks
 
+fn is_no_letter(p: Place) -> bool
+    ensures { λ r. ⌜ r ≡ isNoLetter p ⌝ }
+{
+    if p.south {
+        return false;
+    }
+    !p.west
+}
+
 fn is_no_place(p: Place) -> bool
     ensures { λ r. ⌜ r ≡ isNoPlace p ⌝ }
 {
@@ -272,7 +275,10 @@ fn is_no_place(p: Place) -> bool
     if p.table != 0 {
         return false;
     }
-    p.code == 0
+    if p.code != 0 {
+        return false;
+    }
+    is_no_letter(p)
 }
 
 fn is_no_report(m: Report) -> bool
@@ -396,6 +402,9 @@ fn write_mic_e(b: Body, to: Callsign) -> BodyWritten
         return unwritten();
     }
     let place = b.place;
+    if !position::letters_agree(place) {
+        return unwritten();
+    }
     let report = b.report;
     let latitude = place.latitude;
     let longitude = place.longitude;

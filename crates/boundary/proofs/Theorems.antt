@@ -45,7 +45,7 @@ allZero =
     record {
       header = record { from = noCall; to = noCall; path = record { hops = replicate 8 noHop; count = 0 } };
       body = record {
-        place = record { latitude = record { 0 = pos 0 }; longitude = record { 0 = pos 0 }; blanks = 0; table = 0; code = 0 };
+        place = record { latitude = record { 0 = pos 0 }; longitude = record { 0 = pos 0 }; blanks = 0; table = 0; code = 0; south = false; west = false };
         report = record { speed = record { 0 = 0 }; course = record { 0 = 0 }; message = 0; current = false };
         comment = record { at = 0; len = 0 };
         messaging = false;

@@ -60,8 +60,10 @@ module _ (angle : ℤ) (blanks : ℕ) where
   pub unique-tusselgro-longitude-bounds : (r r′ : BoundsAnswer) → r ≡ boundsOf mostLongitude angle blanks → r′ ≡ boundsOf mostLongitude angle blanks → r ≡ r′
   unique-tusselgro-longitude-bounds r r′ = one-value r r′ (boundsOf mostLongitude angle blanks)
 
-  pub unique-tusselgro-latitude-box : (r r′ : PageBox) → r ≡ boxOf mostLatitude angle blanks → r′ ≡ boxOf mostLatitude angle blanks → r ≡ r′
-  unique-tusselgro-latitude-box r r′ = one-value r r′ (boxOf mostLatitude angle blanks)
+  -- on the side that is told
+  module _ (minus : Bool) (r r′ : PageBox) where
+    pub unique-tusselgro-latitude-box : r ≡ boxOf mostLatitude angle blanks minus → r′ ≡ boxOf mostLatitude angle blanks minus → r ≡ r′
+    unique-tusselgro-latitude-box = one-value r r′ (boxOf mostLatitude angle blanks minus)
 
-  pub unique-tusselgro-longitude-box : (r r′ : PageBox) → r ≡ boxOf mostLongitude angle blanks → r′ ≡ boxOf mostLongitude angle blanks → r ≡ r′
-  unique-tusselgro-longitude-box r r′ = one-value r r′ (boxOf mostLongitude angle blanks)
+    pub unique-tusselgro-longitude-box : r ≡ boxOf mostLongitude angle blanks minus → r′ ≡ boxOf mostLongitude angle blanks minus → r ≡ r′
+    unique-tusselgro-longitude-box = one-value r r′ (boxOf mostLongitude angle blanks minus)

@@ -273,18 +273,19 @@ pub extern "C" fn tusselgro_longitude_bounds(longitude: i32, blanks: u8) -> Boun
     position::longitude_bounds(Longitude(longitude), blanks)
 }
 
-// The box for the page, in half hundredths of a minute, of a latitude with such blanks; or 15 and 0, 0.
+// The box for the page, in half hundredths of a minute, of a latitude with such blanks and the letter S where south, else N; or 15
+// and 0, 0, also for a letter that contradicts the angle.
 #[no_mangle]
-pub extern "C" fn tusselgro_latitude_box(latitude: i32, blanks: u8) -> PageBox
-    ensures { λ r. ⌜ r ≡ boxOf mostLatitude latitude blanks ⌝ }
+pub extern "C" fn tusselgro_latitude_box(latitude: i32, blanks: u8, south: bool) -> PageBox
+    ensures { λ r. ⌜ r ≡ boxOf mostLatitude latitude blanks south ⌝ }
 {
-    position::latitude_box(Latitude(latitude), blanks)
+    position::latitude_box(Latitude(latitude), blanks, south)
 }
 
-// The same of a longitude.
+// The same of a longitude, with the letter W where west, else E.
 #[no_mangle]
-pub extern "C" fn tusselgro_longitude_box(longitude: i32, blanks: u8) -> PageBox
-    ensures { λ r. ⌜ r ≡ boxOf mostLongitude longitude blanks ⌝ }
+pub extern "C" fn tusselgro_longitude_box(longitude: i32, blanks: u8, west: bool) -> PageBox
+    ensures { λ r. ⌜ r ≡ boxOf mostLongitude longitude blanks west ⌝ }
 {
-    position::longitude_box(Longitude(longitude), blanks)
+    position::longitude_box(Longitude(longitude), blanks, west)
 }

@@ -12,6 +12,7 @@ use lib.IntN.{pos}
 use lib.ListN.{length}
 use borrow.Author.Tests.{le-leb, lt-ltb}
 use Rattle.numbers.specs.Sign.{signedOf, isMinus}
+use Rattle.numbers.proofs.Sign.{on-own}
 use Rattle.mic_e.specs.Turn.{lessIf}
 use Rattle.mic_e.specs.Motion.{knots, degrees, readMotion}
 use Rattle.mic_e.specs.Longitude.{offsetOf, wrapped, sizeOf, readLongitude}
@@ -24,7 +25,7 @@ use Rattle.fields.specs.Lists.{isMotion, isLongitude, sameAngle, motionF
 use Rattle.fields.specs.Search.{hits, fieldsOf, thirdAt}
 use Rattle.fields.specs.declared.Target.the-variants.{Moving, Lying}
 use Rattle.fields.proofs.Hits.{motion-hit, courseLeft, course-left, longitude-hit, size-left}
-use Rattle.fields.proofs.Sides.{east-side, on-side}
+use Rattle.fields.proofs.Sides.{on-side}
 use Rattle.fields.proofs.Skip.{skipRow, skipped}
 
 -- ---- motion: first bytes that no speed of s knots has, left out
@@ -89,7 +90,7 @@ quick-east : (m : ℕ) (hundred : Bool)
     → longitudeFields hundred false (pos m) ≡ each 256 (skipRow (hits (Lying m hundred)) (nearRow m hundred) (λ a b. m - sizeOf (offsetOf hundred) a b 28))
 unfolding isMinus
 quick-east m hundred =
-    on-side hundred false (pos m) (east-side m)
+    on-side hundred false (pos m) (on-own (pos m))
     ∙ skipped (hits (Lying m hundred)) (nearRow m hundred) (λ a b. m - sizeOf (offsetOf hundred) a b 28)
     (λ a b c k l q. near-row m hundred a b c k l (longitude-hit m hundred a b c q))
     (λ a b c l q. size-left m (offsetOf hundred) a b c (longitude-hit m hundred a b c q))

@@ -1,17 +1,20 @@
 -- What the two lists are: every field that reads as the target, in strictly ascending order, each once, the writer's among
 -- them; and the lists that document 01 gives.
 -- Assumes nothing.
-use mathlib.Core.Path.{_≡_}
-use mathlib.Core.Bool.{Bool}
-use mathlib.Core.List.{List·Memᴰ}
+use mathlib.Core.Path.{_≡_, refl, sym, _∙_}
+use mathlib.Core.Bool.{Bool, true, false}
+use mathlib.Core.List.{List, List·Memᴰ}
 use mathlib.Core.Logic.{⊎-elim}
 use Prim.Native.Nat.{ℕ, _≤_, _<_}
 use native.Mathlib.Omega.{arith}
 use lib.ListN.{length}
-use lib.IntN.{ℤ, natAbs}
+use lib.IntN.{ℤ, pos, natAbs}
+use borrow.Author.Tests.{le-ltb}
+use Rattle.buffer.specs.Wrote.{ends, doneBy}
+use Rattle.lonlat.specs.Longitude.{longitudeRefusal}
 use Rattle.laws.proofs.Tests.{bool-cases}
 use Rattle.lonlat.specs.Angle.{mostLongitude}
-use Rattle.numbers.specs.Sign.{isMinus}
+use Rattle.numbers.specs.Sign.{isMinus, isOn}
 use Rattle.mic_e.specs.Motion.{mostSpeed, mostCourse, readMotion, motionField}
 use Rattle.mic_e.specs.Longitude.{readLongitude, hundredOf, longitudeField}
 use Rattle.mic_e.specs.declared.Field.{Field}
@@ -20,11 +23,12 @@ use Rattle.mic_e.specs.declared.LongitudeField.the-variants.{Read as Longitude-
 use Rattle.mic_e.proofs.MotionFacts.{Bytes, motion-bytes}
 use Rattle.mic_e.proofs.LongitudeFacts.{longitude-bytes}
 use Rattle.mic_e.proofs.Theorems.{motion-reads-back, longitude-reads-back}
-use Rattle.fields.specs.Lists.{isMotion, isLongitude, motionFields, longitudeFields}
-use Rattle.fields.specs.Search.{hits, sameSide}
+use Rattle.fields.specs.Lists.{listed, isMotion, isLongitude, motionFields, longitudeFields}
+use Rattle.fields.specs.Search.{hits}
 use Rattle.fields.specs.declared.Target.the-variants.{Moving}
 use Rattle.fields.proofs.MotionMost.{motion-few}
 use Rattle.fields.proofs.LongitudeMost.{longitude-fewest}
+use Rattle.fields.proofs.Answers.{empty-list}
 use Rattle.fields.proofs.Sides.{on-side, off-side}
 use Rattle.fields.proofs.Hits.{motion-reads, reads-motion, is-longitude, longitude-is}
 use Rattle.fields.proofs.Order.{keep, everyField, kept, member-passes, passes-member, Within, fields-ascend}
@@ -89,6 +93,20 @@ pub longitude-written-listed : (z : ℤ) → natAbs z < mostLongitude → List·
 longitude-written-listed z h =
     longitude-reads-listed (hundredOf z) (isMinus z) z (longitudeField (natAbs z)) (longitude-bytes (natAbs z) h) (longitude-reads-back z h)
 
+-- ---- the other side
+
+module _ (hundred west : Bool) (z : ℤ) (near : natAbs z ≤ mostLongitude) (other : isOn west z ≡ false) where
+  -- document 02, R-1: "a list target on the other side than its given direction is in range, and its list is empty, count 0": it fits
+  -- every buffer, one without a byte too, and changes none
+  pub other-side-is-empty : (out : List ℕ) → listed (longitudeRefusal z) (longitudeFields hundred west z) out ≡ ends (doneBy 0) out
+  unfolding longitudeRefusal
+  other-side-is-empty out = sym (empty-list (longitudeRefusal z) (longitudeFields hundred west z) out (doneBy 0) (rw (le-ltb mostLongitude (natAbs z) near)) (off-side hundred west z other) refl)
+
+-- 0 is on both sides, and lists the same fields for both
+pub zero-either-side : (hundred : Bool) → longitudeFields hundred true (pos 0) ≡ longitudeFields hundred false (pos 0)
+unfolding isOn
+zero-either-side hundred = on-side hundred true (pos 0) refl ∙ sym (on-side hundred false (pos 0) refl)
+
 -- ---- no list of motions holds more than 36 fields, and none of longitudes more than 24
 
 pub motion-at-most : (s t : ℕ) → length (motionFields s t) ≤ 36
@@ -100,4 +118,4 @@ longitude-at-most hundred west z =
     ⊎-elim
     (λ e. rw (on-side hundred west z e) (longitude-fewest (natAbs z) hundred))
     (λ e. rw (off-side hundred west z e) (omega arith))
-    (bool-cases (sameSide (isMinus z) west (natAbs z)))
+    (bool-cases (isOn west z))

@@ -2,7 +2,7 @@
 -- known of the second and third bytes once the first is.
 -- Assumes nothing.
 use mathlib.Core.Path.{_≡_}
-use mathlib.Core.Bool.{Bool, true, false, cond, not}
+use mathlib.Core.Bool.{Bool, false, cond}
 use mathlib.Core.List.{List, [], _∷_}
 use Prim.Native.Nat.{ℕ, _+_, _*_, _≤_, _<_}
 use lib.Dec.{eqb, ltb}
@@ -59,7 +59,3 @@ pub record Spans (test : ℕ → ℕ → ℕ → Bool) (a : ℕ) (r : Span) : Ty
   pub most : r .to ≤ 256
   pub below : (b : ℕ) → b < r .from → cell test a b ≡ []
   pub above : (b : ℕ) → r .to ≤ b → b < 256 → cell test a b ≡ []
-
--- the sides are one, or the size is 0
-unfoldable pub sameSide : Bool → Bool → ℕ → Bool
-sameSide minus west size = cond (eqb size 0) true (cond minus west (not west))

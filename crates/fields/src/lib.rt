@@ -9,7 +9,7 @@ ghost use Rattle.buffer.specs.Filled.{filled, added};
 ghost use Rattle.lonlat.specs.Longitude.{longitudeRefusal};
 ghost use Rattle.fields.specs.Each.{cell, row, allFields, flat};
 ghost use Rattle.fields.specs.Lists.{listed, motionFields, motionRefusal, longitudeFields};
-ghost use Rattle.fields.specs.Search.{hits, fieldsOf, thirdAt, baseOf, tenFrom, Spans, sameSide};
+ghost use Rattle.fields.specs.Search.{hits, fieldsOf, thirdAt, baseOf, tenFrom, Spans};
 use lonlat::Longitude;
 use mic_e::Course;
 use mic_e::LongitudeField;
@@ -271,17 +271,8 @@ pub fn list_motion(speed: Speed, course: Course, out: &mut [u8]) -> buffer::Answ
     list(Target::Moving(s, c), out)
 }
 
-// Whether a size on one side is an angle on the other: the sides are one, or the size is 0.
-fn same_side(minus: bool, west: bool, size: u32) -> bool
-    ensures { λ r. ⌜ r ≡ sameSide minus west size ⌝ }
-{
-    if size == 0 {
-        return true;
-    }
-    if minus { west } else { !west }
-}
-
-// All the fields that read as that longitude under the offset and the side, in ascending order; or 15 or 16.
+// All the fields that read as that longitude under the offset and the side, in ascending order; or 15 or 16. A longitude that is not
+// on that side has none, and 0 is on both.
 pub fn list_longitude(
     target: Longitude,
     hundred: bool,
@@ -293,11 +284,10 @@ pub fn list_longitude(
     let angle = target.0;
     let sides = numbers::parts(angle);
     let size = sides.size;
-    let minus = sides.minus;
     if 1080000 < size {
         return buffer::refused(15);
     }
-    if same_side(minus, west, size) {
+    if numbers::is_on(west, angle) {
         return list(Target::Lying(size, hundred), out);
     }
     buffer::done(0)

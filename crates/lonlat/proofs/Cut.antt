@@ -1,4 +1,5 @@
--- The digits of a size, the last of them taken as 0, say the size cut to the width that is left, and minutes below 60.
+-- Digits whose last are taken as 0 say a multiple of the width that is left; those of a size say the size cut to it, and minutes
+-- below 60.
 -- Assumes nothing.
 use mathlib.Core.Path.{_≡_, sym, ap, _∙_}
 use mathlib.Core.Bool.{false}
@@ -109,6 +110,24 @@ unfolding lastAs
 last-behind b n p t few =
     let e : length (p ++ t) - n ≡ length p + (length t - n) = omega (arith, length-append p t) in
     rw (e, take-append-add p t (length t - n)) (append-assoc p (take (length t - n) t) (replicate n b))
+
+-- the last n of six places or more taken as 0 leave a multiple of their width
+module _ (p : List ℕ) (x a b e f : ℕ) where
+  abbrev last : List ℕ
+  last = x ∷ a ∷ b ∷ e ∷ f ∷ []
+
+  pub whole-width : (n : ℕ) → n ≤ 5 → valueOf (lastAs digit0 n (p ++ last)) % widthOf n ≡ 0
+  unfolding lastAs widthOf
+  whole-width n few =
+      ap (λ (t : List ℕ). valueOf t % widthOf n) (last-behind digit0 n p last few)
+      ∙ up-to-five (λ n. valueOf (p ++ lastAs digit0 n last) % widthOf n ≡ 0)
+      (omega arith)
+      (rw (value-five p x a b e digit0) (omega arith))
+      (rw (value-five p x a b digit0 digit0) (omega arith))
+      (rw (value-five p x a digit0 digit0 digit0) (omega arith))
+      (rw (value-five p x digit0 digit0 digit0 digit0) (omega arith))
+      (rw (value-five p digit0 digit0 digit0 digit0 digit0) (omega arith))
+      n few
 
 -- ---- the places of a size, more than one for the degrees
 

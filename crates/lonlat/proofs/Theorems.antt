@@ -1,11 +1,11 @@
 -- What is read is in range and on the side that was read, what is written reads back, and document 01's P12.
 -- Assumes nothing.
-use mathlib.Core.Path.{_≡_, refl, sym, ap, _∙_}
+use mathlib.Core.Path.{_≡_, refl, ap, _∙_}
 use mathlib.Core.Bool.{Bool, true, false, cond, _&&_}
 use mathlib.Core.List.{List, [], _∷_}
 use Prim.Native.Nat.{ℕ, _-_, _%_, _≤_}
 use native.Mathlib.Omega.{arith}
-use borrow.Author.Tests.{leb-true, le-leb, le-ltb}
+use borrow.Author.Tests.{leb-true, le-leb, le-ltb, ltb-false}
 use lib.Dec.{eqb, leb, ltb}
 use lib.IntN.{ℤ, pos, natAbs}
 use lib.ListN.{length, getD}
@@ -13,7 +13,7 @@ use Rattle.laws.specs.Bytes.{digit0, digit9, point, isDigit, within, capitalN, 
 use Rattle.laws.specs.Lists.{indexOf, every}
 use Rattle.laws.proofs.Tests.{and-second, picked, guard, passed}
 use Rattle.lonlat.specs.Angle.{mostLatitude, mostLongitude, widthOf, cutTo, cutAngle}
-use Rattle.numbers.specs.Sign.{signedOf, isMinus}
+use Rattle.numbers.specs.Sign.{signedOf, isMinus, isOn}
 use Rattle.lonlat.specs.declared.AngleRead.{AngleRead}
 use Rattle.lonlat.specs.declared.AngleRead.the-variants.{Of, Bad}
 use Rattle.lonlat.specs.declared.Latitude.{Latitude}
@@ -24,9 +24,9 @@ use Rattle.lonlat.specs.Digits.{lastAs, degreesOf, minutesOf, hundredths
 use Rattle.numbers.specs.Numbers.{numberAfter, numberOf}
 use Rattle.lonlat.specs.Latitude.{blanksIn, restBlank, countedDigits, isNorthOrSouth, latitudeWith, latitudeIn, latitudePlaces, readLatitude, blankedPlaces, northOrSouth, latitudeText}
 use Rattle.lonlat.specs.Longitude.{isEastOrWest, longitudeWith, longitudeIn, longitudePlaces, readLongitude, eastOrWest, longitudeText}
-use Rattle.numbers.proofs.Sign.{rejoined, size-signed, side-signed}
+use Rattle.numbers.proofs.Sign.{rejoined, size-signed, on-signed, on-one}
 use Rattle.lonlat.proofs.Texts.{every-last, places-are, six-places, seven-places, blanked-six, blanked-latitude, latitude-of-text, longitude-of-text}
-use Rattle.lonlat.proofs.Cut.{latitude-cut, longitude-cut, places-minutes}
+use Rattle.lonlat.proofs.Cut.{whole-width, latitude-cut, longitude-cut, places-minutes}
 
 -- ---- P12
 
@@ -54,17 +54,18 @@ fits-most : (most : ℕ) (t : List ℕ) → fits most t ≡ true → valueOf t �
 unfolding fits
 fits-most most t p = leb-true (valueOf t) most (and-second (every isDigit t) (leb (valueOf t) most) p)
 
--- an angle that was read with a side: near enough, and the side is its own where it is not 0
-pub record AngleFound (most : ℕ) (minus : Bool) (angle : ℤ) : Type 0 where
+-- an angle that was read with a side: near enough, on that side, and a multiple of a width that the digits' value is one of
+pub record AngleFound (most : ℕ) (minus : Bool) (width : ℕ) (angle : ℤ) : Type 0 where
   pub near : natAbs angle ≤ most
-  pub side : (angle ≡ pos 0 → ⊥) → minus ≡ isMinus angle
+  pub side : isOn minus angle ≡ true
+  pub whole : natAbs angle % width ≡ 0
 
-angle-found : (most : ℕ) (minus : Bool) (t : List ℕ) (z : ℤ) (sixty : Bool) → angleIn most minus t ≡ Of z sixty → AngleFound most minus z
+angle-found : (most : ℕ) (minus : Bool) (width : ℕ) (t : List ℕ) (z : ℤ) (sixty : Bool) → valueOf t % width ≡ 0 → angleIn most minus t ≡ Of z sixty → AngleFound most minus width z
 unfolding angleIn
-angle-found most minus t z sixty e =
+angle-found most minus width t z sixty w e =
     let g = passed (fits most t) (Of (signedOf minus (valueOf t)) (isSixty t)) Bad (Of z sixty) bad e in
-    rw (← same (g .1))
-    (record { near = rw (size-signed minus (valueOf t)) (fits-most most t (g .0)); side = λ n. sym (side-signed minus (valueOf t) n) })
+    let size = size-signed minus (valueOf t) in
+    rw (← same (g .1)) (record { near = rw size (fits-most most t (g .0)); side = on-signed minus (valueOf t); whole = rw size w })
   where
     bad : Bad ≡ Of z sixty → ⊥
     bad q = let n : _≡_ {A = ℕ} 0 1 = cc in omega arith
@@ -73,34 +74,33 @@ angle-found most minus t z sixty e =
     same q = cc
 
 pub record LatitudeFound (latitude : Latitude) (blanks : ℕ) (south : Bool) : Type 0 where
-  pub angle : AngleFound mostLatitude south (latitude .0)
+  pub angle : AngleFound mostLatitude south (widthOf blanks) (latitude .0)
   pub few : blanks ≤ 5
 
 module _ (latitude : Latitude) (blanks : ℕ) (south sixty : Bool) where
   no-latitude : lat.Refused ≡ lat.Read latitude blanks south sixty → ⊥
   no-latitude q = let k : _≡_ {A = ℕ} 0 1 = cc in omega arith
 
-  latitude-with : (n : ℕ) (x : Bool) (a : AngleRead) → ((z : ℤ) (y : Bool) → a ≡ Of z y → AngleFound mostLatitude x z) → n ≤ 5
+  latitude-with : (n : ℕ) (x : Bool) (a : AngleRead) → ((z : ℤ) (y : Bool) → a ≡ Of z y → AngleFound mostLatitude x (widthOf n) z) → n ≤ 5
       → latitudeWith n x a ≡ lat.Read latitude blanks south sixty → LatitudeFound latitude blanks south
   unfolding latitudeWith
   latitude-with n x (Of z y) m h q =
       let l : record { 0 = z } ≡ latitude = cc in
       let b : n ≡ blanks = cc in
       let w : x ≡ south = cc in
-      record { angle = rw (← l, ← w) (m z y refl); few = rw (← b) h }
+      record { angle = rw (← l, ← w, ← b) (m z y refl); few = rw (← b) h }
   latitude-with n x Bad m h q = absurd (no-latitude q)
 
-  pub latitude-found : (t : List ℕ) (x : ℕ) → latitudeIn t x ≡ lat.Read latitude blanks south sixty → LatitudeFound latitude blanks south
-  unfolding latitudeIn
-  latitude-found t x e =
-      let g = passed (isNorthOrSouth x && restBlank t && leb (blanksIn t) 5) _ lat.Refused _ no-latitude e in
-      latitude-with (blanksIn t) (eqb x capitalS) _ (λ z. angle-found mostLatitude (eqb x capitalS) (countedDigits t) z)
-      (leb-true (blanksIn t) 5 (and-second (isNorthOrSouth x && restBlank t) (leb (blanksIn t) 5) (g .0)))
-      (g .1)
-
   pub read-latitude-found : (s : List ℕ) → readLatitude s ≡ lat.Read latitude blanks south sixty → LatitudeFound latitude blanks south
-  unfolding readLatitude
-  read-latitude-found s e = latitude-found (latitudePlaces s) (getD s 7 0) (passed (eqb (length s) 8 && eqb (getD s 4 0) point) _ lat.Refused _ no-latitude e .1)
+  unfolding readLatitude latitudeIn countedDigits
+  read-latitude-found s e =
+      let t = latitudePlaces s in
+      let minus = eqb (getD s 7 0) capitalS in
+      let g = passed (eqb (length s) 8 && eqb (getD s 4 0) point) _ lat.Refused _ no-latitude e in
+      let k = passed (isNorthOrSouth (getD s 7 0) && restBlank t && leb (blanksIn t) 5) _ lat.Refused _ no-latitude (g .1) in
+      let few = leb-true (blanksIn t) 5 (and-second (isNorthOrSouth (getD s 7 0) && restBlank t) (leb (blanksIn t) 5) (k .0)) in
+      let whole = whole-width (getD s 0 0 ∷ []) (getD s 1 0) (getD s 2 0) (getD s 3 0) (getD s 5 0) (getD s 6 0) (blanksIn t) few in
+      latitude-with (blanksIn t) minus _ (λ z sixty. angle-found mostLatitude minus (widthOf (blanksIn t)) (countedDigits t) z sixty whole) few (k .1)
 
   latitude-side : (n : ℕ) (x : Bool) (a : AngleRead) → latitudeWith n x a ≡ lat.Read latitude blanks south sixty → south ≡ x
   unfolding latitudeWith
@@ -117,7 +117,7 @@ module _ (latitude : Latitude) (blanks : ℕ) (south sixty : Bool) where
 
   -- and it is the latitude's own, where that is not 0
   pub latitude-side-is-the-angle's : (s : List ℕ) → readLatitude s ≡ lat.Read latitude blanks south sixty → (latitude .0 ≡ pos 0 → ⊥) → south ≡ isMinus (latitude .0)
-  latitude-side-is-the-angle's s e = read-latitude-found s e .angle .side
+  latitude-side-is-the-angle's s e = on-one south (latitude .0) (read-latitude-found s e .angle .side)
 
 module _ (longitude : Longitude) (west sixty : Bool) where
   no-longitude : lon.Refused ≡ lon.Read longitude west sixty → ⊥
@@ -126,25 +126,25 @@ module _ (longitude : Longitude) (west sixty : Bool) where
   past-five : lon.OutOfRange ≡ lon.Read longitude west sixty → ⊥
   past-five q = let k : _≡_ {A = ℕ} 0 1 = cc in omega arith
 
-  longitude-with : (x : Bool) (a : AngleRead) → ((z : ℤ) (y : Bool) → a ≡ Of z y → AngleFound mostLongitude x z)
-      → longitudeWith x a ≡ lon.Read longitude west sixty → AngleFound mostLongitude west (longitude .0)
+  longitude-with : (width : ℕ) (x : Bool) (a : AngleRead) → ((z : ℤ) (y : Bool) → a ≡ Of z y → AngleFound mostLongitude x width z)
+      → longitudeWith x a ≡ lon.Read longitude west sixty → AngleFound mostLongitude west width (longitude .0)
   unfolding longitudeWith
-  longitude-with x (Of z y) m q =
+  longitude-with width x (Of z y) m q =
       let l : record { 0 = z } ≡ longitude = cc in
       let w : x ≡ west = cc in
       rw (← l, ← w) (m z y refl)
-  longitude-with x Bad m q = absurd (no-longitude q)
+  longitude-with width x Bad m q = absurd (no-longitude q)
 
-  pub longitude-found : (t : List ℕ) (x : ℕ) → longitudeIn t x ≡ lon.Read longitude west sixty → AngleFound mostLongitude west (longitude .0)
-  unfolding longitudeIn
-  longitude-found t x e =
-      longitude-with (eqb x capitalW) _ (λ z. angle-found mostLongitude (eqb x capitalW) t z) (passed (isEastOrWest x) _ lon.Refused _ no-longitude e .1)
-
-  pub read-longitude-found : (s : List ℕ) (blanks : ℕ) → readLongitude s blanks ≡ lon.Read longitude west sixty → AngleFound mostLongitude west (longitude .0)
-  unfolding readLongitude
+  pub read-longitude-found : (s : List ℕ) (blanks : ℕ) → readLongitude s blanks ≡ lon.Read longitude west sixty → AngleFound mostLongitude west (widthOf blanks) (longitude .0)
+  unfolding readLongitude longitudeIn
   read-longitude-found s blanks e =
+      let t = lastAs digit0 blanks (longitudePlaces s) in
+      let minus = eqb (getD s 8 0) capitalW in
       let g = guard (ltb 5 blanks) lon.OutOfRange _ _ past-five e in
-      longitude-found (lastAs digit0 blanks (longitudePlaces s)) (getD s 8 0) (passed (eqb (length s) 9 && eqb (getD s 5 0) point) _ lon.Refused _ no-longitude (g .1) .1)
+      let k = passed (eqb (length s) 9 && eqb (getD s 5 0) point) _ lon.Refused _ no-longitude (g .1) in
+      let whole = whole-width (getD s 0 0 ∷ getD s 1 0 ∷ []) (getD s 2 0) (getD s 3 0) (getD s 4 0) (getD s 6 0) (getD s 7 0) blanks (ltb-false 5 blanks (g .0)) in
+      longitude-with (widthOf blanks) minus _ (λ z sixty. angle-found mostLongitude minus (widthOf blanks) t z sixty whole)
+      (passed (isEastOrWest (getD s 8 0)) _ lon.Refused _ no-longitude (k .1) .1)
 
   longitude-side : (x : Bool) (a : AngleRead) → longitudeWith x a ≡ lon.Read longitude west sixty → west ≡ x
   unfolding longitudeWith
@@ -159,7 +159,7 @@ module _ (longitude : Longitude) (west sixty : Bool) where
       longitude-side (eqb (getD s 8 0) capitalW) _ (passed (isEastOrWest (getD s 8 0)) _ lon.Refused _ no-longitude (k .1) .1)
 
   pub longitude-side-is-the-angle's : (s : List ℕ) (blanks : ℕ) → readLongitude s blanks ≡ lon.Read longitude west sixty → (longitude .0 ≡ pos 0 → ⊥) → west ≡ isMinus (longitude .0)
-  longitude-side-is-the-angle's s blanks e = read-longitude-found s blanks e .side
+  longitude-side-is-the-angle's s blanks e = on-one west (longitude .0) (read-longitude-found s blanks e .side)
 
 -- up to five blanks are never out of range
 pub longitude-few : (s : List ℕ) (blanks : ℕ) → blanks ≤ 5 → readLongitude s blanks ≡ lon.OutOfRange → ⊥

@@ -1,4 +1,4 @@
--- Document 01's cases P1 to P9, by computation.
+-- Document 01's cases P1 to P9, and a zero in the south, by computation.
 -- Assumes nothing.
 use mathlib.Core.Path.{_≡_, refl}
 use mathlib.Core.Bool.{true, false}
@@ -26,7 +26,7 @@ use Rattle.mic_e.specs.declared.DestinationRead.the-variants.{Read, Refu
 abbrev field : ℕ → ℕ → ℕ → Field
 field a b c = record { first = a; second = b; third = c }
 
--- `S32U6T`, `LLLLLL` and `4LLLLL`
+-- `S32U6T`, `LLLLLL`, `4LLLLL` and `0LLLLL`
 abbrev S32U6T : List ℕ
 S32U6T = capitalS ∷ 0x33 ∷ 0x32 ∷ capitalU ∷ 0x36 ∷ capitalT ∷ []
 
@@ -47,6 +47,8 @@ pub record Cases : Type 0 where
   pub p9-all-blank : readDestination (capitalL ∷ LLLLL) ≡ Refused
   pub p9-five-blank : readDestination (0x34 ∷ LLLLL)
       ≡ Read (record { latitude = record { 0 = negsuc 239999 }; message = Emergency; blanks = 5; south = true; hundred = false; west = false; sixty = false })
+  pub zero-south : readDestination (0x30 ∷ LLLLL)
+      ≡ Read (record { latitude = record { 0 = pos 0 }; message = Emergency; blanks = 5; south = true; hundred = false; west = false; sixty = false })
 
 pub cases : Cases
 unfolding lessIf readMotion knots degrees motionField tensOf readLongitude sizeOf wrapped offsetOf longitudeField degreesByte minutesByte hundredFor hundredOf signedOf readDestination areCharacters isCharacter isLast within textIn digitOf bitOf destinationWith messageOf messageBy isOne isCustom isStandard readLatitude latitudeIn latitudeWith countedDigits restBlank blanksIn angleIn fits valueOf isSixty degreesOf minutesOf hundredthsOf numberOf numberAfter lastAs every indexOf
@@ -63,4 +65,5 @@ cases =
       p8 = refl;
       p9-all-blank = refl;
       p9-five-blank = refl;
+      zero-south = refl;
     }

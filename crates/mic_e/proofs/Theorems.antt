@@ -1,8 +1,8 @@
 -- What is written reads back: speed and course, longitude under the writer's offset and side, the information, and the
 -- whole Mic-E part of a record. And what is read is in range, and on the side that was read.
 -- Assumes nothing.
-use mathlib.Core.Path.{_≡_, refl, sym, ap, _∙_}
-use mathlib.Core.Bool.{Bool, false, not}
+use mathlib.Core.Path.{_≡_, refl, ap, _∙_}
+use mathlib.Core.Bool.{Bool, true, false, not}
 use mathlib.Core.List.{List, _++_}
 use Prim.Native.Nat.{ℕ, _/_, _%_, _≤_, _<_}
 use native.Mathlib.Omega.{arith}
@@ -13,14 +13,14 @@ use lib.ListN.{length, getD, drop}
 use Rattle.laws.specs.Bytes.{capitalN, capitalS}
 use Rattle.laws.proofs.Tests.{guard, passed, picked}
 use Rattle.lonlat.specs.Angle.{mostLatitude, mostLongitude, widthOf}
-use Rattle.numbers.specs.Sign.{isMinus}
+use Rattle.numbers.specs.Sign.{isMinus, isOn}
 use Rattle.lonlat.specs.Latitude.{latitudeRefusal, readLatitude}
 use Rattle.lonlat.specs.declared.LatitudeRead.{LatitudeRead}
 use Rattle.lonlat.specs.declared.LatitudeRead.the-variants.{Read as Latitude-read, Refused as Latitude-refused}
 use Rattle.lonlat.specs.declared.Latitude.{Latitude}
 use Rattle.lonlat.specs.declared.Longitude.{Longitude}
-use Rattle.numbers.proofs.Sign.{rejoined, size-signed, side-signed}
-use Rattle.lonlat.proofs.Theorems.{AngleFound, LatitudeFound, read-latitude-found, latitude-side-is-the-letter's}
+use Rattle.numbers.proofs.Sign.{rejoined, size-signed, on-signed, on-one}
+use Rattle.lonlat.proofs.Theorems.{LatitudeFound, read-latitude-found, latitude-side-is-the-letter's}
 use Rattle.mic_e.specs.Character.{isFlagged}
 use Rattle.mic_e.specs.Motion.{mostSpeed, mostCourse, readMotion, motionField}
 use Rattle.mic_e.specs.Longitude.{readLongitude, longitudeOut, hundredOf, hundredFor, longitudeField}
@@ -125,8 +125,9 @@ module _ (latitude : ℤ) (blanks : ℕ) (message : Message) (i : Information) (
 
 -- ---- what is read is in range, and on the side that was read
 
-pub record InformationFound (i : Information) : Type 0 where
+pub record InformationFound (west : Bool) (i : Information) : Type 0 where
   pub near : natAbs (i .longitude .0) ≤ mostLongitude
+  pub side : isOn west (i .longitude .0) ≡ true
   pub slow : i .speed .0 ≤ mostSpeed
   pub turned : i .course .0 ≤ mostCourse
 
@@ -134,21 +135,20 @@ no-information : (i : Information) → Information-refused ≡ Information-read 
 no-information i e = let z : _≡_ {A = ℕ} 0 1 = cc in omega arith
 
 informed : (west : Bool) (i : Information) (code table : ℕ) (l : LongitudeField) (m : Motion)
-    → ((x : Longitude) → l ≡ Longitude-read x → AngleFound mostLongitude west (x .0))
+    → ((x : Longitude) → l ≡ Longitude-read x → (natAbs (x .0) ≤ mostLongitude) × (isOn west (x .0) ≡ true))
     → ((v : Speed) (d : Course) → m ≡ Motion-read v d → (v .0 ≤ mostSpeed) × (d .0 ≤ mostCourse))
-    → informationOf code table l m ≡ Information-read i → InformationFound i × ((i .longitude .0 ≡ pos 0 → ⊥) → west ≡ isMinus (i .longitude .0))
+    → informationOf code table l m ≡ Information-read i → InformationFound west i
 unfolding informationOf
 informed west i code table (Longitude-read x) (Motion-read v d) found range e =
     let r : record { longitude = x; speed = v; course = d; code = code; table = table } ≡ i = cc in
-    rw (← r) (record { near = found x refl .near; slow = range v d refl .0; turned = range v d refl .1 }, found x refl .side)
+    rw (← r) (record { near = found x refl .0; side = found x refl .1; slow = range v d refl .0; turned = range v d refl .1 })
 informed west i code table (Longitude-read x) Motion-refused found range e = absurd (no-information i e)
 informed west i code table Longitude-refused m found range e = absurd (no-information i e)
 
 module _ (s : List ℕ) (hundred west : Bool) (i : Information) where
-  longitude-read : (x : Longitude) → readLongitude hundred west (getD s 0 0) (getD s 1 0) (getD s 2 0) ≡ Longitude-read x → AngleFound mostLongitude west (x .0)
-  longitude-read x e =
-      let h = reads-lies hundred west _ _ _ x e in
-      rw (h .1) (record { near = rw size-signed (h .0 .size-to); side = λ n. sym (side-signed west _ n) })
+  longitude-read : (x : Longitude) → readLongitude hundred west (getD s 0 0) (getD s 1 0) (getD s 2 0) ≡ Longitude-read x
+      → (natAbs (x .0) ≤ mostLongitude) × (isOn west (x .0) ≡ true)
+  longitude-read x e = let h = reads-lies hundred west _ _ _ x e in rw (h .1) (rw size-signed (h .0 .size-to), on-signed west _)
 
   range-read : (v : Speed) (d : Course) → readMotion (getD s 3 0) (getD s 4 0) (getD s 5 0) ≡ Motion-read v d → (v .0 ≤ mostSpeed) × (d .0 ≤ mostCourse)
   range-read v d e = let h = reads-moves _ _ _ v d e in (h .speed-to, h .course-to)
@@ -159,19 +159,16 @@ module _ (s : List ℕ) (hundred west : Bool) (i : Information) where
   unfolding readInformation
   parted e = guard (ltb (length s) 8) Information-refused _ _ (no-information i) e
 
-  told : readInformation s hundred west ≡ Information-read i → InformationFound i × ((i .longitude .0 ≡ pos 0 → ⊥) → west ≡ isMinus (i .longitude .0))
-  told e = informed west i (getD s 6 0) (getD s 7 0) _ _ longitude-read range-read (parted e .1)
-
   -- it has its 8 bytes
   pub information-long : readInformation s hundred west ≡ Information-read i → 8 ≤ length s
   information-long e = ltb-false (length s) 8 (parted e .0)
 
-  pub read-information-found : readInformation s hundred west ≡ Information-read i → InformationFound i
-  read-information-found e = told e .0
+  pub read-information-found : readInformation s hundred west ≡ Information-read i → InformationFound west i
+  read-information-found e = informed west i (getD s 6 0) (getD s 7 0) _ _ longitude-read range-read (parted e .1)
 
   -- the side that the destination gave is the longitude's own, where it is not 0
   pub information-side-is-the-angle's : readInformation s hundred west ≡ Information-read i → (i .longitude .0 ≡ pos 0 → ⊥) → west ≡ isMinus (i .longitude .0)
-  information-side-is-the-angle's e = told e .1
+  information-side-is-the-angle's e = on-one west (i .longitude .0) (read-information-found e .side)
 
 -- a call that is not six characters is no destination
 pub not-six : (s : List ℕ) → (length s ≡ 6 → ⊥) → readDestination s ≡ Destination-refused
@@ -212,15 +209,13 @@ module _ (call : List ℕ) (d : Destination) (read : readDestination call ≡ De
       let g = passed (eqb (length call) 6) _ Destination-refused _ (no-destination d) read in
       passed (areCharacters call) _ Destination-refused _ (no-destination d) (g .1) .1
 
-  found : LatitudeFound (d .latitude) (d .blanks) (d .south)
-  found = sited LatitudeFound call d (readLatitude (textIn call)) (λ l b south sixty. read-latitude-found l b south sixty (textIn call)) carried
-
-  pub read-destination-found : (natAbs (d .latitude .0) ≤ mostLatitude) × (d .blanks ≤ 5)
-  read-destination-found = (found .angle .near, found .few)
+  -- in range, on the side that was read, and a multiple of the width that the blanks leave
+  pub read-destination-found : LatitudeFound (d .latitude) (d .blanks) (d .south)
+  read-destination-found = sited LatitudeFound call d (readLatitude (textIn call)) (λ l b south sixty. read-latitude-found l b south sixty (textIn call)) carried
 
   -- the side that was read is the latitude's own, where it is not 0
   pub destination-side-is-the-angle's : (d .latitude .0 ≡ pos 0 → ⊥) → d .south ≡ isMinus (d .latitude .0)
-  destination-side-is-the-angle's = found .angle .side
+  destination-side-is-the-angle's = on-one (d .south) (d .latitude .0) (read-destination-found .angle .side)
 
   -- and it is south exactly where the fourth character is none of P to Z
   pub destination-side-is-the-fourth's : d .south ≡ not (isFlagged (getD call 3 0))

@@ -8,11 +8,11 @@ use native.Mathlib.Omega.{arith}
 use borrow.Author.Tests.{ltb-true, le-leb, lt-leb}
 use lib.Dec.{T}
 use lib.IntN.{ℤ, pos, negsuc, negℤ, natAbs, _-ℤ_, +ℤ-idl}
-use lib.Signed.{ltZ, nonNeg}
+use lib.Signed.{ltZ, leZ, nonNeg}
 use mir.Syntax.{w32, w64}
 use mir.Val.{Fits, SFits, toZ, ofZ}
 use mir.Facts.{toZ-ofZ, toZ-pos, sfits-widen, fits-natAbs}
-use Rattle.numbers.specs.Sign.{signedOf, mostOn, numberOn, isMinus, sidesOf}
+use Rattle.numbers.specs.Sign.{signedOf, mostOn, numberOn, isMinus, isOn, sidesOf}
 use Rattle.numbers.specs.declared.Sides.{Sides}
 use Rattle.numbers.specs.declared.Number.{Number}
 use Rattle.numbers.specs.declared.Number.the-variants.{Is, Bad}
@@ -31,12 +31,36 @@ size-signed false size = refl
 size-signed true zero = refl
 size-signed true (suc n) = refl
 
--- and the side too, but for 0, which is on neither
-pub side-signed : (minus : Bool) (size : ℕ) → (signedOf minus size ≡ pos 0 → ⊥) → isMinus (signedOf minus size) ≡ minus
-unfolding signedOf isMinus
-side-signed false size n = refl
-side-signed true zero n = absurd (n refl)
-side-signed true (suc m) n = refl
+-- the number of a size on a side is on that side
+pub on-signed : (minus : Bool) (size : ℕ) → isOn minus (signedOf minus size) ≡ true
+unfolding isOn signedOf
+on-signed false size = le-leb 0 size (omega arith)
+on-signed true zero = refl
+on-signed true (suc n) = refl
+
+-- its own side is one that a number is on
+pub on-own : (z : ℤ) → isOn (isMinus z) z ≡ true
+unfolding isOn isMinus
+on-own (pos n) = le-leb 0 n (omega arith)
+on-own (negsuc n) = refl
+
+-- and the only one, but for 0, which is on both
+pub on-one : (minus : Bool) (z : ℤ) → isOn minus z ≡ true → (z ≡ pos 0 → ⊥) → minus ≡ isMinus z
+unfolding isOn isMinus
+on-one false (pos n) e h = refl
+on-one true (pos zero) e h = absurd (h refl)
+on-one true (pos (suc n)) e h = absurd (false≢true (sym (lt-leb (suc n) 0 (omega arith)) ∙ e))
+on-one false (negsuc n) e h = absurd (false≢true e)
+on-one true (negsuc n) e h = refl
+
+-- there the side and the size give the number back
+pub on-rejoined : (minus : Bool) (z : ℤ) → isOn minus z ≡ true → signedOf minus (natAbs z) ≡ z
+unfolding isOn signedOf
+on-rejoined false (pos n) e = refl
+on-rejoined true (pos zero) e = refl
+on-rejoined true (pos (suc n)) e = absurd (false≢true (sym (lt-leb (suc n) 0 (omega arith)) ∙ e))
+on-rejoined false (negsuc n) e = absurd (false≢true e)
+on-rejoined true (negsuc n) e = refl
 
 -- what the code has once it has taken an angle apart: z is the angle as it has it
 module _ (angle z : ℤ) (back : z ≡ angle) (p : Sides) (e : p ≡ sidesOf z) where
@@ -135,6 +159,16 @@ pub size-turned : (z : ℤ) → natAbs (negℤ z) ≡ natAbs z
 size-turned (pos zero) = refl
 size-turned (pos (suc n)) = refl
 size-turned (negsuc n) = refl
+
+-- the tests of a side: z is the number as the code has it
+module _ (minus : Bool) (a z : ℤ) (e : z ≡ a) where
+  pub on-minus : minus ≡ true → leZ z (pos 0) ≡ isOn minus a
+  unfolding isOn
+  on-minus h = rw (h, e)
+
+  pub on-plus : minus ≡ false → leZ (pos 0) z ≡ isOn minus a
+  unfolding isOn
+  on-plus h = rw (h, e)
 
 -- what the test against 0 tells
 pub below-zero : (z : ℤ) → ltZ z (pos 0) ≡ true → nonNeg z ≡ false

@@ -11,11 +11,14 @@ use Rattle.buffer.proofs.Unique.{one-filled}
 use Rattle.numbers.specs.declared.Sides.{Sides}
 use Rattle.numbers.specs.declared.Count.{Count}
 use Rattle.numbers.specs.declared.Number.{Number}
-use Rattle.numbers.specs.Sign.{sidesOf, numberOn}
+use Rattle.numbers.specs.Sign.{sidesOf, numberOn, isOn}
 use Rattle.numbers.specs.Numbers.{digits, decimal, readCount, readNumber, hexPair, hexValue}
 
 pub unique-parts : (number : ℤ) (r r′ : Sides) → r ≡ sidesOf number → r′ ≡ sidesOf number → r ≡ r′
 unique-parts number r r′ = one-value r r′ (sidesOf number)
+
+pub unique-is-on : (minus : Bool) (number : ℤ) (r r′ : Bool) → r ≡ isOn minus number → r′ ≡ isOn minus number → r ≡ r′
+unique-is-on minus number r r′ = one-value r r′ (isOn minus number)
 
 pub unique-signed : (minus : Bool) (size : ℕ) (r r′ : Number) → r ≡ numberOn minus size → r′ ≡ numberOn minus size → r ≡ r′
 unique-signed minus size r r′ = one-value r r′ (numberOn minus size)

@@ -5,7 +5,7 @@ use Prim.Native.Nat.{ℕ}
 use lib.Dec.{leb}
 use mathlib.Core.Bool.{Bool, cond, not}
 use lib.IntN.{ℤ, pos, negℤ, natAbs}
-use lib.Signed.{nonNeg}
+use lib.Signed.{nonNeg, leZ}
 use Rattle.numbers.specs.declared.Sides.{Sides}
 use Rattle.numbers.specs.declared.Number.{Number}
 use Rattle.numbers.specs.declared.Number.the-variants.{Is, Bad}
@@ -25,6 +25,10 @@ numberOn minus size = cond (leb size (mostOn minus)) (Is (signedOf minus size)) 
 -- below 0; 0 itself is not
 unfoldable pub isMinus : ℤ → Bool
 isMinus angle = not (nonNeg angle)
+
+-- on a side of 0: below it where minus is said, above it else; 0 itself is on both
+unfoldable pub isOn : Bool → ℤ → Bool
+isOn minus z = cond minus (leZ z (pos 0)) (leZ (pos 0) z)
 
 -- a number taken apart
 unfoldable pub sidesOf : ℤ → Sides

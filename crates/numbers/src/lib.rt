@@ -7,7 +7,7 @@ ghost use lib.ListN.{length, drop};
 ghost use Rattle.laws.specs.Bytes.{isDigit};
 ghost use Rattle.laws.specs.Lists.{every};
 ghost use Rattle.buffer.specs.Filled.{filled, added};
-ghost use Rattle.numbers.specs.Sign.{sidesOf, numberOn};
+ghost use Rattle.numbers.specs.Sign.{sidesOf, numberOn, isOn};
 ghost use Rattle.numbers.specs.Numbers.{digits, decimal, countOf, readCount, onSide, readNumber, hexDigit, hexPair, hexValue};
 
 // ---- a sign
@@ -33,6 +33,16 @@ pub fn parts(angle: i32) -> Sides
         minus: false,
         size: angle as u32,
     }
+}
+
+// Whether a number is on that side of 0; 0 itself is on both.
+pub fn is_on(minus: bool, z: i32) -> bool
+    ensures { λ r. ⌜ r ≡ isOn minus z ⌝ }
+{
+    if minus {
+        return z <= 0;
+    }
+    0 <= z
 }
 
 // A signed number, or that an `i32` does not hold it or that a text is none.

@@ -41,7 +41,7 @@ P11-record =
       header = record { from = made (0x58 ∷ []) []; to = made (0x59 ∷ []) []; path = pathOf P11-hops };
       body = record {
         kind = Position;
-        place = record { latitude = record { 0 = pos 0 }; longitude = record { 0 = pos 0 }; blanks = 0; table = slash; code = dash };
+        place = record { latitude = record { 0 = pos 0 }; longitude = record { 0 = pos 0 }; blanks = 0; table = slash; code = dash; south = false; west = false };
         messaging = false;
         report = noReport;
         comment = record { at = 31; len = 0 };

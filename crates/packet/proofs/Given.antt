@@ -1,5 +1,5 @@
--- What reading a packet gives, refused or not: a blank record at a refusal, a record in range but for two cases, and a comment
--- within the input.
+-- What reading a packet gives, refused or not: a blank record at a refusal, a record in range but for two cases, angles that are the
+-- inner edges of their boxes, and a comment within the input.
 -- Assumes nothing.
 use mathlib.Core.Path.{_≡_, refl}
 use mathlib.Core.Bool.{Bool, true, false, not, cond}
@@ -26,7 +26,7 @@ use Rattle.body.specs.declared.Kind.the-variants.{Unknown, Position, MicE}
 use Rattle.body.specs.declared.BodyRead.{BodyRead}
 use Rattle.body.specs.Body.{noComment, blankBody, readBody}
 use Rattle.body.specs.Range.{exceptedAs, isExcepted}
-use Rattle.body.proofs.Theorems.{read-comment-within, read-range, blank-range}
+use Rattle.body.proofs.Theorems.{read-comment-within, read-range, blank-range, InnerEdges, read-inner-edges, blank-inner-edges}
 use Rattle.packet.specs.declared.Record.{Record}
 use Rattle.packet.specs.declared.PacketRead.{PacketRead}
 use Rattle.packet.specs.Record.{blankRecord, packetRefused}
@@ -67,9 +67,10 @@ kept-blank : (k : Kind) (to : Callsign) → k ≡ MicE → isBlankCall (keptTo k
 unfolding keptTo isBlankCall blankCall made joined padTo zeros
 kept-blank k to e = rw e
 
--- a record that reading gives: its range, and its comment within so many bytes
+-- a record that reading gives: its range, its boxes, and its comment within so many bytes
 pub record Given (size : ℕ) (r : Record) : Type 0 where
   pub range : recordInRange r ≡ not (isExcepted (r .body))
+  pub edges : InnerEdges (r .body)
   pub within : r .body .comment .at + r .body .comment .len ≤ size
 
 blank-body : (size : ℕ) → (not (isExcepted blankBody) ≡ true) × (blankBody .comment .at + blankBody .comment .len ≤ size)
@@ -78,7 +79,12 @@ blank-body size = (refl, omega arith)
 
 blank-given : (size : ℕ) → Given size blankRecord
 unfolding blankRecord recordInRange
-blank-given size = record { range = rw (blank-header-range, blank-range (blankHeader .to), blank-body size .0); within = blank-body size .1 }
+blank-given size =
+    record {
+      range = rw (blank-header-range, blank-range (blankHeader .to), blank-body size .0);
+      edges = blank-inner-edges;
+      within = blank-body size .1;
+    }
 
 module _ (h : HeaderRead) (s : List ℕ) (e : headerInRange (h .header) ≡ true) where
   abbrev b : BodyRead
@@ -96,6 +102,7 @@ module _ (h : HeaderRead) (s : List ℕ) (e : headerInRange (h .header) ≡ true
   made-given =
       record {
         range = rw header-fine (read-range (h .header .to) s (h .body) kept (kept-blank (b .body .kind) (h .header .to)));
+        edges = read-inner-edges (h .header .to) s (h .body);
         within = read-comment-within (h .header .to) s (h .body);
       }
 

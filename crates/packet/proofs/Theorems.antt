@@ -1,4 +1,4 @@
--- The crate's theorems: what is read, and what of it is not written.
+-- The crate's theorems: what is read, the boxes of it, and what of it is not written.
 -- Assumes nothing.
 use mathlib.Core.Path.{_≡_, refl, ap, _∙_}
 use mathlib.Core.Bool.{Bool, true, false, not, cond}
@@ -12,6 +12,7 @@ use Rattle.header.specs.Frame.{readFrameHeader}
 use Rattle.header.specs.Range.{frameRefusal as headerFrameRefusal}
 use Rattle.body.specs.Range.{isExcepted}
 use Rattle.body.specs.Written.{kindRefusal}
+use Rattle.body.proofs.Theorems.{InnerEdges}
 use Rattle.packet.specs.declared.Record.{Record}
 use Rattle.packet.specs.Record.{packetRefused}
 use Rattle.packet.specs.Range.{recordInRange, rangeRefusal}
@@ -56,6 +57,17 @@ text-comment-within s = text-given s .within
 
 pub frame-comment-within : (s : List ℕ) → readFrame s .«record» .body .comment .at + readFrame s .«record» .body .comment .len ≤ length s
 frame-comment-within s = frame-given s .within
+
+-- ---- document 02, R-1: "the digits we print are the inner edge" of the page's boxes
+
+pub any-text-inner-edges : (s : List ℕ) → InnerEdges (readAnyText s .«record» .body)
+any-text-inner-edges s = any-text-given s .edges
+
+pub text-inner-edges : (s : List ℕ) → InnerEdges (readText s .«record» .body)
+text-inner-edges s = text-given s .edges
+
+pub frame-inner-edges : (s : List ℕ) → InnerEdges (readFrame s .«record» .body)
+frame-inner-edges s = frame-given s .edges
 
 -- ---- which read records are not written: 15 for those two, 14 for Unknown, 1 over 512 bytes, and no other
 

@@ -1,13 +1,14 @@
 -- Worked cases of the bounds, in bits, and of the box: the formulas compute.
 -- Assumes nothing.
 use mathlib.Core.Path.{_≡_, refl}
+use mathlib.Core.Bool.{true, false}
 use lib.IntN.{pos, negsuc}
 use lib.Ieee.{binary64, ofBits, ofInt, add, sub, div, neg}
 use Rattle.lonlat.specs.Angle.{mostLatitude, mostLongitude, widthOf}
-use Rattle.numbers.specs.Sign.{isMinus}
+use Rattle.numbers.specs.Sign.{isMinus, isOn}
 use Rattle.position.specs.Reach.{inReach}
 use Rattle.position.specs.Bounds.{fromDmh, degreesOf, centerOf, degreeWidth, rangeOf, noBounds, boundsOf}
-use Rattle.position.specs.Page.{noBox, boxOf}
+use Rattle.position.specs.Page.{noBox, outward, boxOf}
 
 -- 49 degrees 03.50 north, two blanks
 pub north-bounds : boundsOf mostLatitude (pos 294350) 2
@@ -30,14 +31,35 @@ pub six-blanks : boundsOf mostLatitude (pos 0) 6 ≡ noBounds
 unfolding boundsOf inReach
 six-blanks = refl
 
-pub north-box : boxOf mostLatitude (pos 294350) 2 ≡ record { refusal = 0; from = pos 588600; to = pos 588800 }
-unfolding boxOf inReach widthOf
-north-box = refl
+-- document 02, R-1, read out: 9000.00N runs past the pole
+pub pole-box : boxOf mostLatitude (pos 540000) 0 false ≡ record { refusal = 0; from = pos 1080000; to = pos 1080002 }
+unfolding boxOf outward isOn inReach widthOf
+pole-box = refl
 
-pub west-box : boxOf mostLongitude (negsuc 432174) 0 ≡ record { refusal = 0; from = negsuc 864350; to = negsuc 864348 }
-unfolding boxOf inReach widthOf
+-- 0 with two blanks, N and S
+pub zero-north-box : boxOf mostLatitude (pos 0) 2 false ≡ record { refusal = 0; from = pos 0; to = pos 200 }
+unfolding boxOf outward isOn inReach widthOf
+zero-north-box = refl
+
+pub zero-south-box : boxOf mostLatitude (pos 0) 2 true ≡ record { refusal = 0; from = negsuc 199; to = pos 0 }
+unfolding boxOf outward isOn inReach widthOf
+zero-south-box = refl
+
+-- 50 hundredths south made by hand, two blanks
+pub by-hand-box : boxOf mostLatitude (negsuc 49) 2 true ≡ record { refusal = 0; from = negsuc 299; to = negsuc 99 }
+unfolding boxOf outward isOn inReach widthOf
+by-hand-box = refl
+
+-- 72 degrees 01.75 west, no blank
+pub west-box : boxOf mostLongitude (negsuc 432174) 0 true ≡ record { refusal = 0; from = negsuc 864351; to = negsuc 864349 }
+unfolding boxOf outward isOn inReach widthOf
 west-box = refl
 
-pub past-the-pole-box : boxOf mostLatitude (pos 540001) 0 ≡ noBox
+-- 5 hundredths north are not south
+pub contradicted-box : boxOf mostLatitude (pos 5) 2 true ≡ noBox
+unfolding boxOf isOn inReach
+contradicted-box = refl
+
+pub past-the-pole-box : boxOf mostLatitude (pos 540001) 0 false ≡ noBox
 unfolding boxOf inReach
 past-the-pole-box = refl

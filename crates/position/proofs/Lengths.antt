@@ -14,7 +14,7 @@ use Rattle.lonlat.specs.Latitude.{readLatitude, latitudeText}
 use Rattle.lonlat.specs.Longitude.{longitudeText}
 use Rattle.lonlat.proofs.Texts.{latitude-text-length, longitude-text-length}
 use Rattle.position.specs.declared.Place.{Place}
-use Rattle.position.specs.Position.{fixedBytes, isUncompressed, refusedPosition, withLatitude, readPosition, placeInRange, symbolsInRange, positionRefusal, positionText}
+use Rattle.position.specs.Position.{fixedBytes, isUncompressed, refusedPosition, withLatitude, readPosition, placeInRange, lettersAgree, symbolsInRange, positionFits, positionRefusal, positionText}
 use Rattle.position.proofs.Reach.{latitude-near, reach-few}
 
 pub position-long : (s : List ℕ) → readPosition s .refusal ≡ 0 → fixedBytes ≤ length s
@@ -29,8 +29,8 @@ position-long s e = go (isUncompressed s) (ltb (length s) fixedBytes) refl e
     go false q f z = absurd (omega arith)
 
 in-range : (p : Place) → positionRefusal p ≡ 0 → placeInRange p ≡ true
-unfolding positionRefusal
-in-range p e = go (placeInRange p) (symbolsInRange p) e
+unfolding positionRefusal positionFits
+in-range p e = go (placeInRange p) (lettersAgree p && symbolsInRange p) e
   where
     go : (a b : Bool) → _≡_ {A = ℕ} (cond (a && b) 0 15) 0 → a ≡ true
     go true b z = refl

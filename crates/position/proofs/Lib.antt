@@ -3,7 +3,9 @@ pub mod Reach
 pub mod Lengths
 pub mod Reading
 pub mod Writing
-pub mod Angles
+pub mod Floats
+pub mod Boxes
+pub mod InnerEdge
 pub mod Cases
 pub mod Theorems
 pub mod Unique

@@ -1,19 +1,21 @@
 -- What is in range: the tests, and what they tell.
 -- Assumes nothing.
 use mathlib.Core.Path.{_≡_}
-use mathlib.Core.Bool.{true, false}
+use mathlib.Core.Bool.{Bool, true, false, not}
 use Prim.Native.Nat.{ℕ, _<_, _≤_}
-use borrow.Author.Tests.{le-leb, lt-leb, lt-ltb, le-ltb, leb-true}
+use borrow.Author.Tests.{le-leb, lt-leb, lt-ltb, le-ltb, leb-true, not-false}
 use lib.Dec.{leb, ltb}
 use lib.IntN.{ℤ, natAbs}
+use mir.Syntax.{w32}
+use mir.Val.{SFits, toZ, ofZ}
 use Rattle.laws.proofs.Tests.{and-first, and-second}
 use Rattle.lonlat.specs.Angle.{mostLatitude, mostLongitude}
-use Rattle.numbers.specs.Sign.{sidesOf}
+use Rattle.numbers.specs.Sign.{isOn, sidesOf}
 use Rattle.numbers.specs.declared.Sides.{Sides}
-use Rattle.numbers.proofs.Sign.{parts-size}
+use Rattle.numbers.proofs.Sign.{back, parts-size}
 use Rattle.position.specs.declared.Place.{Place}
 use Rattle.position.specs.Reach.{inReach}
-use Rattle.position.specs.Position.{placeInRange, symbolsInRange}
+use Rattle.position.specs.Position.{placeInRange, lettersAgree, symbolsInRange}
 
 -- p is the angle taken apart, z the angle as the code has it
 module _ (most blanks : ℕ) (angle z : ℤ) (back : z ≡ angle) (p : Sides) (e : p ≡ sidesOf z) where
@@ -24,6 +26,10 @@ module _ (most blanks : ℕ) (angle z : ℤ) (back : z ≡ angle) (p : Sides) (e
   pub reach-blanks : p .size ≤ most → leb blanks 5 ≡ inReach most (natAbs angle) blanks
   unfolding inReach
   reach-blanks h = rw (← parts-size angle z back p e, le-leb (p .size) most h)
+
+-- u is the test, and it held
+pub reached : (most blanks : ℕ) (angle z : ℤ) → z ≡ angle → (u : Bool) → u ≡ inReach most (natAbs z) blanks → not u ≡ false → inReach most (natAbs angle) blanks ≡ true
+reached most blanks angle z back u e h = rw (← back, ← e) (not-false u h)
 
 -- what the test tells
 module _ (most size blanks : ℕ) (e : inReach most size blanks ≡ true) where
@@ -43,6 +49,25 @@ module _ (p : Place) (e : placeInRange p ≡ true) where
   pub longitude-near : inReach mostLongitude (natAbs (p .longitude .0)) (p .blanks) ≡ true
   unfolding placeInRange
   longitude-near = and-second (inReach mostLatitude (natAbs (p .latitude .0)) (p .blanks)) (inReach mostLongitude (natAbs (p .longitude .0)) (p .blanks)) e
+
+module _ (p : Place) (e : lettersAgree p ≡ true) where
+  pub latitude-agrees : isOn (p .south) (p .latitude .0) ≡ true
+  unfolding lettersAgree
+  latitude-agrees = and-first (isOn (p .south) (p .latitude .0)) (isOn (p .west) (p .longitude .0)) e
+
+  pub longitude-agrees : isOn (p .west) (p .longitude .0) ≡ true
+  unfolding lettersAgree
+  longitude-agrees = and-second (isOn (p .south) (p .latitude .0)) (isOn (p .west) (p .longitude .0)) e
+
+-- the two tests of the letters: u is the latitude's, v the longitude's
+module _ (p : Place) (u : Bool) (f : SFits w32 (p .latitude .0)) (e : u ≡ isOn (p .south) (toZ w32 (ofZ w32 (p .latitude .0)))) where
+  pub latitude-parts : u ≡ false → false ≡ lettersAgree p
+  unfolding lettersAgree
+  latitude-parts h = rw (← back (p .latitude .0) f, ← e, h)
+
+  pub longitude-decides : u ≡ true → (v : Bool) → SFits w32 (p .longitude .0) → v ≡ isOn (p .west) (toZ w32 (ofZ w32 (p .longitude .0))) → v ≡ lettersAgree p
+  unfolding lettersAgree
+  longitude-decides h v g i = rw (← back (p .latitude .0) f, ← e, h, ← back (p .longitude .0) g) i
 
 pub table-fine : (p : Place) → p .table < 128 → ltb (p .code) 128 ≡ symbolsInRange p
 unfolding symbolsInRange

@@ -45,7 +45,7 @@ module _ (s : List ℕ) (latitude : Latitude) (blanks : ℕ) (south sixty : Bool
   longitude-out f r g = rw (← e, f) g
 
   pub longitude-read : (longitude : Longitude) (west minutes : Bool) → q ≡ lon.Read longitude west minutes
-      → acceptedPosition (record { latitude = latitude; longitude = longitude; blanks = blanks; table = getD s 8 0; code = getD s 18 0 }) south west sixty minutes
+      → acceptedPosition (record { latitude = latitude; longitude = longitude; blanks = blanks; table = getD s 8 0; code = getD s 18 0; south = south; west = west }) sixty minutes
       ≡ withLongitude s latitude blanks south sixty a
   unfolding withLongitude
   longitude-read longitude west minutes f = rw (← e, f)

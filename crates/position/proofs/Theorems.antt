@@ -1,4 +1,5 @@
--- What a position reads as is blank, or in range and on the sides that were read; and what is written reads back.
+-- What a position reads as is blank, or in range and on the sides that were read; its angles are the inner edges of their boxes;
+-- and what is written reads back, 0 with the letters N and E.
 -- Assumes nothing.
 use mathlib.Core.Path.{_≡_, refl, sym, ap, _∙_}
 use mathlib.Core.Bool.{Bool, true, false, false≢true, cond, _||_}
@@ -11,7 +12,8 @@ use lib.IntN.{pos, natAbs}
 use lib.ListN.{length, take, drop, getD, length-append, List·getD-append}
 use lib.Seq.{take-at, drop-at, getD-at, getD-drop, getD-append-add}
 use Rattle.laws.specs.Bytes.{isDigit}
-use Rattle.numbers.specs.Sign.{isMinus}
+use Rattle.numbers.specs.Sign.{isMinus, isOn}
+use Rattle.numbers.proofs.Sign.{on-one}
 use Rattle.lonlat.specs.Angle.{mostLatitude, mostLongitude, widthOf, cutAngle}
 use Rattle.lonlat.specs.Latitude.{readLatitude, latitudeNumber, latitudeText}
 use Rattle.lonlat.specs.Longitude.{readLongitude, longitudeNumber, longitudeText}
@@ -26,21 +28,25 @@ use Rattle.lonlat.proofs.Theorems.{AngleFound, LatitudeFound, read-latitude-fou
 use Rattle.position.specs.declared.Place.{Place}
 use Rattle.position.specs.declared.PositionRead.{PositionRead}
 use Rattle.position.specs.Reach.{inReach}
-use Rattle.position.specs.Position.{fixedBytes, isNumeric, isUncompressed, refusedPosition, acceptedPosition, withLongitude, withLatitude, readPosition, placeInRange, positionText}
-use Rattle.position.proofs.Reach.{latitude-near, longitude-near, reach-near, reach-few}
+use Rattle.position.specs.Position.{fixedBytes, isNumeric, isUncompressed, refusedPosition, acceptedPosition, withLongitude, withLatitude, readPosition, noPlace, placeInRange, lettersAgree, positionText, asWritten}
+use Rattle.position.specs.Page.{boxOf}
+use Rattle.position.proofs.InnerEdge.{InnerEdge, inner-edge}
+use Rattle.position.proofs.Reach.{latitude-near, longitude-near, reach-near, reach-few, latitude-agrees, longitude-agrees}
 
 -- ---- every answer, by cases: a refusal, or a place with its sides
 
 abbrev pub isPositionRefusal : ℕ → Bool
 isPositionRefusal n = eqb n 7 || (eqb n 8 || (eqb n 9 || eqb n 10))
 
-abbrev placeOf : List ℕ → Latitude → Longitude → ℕ → Place
-placeOf s latitude longitude blanks = record { latitude = latitude; longitude = longitude; blanks = blanks; table = getD s 8 0; code = getD s 18 0 }
+abbrev placeOf : List ℕ → Latitude → Longitude → ℕ → Bool → Bool → Place
+placeOf s latitude longitude blanks south west =
+    record { latitude = latitude; longitude = longitude; blanks = blanks; table = getD s 8 0; code = getD s 18 0; south = south; west = west }
 
 module _ (P : PositionRead → Type 0) (s : List ℕ)
     (blank : (n : ℕ) → isPositionRefusal n ≡ true → P (refusedPosition n))
-    (found : (latitude : Latitude) (longitude : Longitude) (blanks : ℕ) (south west x y : Bool) → LatitudeFound latitude blanks south → AngleFound mostLongitude west (longitude .0)
-    → P (acceptedPosition (placeOf s latitude longitude blanks) south west x y)) where
+    (found : (latitude : Latitude) (longitude : Longitude) (blanks : ℕ) (south west x y : Bool) → LatitudeFound latitude blanks south
+    → AngleFound mostLongitude west (widthOf blanks) (longitude .0)
+    → P (acceptedPosition (placeOf s latitude longitude blanks south west) x y)) where
   longitude-cases : (latitude : Latitude) (blanks : ℕ) (south x : Bool) → LatitudeFound latitude blanks south
       → (q : LongitudeRead) → readLongitude (take 9 (drop 9 s)) blanks ≡ q → P (withLongitude s latitude blanks south x q)
   unfolding withLongitude longitudeNumber
@@ -63,44 +69,70 @@ module _ (P : PositionRead → Type 0) (s : List ℕ)
       go true false = latitude-cases (readLatitude (take 8 s)) refl
       go false v = blank 7 refl
 
--- a refusal is one of 7, 8, 9, 10, and leaves nothing; a place is in range, and each side its angle's own where that is not 0
+-- a refusal is one of 7, 8, 9, 10, and leaves nothing; a place is in range, each angle is on the side of its letter and a
+-- multiple of the width that the blanks leave
 pub record Answered (r : PositionRead) : Type 0 where
   pub number : (r .refusal ≡ 0 → ⊥) → isPositionRefusal (r .refusal) ≡ true
   pub nothing : (r .refusal ≡ 0 → ⊥) → r ≡ refusedPosition (r .refusal)
   pub near : r .refusal ≡ 0 → placeInRange (r .place) ≡ true
-  pub south-is : (r .place .latitude .0 ≡ pos 0 → ⊥) → r .south ≡ isMinus (r .place .latitude .0)
-  pub west-is : (r .place .longitude .0 ≡ pos 0 → ⊥) → r .west ≡ isMinus (r .place .longitude .0)
+  pub agree : lettersAgree (r .place) ≡ true
+  pub latitude-whole : natAbs (r .place .latitude .0) % widthOf (r .place .blanks) ≡ 0
+  pub longitude-whole : natAbs (r .place .longitude .0) % widthOf (r .place .blanks) ≡ 0
 
 refusal-not-zero : (n : ℕ) → isPositionRefusal n ≡ true → n ≡ 0 → ⊥
 refusal-not-zero n e z = let k : isPositionRefusal 0 ≡ true = rw z at e in let f : false ≡ true = k in false≢true f
 
-found-near : (s : List ℕ) (latitude : Latitude) (longitude : Longitude) (blanks : ℕ) (south west : Bool) → LatitudeFound latitude blanks south → AngleFound mostLongitude west (longitude .0)
-    → placeInRange (placeOf s latitude longitude blanks) ≡ true
-unfolding placeInRange inReach
-found-near s latitude longitude blanks south west l m =
-    rw (le-leb (natAbs (latitude .0)) mostLatitude (l .angle .near), le-leb blanks 5 (l .few), le-leb (natAbs (longitude .0)) mostLongitude (m .near))
+module _ (s : List ℕ) (latitude : Latitude) (longitude : Longitude) (blanks : ℕ) (south west : Bool)
+    (l : LatitudeFound latitude blanks south) (m : AngleFound mostLongitude west (widthOf blanks) (longitude .0)) where
+  found-near : placeInRange (placeOf s latitude longitude blanks south west) ≡ true
+  unfolding placeInRange inReach
+  found-near = rw (le-leb (natAbs (latitude .0)) mostLatitude (l .angle .near), le-leb blanks 5 (l .few), le-leb (natAbs (longitude .0)) mostLongitude (m .near))
+
+  found-agree : lettersAgree (placeOf s latitude longitude blanks south west) ≡ true
+  unfolding lettersAgree
+  found-agree = rw (l .angle .side, m .side)
+
+nothing-agrees : lettersAgree noPlace ≡ true
+unfolding lettersAgree isOn
+nothing-agrees = refl
 
 pub read-position-answered : (s : List ℕ) → Answered (readPosition s)
+unfolding widthOf
 read-position-answered s =
     position-cases Answered s
     (λ n e. record {
       number = λ h. e;
       nothing = λ h. refl;
       near = λ z. absurd (refusal-not-zero n e z);
-      south-is = λ h. absurd (h refl);
-      west-is = λ h. absurd (h refl);
+      agree = nothing-agrees;
+      latitude-whole = refl;
+      longitude-whole = refl;
     })
     (λ latitude longitude blanks south west x y l m. record {
       number = λ h. absurd (h refl);
       nothing = λ h. absurd (h refl);
       near = λ z. found-near s latitude longitude blanks south west l m;
-      south-is = l .angle .side;
-      west-is = m .side;
+      agree = found-agree s latitude longitude blanks south west l m;
+      latitude-whole = l .angle .whole;
+      longitude-whole = m .whole;
     })
+
+-- ---- the boxes of a place whose angles are multiples of the width that its blanks leave, as those of a position that was read are:
+-- each angle is the inner edge of its box
+
+module _ (p : Place) (near : placeInRange p ≡ true) (agree : lettersAgree p ≡ true) where
+  pub latitude-is-inner-edge : natAbs (p .latitude .0) % widthOf (p .blanks) ≡ 0
+      → InnerEdge (p .south) (p .blanks) (p .latitude .0) (boxOf mostLatitude (p .latitude .0) (p .blanks) (p .south))
+  latitude-is-inner-edge = inner-edge mostLatitude (p .latitude .0) (p .blanks) (p .south) (latitude-near p near) (latitude-agrees p agree)
+
+  pub longitude-is-inner-edge : natAbs (p .longitude .0) % widthOf (p .blanks) ≡ 0
+      → InnerEdge (p .west) (p .blanks) (p .longitude .0) (boxOf mostLongitude (p .longitude .0) (p .blanks) (p .west))
+  longitude-is-inner-edge = inner-edge mostLongitude (p .longitude .0) (p .blanks) (p .west) (longitude-near p near) (longitude-agrees p agree)
 
 -- ---- what is written reads back
 
--- a place with its angles cut to the width that the blanks leave
+-- a place with its angles cut to the width that the blanks leave, and the letters that are written: each angle's own side, and N and
+-- E for 0
 abbrev pub cutPlace : Place → Place
 cutPlace p = record {
   latitude = record { 0 = cutAngle (p .blanks) (p .latitude .0) };
@@ -108,6 +140,8 @@ cutPlace p = record {
   blanks = p .blanks;
   table = p .table;
   code = p .code;
+  south = isMinus (p .latitude .0);
+  west = isMinus (p .longitude .0);
 }
 
 -- a text of 8 bytes, one byte, a text of 9, one byte, and the rest
@@ -146,7 +180,7 @@ module _ (n : List ℕ) (t : ℕ) (e : List ℕ) (c : ℕ) (rest : List ℕ) (ei
 -- a place read from text whose parts are known
 parts-read : (s : List ℕ) (latitude : Latitude) (longitude : Longitude) (blanks : ℕ) (south west x y : Bool) → isUncompressed s ≡ true → fixedBytes ≤ length s
     → readLatitude (take 8 s) ≡ lat.Read latitude blanks south x → readLongitude (take 9 (drop 9 s)) blanks ≡ lon.Read longitude west y
-    → readPosition s ≡ acceptedPosition (placeOf s latitude longitude blanks) south west x y
+    → readPosition s ≡ acceptedPosition (placeOf s latitude longitude blanks south west) x y
 unfolding readPosition withLatitude withLongitude
 parts-read s latitude longitude blanks south west x y u l e f = rw (u, le-ltb (length s) fixedBytes l, e, f)
 
@@ -195,17 +229,40 @@ module _ (p : Place) (near : placeInRange p ≡ true) (comment : List ℕ) where
   unfolding s n
   starts = numeric-digit s (getD n 0 0) (whole-first n (p .table) e (p .code) comment eight nine) (latitude-text-first (p .latitude .0) (p .blanks) few)
 
-  -- what is written, and a comment behind it, reads as the place cut to the width that its blanks leave, on its own sides and with
-  -- no minutes of 60 or more
-  pub position-reads-cut : readPosition (positionText p ++ comment)
-      ≡ acceptedPosition (cutPlace p) (isMinus (p .latitude .0)) (isMinus (p .longitude .0)) false false
+  -- what is written, and a comment behind it, reads as the place cut to the width that its blanks leave, with no minutes of 60 or
+  -- more
+  pub position-reads-cut : readPosition (positionText p ++ comment) ≡ acceptedPosition (cutPlace p) false false
   unfolding s
   position-reads-cut =
       rw text-whole
       (parts-read s _ _ (p .blanks) (isMinus (p .latitude .0)) (isMinus (p .longitude .0)) false false starts (whole-long n (p .table) e (p .code) comment eight nine) north-read east-read
       ∙ rw (whole-table n (p .table) e (p .code) comment eight nine, whole-code n (p .table) e (p .code) comment eight nine))
 
-  -- as the place itself, where both angles are multiples of that width
+  -- as the place itself with the letters that are written, where both angles are multiples of that width
   pub position-reads-back : natAbs (p .latitude .0) % widthOf (p .blanks) ≡ 0 → natAbs (p .longitude .0) % widthOf (p .blanks) ≡ 0
-      → readPosition (positionText p ++ comment) ≡ acceptedPosition p (isMinus (p .latitude .0)) (isMinus (p .longitude .0)) false false
+      → readPosition (positionText p ++ comment) ≡ acceptedPosition (asWritten p) false false
+  unfolding asWritten
   position-reads-back h k = position-reads-cut ∙ rw (cut-whole (p .latitude .0) (p .blanks) h, cut-whole (p .longitude .0) (p .blanks) k)
+
+-- ---- the letters that are written: the record's own, but for an angle of 0, which is written N or E
+
+pub zero-is-north : (p : Place) → p .latitude .0 ≡ pos 0 → asWritten p .south ≡ false
+unfolding asWritten isMinus
+zero-is-north p e = rw e
+
+pub zero-is-east : (p : Place) → p .longitude .0 ≡ pos 0 → asWritten p .west ≡ false
+unfolding asWritten isMinus
+zero-is-east p e = rw e
+
+module _ (p : Place) (agree : lettersAgree p ≡ true) where
+  pub latitude-letter-kept : (p .latitude .0 ≡ pos 0 → ⊥) → asWritten p .south ≡ p .south
+  unfolding asWritten
+  latitude-letter-kept h = sym (on-one (p .south) (p .latitude .0) (latitude-agrees p agree) h)
+
+  pub longitude-letter-kept : (p .longitude .0 ≡ pos 0 → ⊥) → asWritten p .west ≡ p .west
+  unfolding asWritten
+  longitude-letter-kept h = sym (on-one (p .west) (p .longitude .0) (longitude-agrees p agree) h)
+
+  pub letters-kept : (p .latitude .0 ≡ pos 0 → ⊥) → (p .longitude .0 ≡ pos 0 → ⊥) → asWritten p ≡ p
+  unfolding asWritten
+  letters-kept h k = rw (latitude-letter-kept h, longitude-letter-kept k)

@@ -23,7 +23,7 @@ use Rattle.lonlat.specs.Longitude.{longitudeText, longitudeRefusal}
 use Rattle.lonlat.proofs.Texts.{latitude-text-length, longitude-text-length}
 use Rattle.position.specs.declared.Place.{Place}
 use Rattle.position.specs.Reach.{inReach}
-use Rattle.position.specs.Position.{placeInRange, symbolsInRange, positionRefusal, positionText}
+use Rattle.position.specs.Position.{placeInRange, lettersAgree, symbolsInRange, positionFits, positionRefusal, positionText}
 use Rattle.position.proofs.Reach.{reach-few}
 
 -- ---- a leaf's refusal is its part of the test
@@ -107,7 +107,7 @@ module _ (p : Place) (r : Answer) (out : List ℕ) (a : Answer) (n : List ℕ)
       ∙ j
 
   pub latitude-out : (a .refusal ≡ 0 → ⊥) → r ≡ refusedBy 15 → ends r out ≡ wrote (positionRefusal p) (positionText p) out
-  unfolding positionRefusal placeInRange north-in
+  unfolding positionRefusal positionFits placeInRange north-in
   latitude-out h f = rw f (refuses 15 _ (positionText p) out (rw (judged-out north-in (a .refusal) judged h)) (λ q. omega arith))
 
   module _ (fine : a .refusal ≡ 0) (b : Answer) (e : List ℕ)
@@ -142,26 +142,31 @@ module _ (p : Place) (r : Answer) (out : List ℕ) (a : Answer) (n : List ℕ)
         ∙ longitude-is
 
     pub longitude-out : (b .refusal ≡ 0 → ⊥) → r ≡ refusedBy 15 → ends r out ≡ wrote (positionRefusal p) (positionText p) out
-    unfolding positionRefusal placeInRange north-in east-in
+    unfolding positionRefusal positionFits placeInRange north-in east-in
     longitude-out h f = rw f (refuses 15 _ (positionText p) out (rw (north-fine, judged-out east-in (b .refusal) judged-too h)) (λ q. omega arith))
 
-    module _ (good : b .refusal ≡ 0) (v : Bool) (s : v ≡ symbolsInRange p) where
+    module _ (good : b .refusal ≡ 0) (u : Bool) (g : u ≡ lettersAgree p) where
       east-fine : east-in ≡ true
       east-fine = judged-in east-in (b .refusal) judged-too good
 
-      pub symbols-out : not v ≡ true → r ≡ refusedBy 15 → ends r out ≡ wrote (positionRefusal p) (positionText p) out
-      unfolding positionRefusal placeInRange north-in east-in
-      symbols-out h f = rw f (refuses 15 _ (positionText p) out (rw (north-fine, east-fine, ← s, not-true v h)) (λ q. omega arith))
+      pub letters-out : not u ≡ true → r ≡ refusedBy 15 → ends r out ≡ wrote (positionRefusal p) (positionText p) out
+      unfolding positionRefusal positionFits placeInRange north-in east-in
+      letters-out h f = rw f (refuses 15 _ (positionText p) out (rw (north-fine, east-fine, ← g, not-true u h)) (λ q. omega arith))
 
       text-is : set (set (putMid 9 10 n e) 8 (p .table)) 18 (p .code) ≡ positionText p
       unfolding positionText east-in
       text-is =
-          let g : e ≡ behind n (longitudeText (p .longitude .0)) =
+          let k : e ≡ behind n (longitudeText (p .longitude .0)) =
           bytes-are b e (longitudeText (p .longitude .0)) (midOf 9 10 n) (longitudeRefusal (p .longitude .0)) east (longitude-is ∙ rw east-fine) (omega (arith, nine, rest-long)) ∙ rw nine
           in
-          rw (g, n-is) (nineteen (latitudeText (p .latitude .0) (p .blanks)) (longitudeText (p .longitude .0)) (p .table) (p .code) (eight north-fine) nine)
+          rw (k, n-is) (nineteen (latitudeText (p .latitude .0) (p .blanks)) (longitudeText (p .longitude .0)) (p .table) (p .code) (eight north-fine) nine)
 
-      pub position-wrote : not v ≡ false → (out′ : List ℕ) → ends r out′ ≡ wrote 0 (set (set (putMid 9 10 n e) 8 (p .table)) 18 (p .code)) out
-          → ends r out′ ≡ wrote (positionRefusal p) (positionText p) out
-      unfolding positionRefusal placeInRange north-in east-in
-      position-wrote h out′ w = rw (north-fine, east-fine, ← s, not-false v h) (w ∙ ap (λ (l : List ℕ). wrote 0 l out) text-is)
+      module _ (same : not u ≡ false) (v : Bool) (s : v ≡ symbolsInRange p) where
+        pub symbols-out : not v ≡ true → r ≡ refusedBy 15 → ends r out ≡ wrote (positionRefusal p) (positionText p) out
+        unfolding positionRefusal positionFits placeInRange north-in east-in
+        symbols-out h f = rw f (refuses 15 _ (positionText p) out (rw (north-fine, east-fine, ← g, not-false u same, ← s, not-true v h)) (λ q. omega arith))
+
+        pub position-wrote : not v ≡ false → (out′ : List ℕ) → ends r out′ ≡ wrote 0 (set (set (putMid 9 10 n e) 8 (p .table)) 18 (p .code)) out
+            → ends r out′ ≡ wrote (positionRefusal p) (positionText p) out
+        unfolding positionRefusal positionFits placeInRange north-in east-in
+        position-wrote h out′ w = rw (north-fine, east-fine, ← g, not-false u same, ← s, not-false v h) (w ∙ ap (λ (l : List ℕ). wrote 0 l out) text-is)

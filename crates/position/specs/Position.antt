@@ -8,6 +8,7 @@ use lib.Dec.{eqb, ltb}
 use lib.IntN.{pos, natAbs}
 use lib.ListN.{length, take, drop, getD}
 use Rattle.laws.specs.Bytes.{isDigit}
+use Rattle.numbers.specs.Sign.{isMinus, isOn}
 use Rattle.lonlat.specs.Angle.{mostLatitude, mostLongitude}
 use Rattle.lonlat.specs.Latitude.{readLatitude, latitudeNumber, latitudeText}
 use Rattle.lonlat.specs.Longitude.{readLongitude, longitudeNumber, longitudeText}
@@ -36,29 +37,26 @@ isUncompressed s = isNumeric (getD s 0 0)
 
 -- nothing: all numbers 0
 abbrev pub noPlace : Place
-noPlace = record { latitude = record { 0 = pos 0 }; longitude = record { 0 = pos 0 }; blanks = 0; table = 0; code = 0 }
+noPlace = record { latitude = record { 0 = pos 0 }; longitude = record { 0 = pos 0 }; blanks = 0; table = 0; code = 0; south = false; west = false }
 
 -- a refusal by its number, and nothing else
 abbrev pub refusedPosition : ℕ → PositionRead
-refusedPosition n = record { refusal = n; place = noPlace; south = false; west = false; «latitude_sixty» = false; «longitude_sixty» = false }
+refusedPosition n = record { refusal = n; place = noPlace; «latitude_sixty» = false; «longitude_sixty» = false }
 
--- a place, with the sides of its angles as their letters stood, and which of them has minutes of 60 or more
-abbrev pub acceptedPosition : Place → Bool → Bool → Bool → Bool → PositionRead
-acceptedPosition place south west latitudeSixty longitudeSixty = record {
+-- a place, and which of its angles has minutes of 60 or more
+abbrev pub acceptedPosition : Place → Bool → Bool → PositionRead
+acceptedPosition place latitudeSixty longitudeSixty = record {
   refusal = 0;
   place = place;
-  south = south;
-  west = west;
   «latitude_sixty» = latitudeSixty;
   «longitude_sixty» = longitudeSixty;
 }
 
--- the place, with the symbol's bytes at their places
+-- the place, with the symbol's bytes at their places, and the letters as they stood: "At 0 the side is the letter read, so the
+-- record must carry both letters" (document 02, R-1)
 unfoldable pub withLongitude : List ℕ → Latitude → ℕ → Bool → Bool → LongitudeRead → PositionRead
 withLongitude s latitude blanks south latitudeSixty (lon.Read longitude west longitudeSixty) =
-    acceptedPosition (record { latitude = latitude; longitude = longitude; blanks = blanks; table = getD s 8 0; code = getD s 18 0 })
-    south
-    west
+    acceptedPosition (record { latitude = latitude; longitude = longitude; blanks = blanks; table = getD s 8 0; code = getD s 18 0; south = south; west = west })
     latitudeSixty
     longitudeSixty
 withLongitude s latitude blanks south latitudeSixty lon.Refused = refusedPosition (longitudeNumber lon.Refused)
@@ -79,14 +77,35 @@ readPosition s = cond (isUncompressed s) (cond (ltb (length s) fixedBytes) (refu
 unfoldable pub placeInRange : Place → Bool
 placeInRange p = inReach mostLatitude (natAbs (p .latitude .0)) (p .blanks) && inReach mostLongitude (natAbs (p .longitude .0)) (p .blanks)
 
+-- "15 also for a record's letter that contradicts a nonzero angle" (document 02, R-1); of any such record too
+unfoldable pub lettersAgree : Place → Bool
+lettersAgree p = isOn (p .south) (p .latitude .0) && isOn (p .west) (p .longitude .0)
+
 -- "a position symbol byte of 128 or more" is 15
 unfoldable pub symbolsInRange : Place → Bool
 symbolsInRange p = ltb (p .table) 128 && ltb (p .code) 128
 
--- 15 for a place or a symbol out of range
+-- what a position may be; of Mic-E the symbol may be any
+unfoldable pub positionFits : Place → Bool
+positionFits p = placeInRange p && (lettersAgree p && symbolsInRange p)
+
+-- else 15
 unfoldable pub positionRefusal : Place → ℕ
-positionRefusal p = cond (placeInRange p && symbolsInRange p) 0 15
+positionRefusal p = cond (positionFits p) 0 15
 
 -- the 19 bytes in front of the comment
 unfoldable pub positionText : Place → List ℕ
 positionText p = latitudeText (p .latitude .0) (p .blanks) ++ (p .table ∷ longitudeText (p .longitude .0) ++ (p .code ∷ []))
+
+-- the place with the letters that are written, each angle's own side's: "a writer still takes N or E for 0" (document 02, R-1)
+unfoldable pub asWritten : Place → Place
+asWritten p =
+    record {
+      latitude = p .latitude;
+      longitude = p .longitude;
+      blanks = p .blanks;
+      table = p .table;
+      code = p .code;
+      south = isMinus (p .latitude .0);
+      west = isMinus (p .longitude .0);
+    }

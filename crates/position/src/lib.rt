@@ -10,15 +10,17 @@ ghost use Rattle.buffer.specs.Wrote.{ends, wrote};
 ghost use Rattle.lonlat.specs.Angle.{mostLatitude, mostLongitude, widthOf};
 ghost use Rattle.lonlat.specs.Longitude.{readLongitude};
 ghost use Rattle.position.specs.Reach.{inReach};
-ghost use Rattle.position.specs.Position.{fixedBytes, isNumeric, isUncompressed, refusedPosition, withLongitude, readPosition, symbolsInRange, positionRefusal, positionText};
+ghost use Rattle.position.specs.Position.{fixedBytes, isNumeric, isUncompressed, noPlace, refusedPosition, withLongitude, readPosition, lettersAgree, symbolsInRange, positionRefusal, positionText};
 ghost use Rattle.position.specs.Bounds.{fromDmh, degreesOf, degreeWidth, rangeOf, boundsOf};
-ghost use Rattle.position.specs.Page.{boxOf};
+ghost use Rattle.position.specs.Page.{noBox, boxOf};
+ghost use Rattle.position.specs.Private.{widest, boxAround};
 use lonlat::Latitude;
 use lonlat::LatitudeRead;
 use lonlat::Longitude;
 use lonlat::LongitudeRead;
 
-// Where something is: its angles, how many of their last digits are blank, and its symbol.
+// Where something is: its angles, how many of their last digits are blank, its symbol, and whether its letters are S and W, also
+// at 0.
 #[repr(C)]
 pub struct Place {
     pub latitude: Latitude,
@@ -26,35 +28,42 @@ pub struct Place {
     pub blanks: u8,
     pub table: u8,
     pub code: u8,
+    pub south: bool,
+    pub west: bool,
 }
 
-// What a position reads as: the refusal's number or 0, the place, whether its letters are S and W, also at 0, and which of its
-// angles has minutes of 60 or more.
+// What a position reads as: the refusal's number or 0, the place, and which of its angles has minutes of 60 or more.
 #[repr(C)]
 pub struct PositionRead {
     pub place: Place,
-    pub south: bool,
-    pub west: bool,
     pub latitude_sixty: bool,
     pub longitude_sixty: bool,
     pub refusal: u8,
+}
+
+// The place with nothing in it.
+pub fn blank() -> Place
+    ensures { λ r. ⌜ r ≡ noPlace ⌝ }
+{
+    Place {
+        latitude: Latitude(0),
+        longitude: Longitude(0),
+        blanks: 0,
+        table: 0,
+        code: 0,
+        south: false,
+        west: false,
+    }
 }
 
 // A refusal, and nothing else.
 fn refused_position(n: u8) -> PositionRead
     ensures { λ r. ⌜ r ≡ refusedPosition n ⌝ }
 {
+    let place = blank();
     PositionRead {
         refusal: n,
-        place: Place {
-            latitude: Latitude(0),
-            longitude: Longitude(0),
-            blanks: 0,
-            table: 0,
-            code: 0,
-        },
-        south: false,
-        west: false,
+        place,
         latitude_sixty: false,
         longitude_sixty: false,
     }
@@ -129,9 +138,9 @@ fn with_longitude(
                 blanks,
                 table: s[8],
                 code: s[18],
+                south,
+                west,
             },
-            south,
-            west,
             latitude_sixty: sixty,
             longitude_sixty,
         },
@@ -173,6 +182,18 @@ fn in_reach(most: u32, angle: i32, blanks: u8) -> bool
     blanks <= 5
 }
 
+// Whether neither letter contradicts its angle; at 0 either may stand.
+pub fn letters_agree(p: Place) -> bool
+    ensures { λ r. ⌜ r ≡ lettersAgree p ⌝ }
+{
+    let latitude = p.latitude;
+    if numbers::is_on(p.south, latitude.0) {
+        let longitude = p.longitude;
+        return numbers::is_on(p.west, longitude.0);
+    }
+    false
+}
+
 // Whether a position may have the symbol: both its bytes are below 128.
 fn symbols_in_range(p: Place) -> bool
     ensures { λ r. ⌜ r ≡ symbolsInRange p ⌝ }
@@ -183,7 +204,8 @@ fn symbols_in_range(p: Place) -> bool
     false
 }
 
-// Writes the 19 bytes before the comment. An angle, the blanks or a symbol byte out of range is 15, a buffer without room 16.
+// Writes the 19 bytes before the comment, 0 as N and E. An angle, the blanks or a symbol byte out of range is 15, and so is a letter
+// that contradicts its angle; a buffer without room is 16.
 pub fn write_position(p: Place, out: &mut [u8]) -> buffer::Answer
     ensures { λ r. ⌜ ends r (now (out .exit)) ≡ wrote (positionRefusal p) (positionText p) (now (out .entry)) ⌝ }
 {
@@ -196,6 +218,9 @@ pub fn write_position(p: Place, out: &mut [u8]) -> buffer::Answer
     }
     let east = lonlat::write_longitude(longitude, &mut text[9..]);
     if east.refusal != 0 {
+        return buffer::refused(15);
+    }
+    if !letters_agree(p) {
         return buffer::refused(15);
     }
     if !symbols_in_range(p) {
@@ -321,37 +346,59 @@ fn width(blanks: u8) -> i32
     }
 }
 
-// The box of an angle of at most that size, which is at most 180 degrees.
-fn box_of(most: u32, angle: i32, blanks: u8) -> PageBox
-    requires { ⌜ most ≤ mostLongitude ⌝ }
-    ensures { λ r. ⌜ r ≡ boxOf most angle blanks ⌝ }
+fn no_box() -> PageBox
+    ensures { λ r. ⌜ r ≡ noBox ⌝ }
 {
-    if !in_reach(most, angle, blanks) {
-        return PageBox {
-            refusal: 15,
-            from: 0,
-            to: 0,
-        };
+    PageBox {
+        refusal: 15,
+        from: 0,
+        to: 0,
     }
-    let w = width(blanks);
+}
+
+// The box from so many half hundredths below an angle to so many above it.
+fn around(angle: i32, below: i32, above: i32) -> PageBox
+    requires { ⌜ (natAbs angle ≤ mostLongitude) × (natAbs below ≤ widest) × (natAbs above ≤ widest) ⌝ }
+    ensures { λ r. ⌜ r ≡ boxAround angle below above ⌝ }
+{
     let twice = 2 * angle;
     PageBox {
         refusal: 0,
-        from: twice - w,
-        to: twice + w,
+        from: twice - below,
+        to: twice + above,
     }
 }
 
-// The box for the page of a latitude whose last digits are blank, as many as blanks says.
-pub fn latitude_box(l: Latitude, blanks: u8) -> PageBox
-    ensures { λ r. ⌜ r ≡ boxOf mostLatitude (l .0) blanks ⌝ }
+// The box of an angle of at most that size, which is at most 180 degrees: from the angle away from 0, south or west where minus.
+fn box_of(most: u32, angle: i32, blanks: u8, minus: bool) -> PageBox
+    requires { ⌜ most ≤ mostLongitude ⌝ }
+    ensures { λ r. ⌜ r ≡ boxOf most angle blanks minus ⌝ }
 {
-    box_of(540000, l.0, blanks)
+    if !in_reach(most, angle, blanks) {
+        return no_box();
+    }
+    if !numbers::is_on(minus, angle) {
+        return no_box();
+    }
+    let w = width(blanks);
+    let wide = 2 * w;
+    if minus {
+        return around(angle, wide, 0);
+    }
+    around(angle, 0, wide)
+}
+
+// The box for the page of a latitude whose last digits are blank, as many as blanks says, on the side of its letter. A letter that
+// contradicts the angle is 15.
+pub fn latitude_box(l: Latitude, blanks: u8, south: bool) -> PageBox
+    ensures { λ r. ⌜ r ≡ boxOf mostLatitude (l .0) blanks south ⌝ }
+{
+    box_of(540000, l.0, blanks, south)
 }
 
 // The same of a longitude.
-pub fn longitude_box(l: Longitude, blanks: u8) -> PageBox
-    ensures { λ r. ⌜ r ≡ boxOf mostLongitude (l .0) blanks ⌝ }
+pub fn longitude_box(l: Longitude, blanks: u8, west: bool) -> PageBox
+    ensures { λ r. ⌜ r ≡ boxOf mostLongitude (l .0) blanks west ⌝ }
 {
-    box_of(1080000, l.0, blanks)
+    box_of(1080000, l.0, blanks, west)
 }

@@ -33,6 +33,12 @@ fn written(
     words::whole(w, lines::cut(&buffer, room), out, at)
 }
 
+// What a writer answers of a record out of range, though no record has that shape: 15 is its first refusal.
+fn unwritten(room: usize, out: &mut [u8], at: usize) -> usize {
+    let buffer = [0xaau8; 600];
+    words::whole(buffer::refused(15), lines::cut(&buffer, room), out, at)
+}
+
 // The words of the record
 fn made(framed: bool, room: usize, comment: &[u8], s: &[u8], out: &mut [u8], at: usize) -> usize {
     let told = ask::body_word(s);
@@ -42,6 +48,9 @@ fn made(framed: bool, room: usize, comment: &[u8], s: &[u8], out: &mut [u8], at:
     let named = ask::header_word(words::skip(s, 2));
     if !named.good {
         return at;
+    }
+    if !told.held {
+        return unwritten(room, out, at);
     }
     written(named.header, told.body, framed, room, comment, out, at)
 }
@@ -63,7 +72,7 @@ fn commented(framed: bool, room: usize, s: &[u8], out: &mut [u8], at: usize) -> 
     )
 }
 
-// `W WHERE ROOM COMMENT KIND FLAG FROM TO HOPS LAT LON BLANKS TABLE CODE MESSAGE SPEED COURSE`
+// `W WHERE ROOM COMMENT KIND FLAG FROM TO HOPS LAT LON BLANKS TABLE CODE MESSAGE SPEED COURSE`, and `[letters=XY]`
 pub fn answer(s: &[u8], out: &mut [u8], at: usize) -> usize {
     let form = words::either(lines::first(s), b"text", b"frame");
     if 1 < form {

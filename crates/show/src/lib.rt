@@ -1,5 +1,5 @@
 // A record in words, and written again: `KIND from= to= hops= lat= lon= blanks= table= code= flag= message= speed= course= comment=
-// text= frame=`. Part of the programs inspect and bench.
+// text= frame= letters=`. Part of the programs inspect and bench.
 use body::Body;
 use body::Comment;
 use body::Kind;
@@ -146,14 +146,33 @@ fn comment_in(c: Comment, line: &[u8]) -> &[u8] {
     lines::cut(lines::tail(line, c.at), c.len)
 }
 
+// ---- words of the change requests, in their order
+
+fn sides(p: Place, out: &mut [u8], at: usize) -> usize {
+    let end = words::side(p.south, b"N", b"S", out, at);
+    words::side(p.west, b"E", b"W", out, end)
+}
+
+// The letters of both angles, as they were read; only a kind with a position has them.
+fn letters(k: Kind, p: Place, out: &mut [u8], at: usize) -> usize {
+    let end = buffer::put(b" letters=", out, at);
+    match k {
+        Kind::Unknown => buffer::put(b"--", out, end),
+        Kind::Position => sides(p, out, end),
+        Kind::MicE => sides(p, out, end),
+    }
+}
+
 // A record in words, from the answer 0 on. The words of a later request go behind them.
 pub fn record(r: Record, line: &[u8], plain: bool, out: &mut [u8], at: usize) -> usize {
     let h = r.header;
     let b = r.body;
     let k = b.kind;
+    let p = b.place;
     let c = b.comment;
     let mut end = kind(k, out, at);
     end = header(h, plain, out, end);
     end = body(b, out, end);
-    again(r, comment_in(c, line), plain, out, end)
+    end = again(r, comment_in(c, line), plain, out, end);
+    letters(k, p, out, end)
 }

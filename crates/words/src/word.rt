@@ -27,6 +27,33 @@ pub fn skip(s: &[u8], n: usize) -> &[u8] {
     t
 }
 
+// What stands behind the first word, from its space on: nothing where that word is the last.
+pub fn behind(s: &[u8]) -> &[u8] {
+    lines::tail(s, laws::find(s, b' '))
+}
+
+// ---- words `name=value` that may be left out: each with the space before it, which its name has too, as in ` letters=`
+
+// Whether such a word of that name is next.
+pub fn has(s: &[u8], name: &[u8]) -> bool {
+    check::same(lines::cut(s, name.len()), name)
+}
+
+// Its value.
+pub fn value<'a>(s: &'a [u8], name: &[u8]) -> &'a [u8] {
+    lines::first(lines::tail(s, name.len()))
+}
+
+// What stands behind it; all of s where it is not next.
+pub fn past<'a>(s: &'a [u8], name: &[u8]) -> &'a [u8] {
+    if has(s, name) {
+        return behind(lines::tail(s, name.len()));
+    }
+    s
+}
+
+// ---- what words mean
+
 // 0 for the one word, 1 for the other, 2 for any other.
 pub fn either(s: &[u8], one: &[u8], other: &[u8]) -> u8 {
     if check::same(s, one) {

@@ -145,7 +145,7 @@ static bool same_path(const tusselgro_path *a, const tusselgro_path *b) {
 
 static bool same_place(const tusselgro_place *a, const tusselgro_place *b) {
     return a->latitude == b->latitude && a->longitude == b->longitude && a->blanks == b->blanks &&
-           a->table == b->table && a->code == b->code;
+           a->table == b->table && a->code == b->code && a->south == b->south && a->west == b->west;
 }
 
 static bool same_report(const tusselgro_report *a, const tusselgro_report *b) {

@@ -1,4 +1,4 @@
-/* Fields listed, bounds and boxes: document 01's values. What a refusal means, in words. */
+/* Fields listed and bounds: document 01's values. Boxes: document 02's rule. What a refusal means, in words. */
 #include "check.h"
 
 #include <string.h>
@@ -54,38 +54,72 @@ void check_listing(void) {
     answer = list_longitude(270000, true, false, 0);
     REFUSED(answer, 0);
     HOLDS(answer.reported == 0);
+    answer = list_longitude(-1, true, false, 0);
+    HOLDS(answer.refusal == 0 && answer.reported == 0);
+    answer = list_longitude(1, true, true, 0);
+    HOLDS(answer.refusal == 0 && answer.reported == 0);
     REFUSED(list_longitude(1080000, true, false, 512), 0);
     REFUSED(list_longitude(1080001, true, false, 512), 15);
     REFUSED(list_longitude(INT32_MIN, true, true, 512), 15);
     REFUSED(list_longitude(0, true, false, 5), 16);
+    answer = list_longitude(0, true, true, 6);
+    HOLDS(answer.refusal == 0 && answer.reported == 2 && memcmp(written, "\x76\x1c\x1c\x76\x58\x1c", 6) == 0);
 }
 
 static bool is_box(tusselgro_box box, int32_t lower, int32_t upper) {
     return box.refusal == 0 && box.lower == lower && box.upper == upper;
 }
 
-static bool is_none(tusselgro_bounds bounds, tusselgro_box box) {
-    return bounds.lower == 0 && bounds.upper == 0 && box.refusal == 15 && box.lower == 0 && box.upper == 0;
-}
+static bool is_no_box(tusselgro_box box) { return box.refusal == 15 && box.lower == 0 && box.upper == 0; }
 
-void check_bounds(void) {
+enum { NORTH = 0, EAST = 0, SOUTH = 1, WEST = 1 };
+
+/* from the angle outward, on the side of its letter. */
+static void check_boxes(void) {
     static const int32_t widths[6] = {1, 10, 100, 1000, 6000, 60000};
     for (uint8_t blanks = 0; blanks <= 5; blanks++) {
-        HOLDS(is_box(tusselgro_latitude_box(540000, blanks), 1080000 - widths[blanks], 1080000 + widths[blanks]));
-        HOLDS(is_box(tusselgro_longitude_box(-1080000, blanks), -2160000 - widths[blanks], -2160000 + widths[blanks]));
+        int32_t twice = 2 * widths[blanks];
+        HOLDS(is_box(tusselgro_latitude_box(540000, blanks, NORTH), 1080000, 1080000 + twice));
+        HOLDS(is_box(tusselgro_latitude_box(-540000, blanks, SOUTH), -1080000 - twice, -1080000));
+        HOLDS(is_box(tusselgro_longitude_box(1080000, blanks, EAST), 2160000, 2160000 + twice));
+        HOLDS(is_box(tusselgro_longitude_box(-1080000, blanks, WEST), -2160000 - twice, -2160000));
+        HOLDS(is_box(tusselgro_longitude_box(0, blanks, EAST), 0, twice));
+        HOLDS(is_box(tusselgro_longitude_box(0, blanks, WEST), -twice, 0));
     }
+    HOLDS(is_box(tusselgro_latitude_box(540000, 0, NORTH), 1080000, 1080002));
+    HOLDS(is_box(tusselgro_latitude_box(0, 2, NORTH), 0, 200));
+    HOLDS(is_box(tusselgro_latitude_box(0, 2, SOUTH), -200, 0));
+    HOLDS(is_box(tusselgro_latitude_box(-50, 2, SOUTH), -300, -100));
+    HOLDS(is_no_box(tusselgro_latitude_box(-50, 2, NORTH)));
+    HOLDS(is_no_box(tusselgro_latitude_box(5, 2, SOUTH)));
+    HOLDS(is_no_box(tusselgro_longitude_box(-1, 0, EAST)));
+    HOLDS(is_no_box(tusselgro_longitude_box(1, 0, WEST)));
+    HOLDS(is_no_box(tusselgro_latitude_box(540001, 0, NORTH)));
+    HOLDS(is_no_box(tusselgro_latitude_box(-540001, 0, SOUTH)));
+    HOLDS(is_no_box(tusselgro_latitude_box(0, 6, NORTH)));
+    HOLDS(is_no_box(tusselgro_longitude_box(1080001, 0, EAST)));
+    HOLDS(is_no_box(tusselgro_longitude_box(INT32_MIN, 255, WEST)));
+}
+
+static bool is_none(tusselgro_bounds bounds) { return bounds.lower == 0 && bounds.upper == 0; }
+
+/* The bounds take no side: those of either 0 are the same. */
+void check_bounds(void) {
+    check_boxes();
     tusselgro_bounds bounds = tusselgro_latitude_bounds(294350, 0);
     double center = 49.0 + 3.0 / 60.0 + 50.0 / 6000.0, half = 1.0 / 6000.0 / 2.0;
     REFUSED(bounds, 0);
     HOLDS(bounds.lower == center - half && bounds.upper == center + half);
     bounds = tusselgro_longitude_bounds(-432000, 5);
     HOLDS(bounds.refusal == 0 && bounds.lower == -77.0 && bounds.upper == -67.0);
+    bounds = tusselgro_latitude_bounds(0, 2);
+    HOLDS(bounds.refusal == 0 && bounds.lower == -1.0 / 60.0 / 2.0 && bounds.upper == 1.0 / 60.0 / 2.0);
     bounds = tusselgro_latitude_bounds(540001, 0);
     REFUSED(bounds, 15);
-    HOLDS(is_none(bounds, tusselgro_latitude_box(540001, 0)));
+    HOLDS(is_none(bounds));
     bounds = tusselgro_longitude_bounds(0, 6);
     REFUSED(bounds, 15);
-    HOLDS(is_none(bounds, tusselgro_longitude_box(INT32_MIN, 255)));
+    HOLDS(is_none(bounds));
 }
 
 /* tests/refusals holds each of the words to docs/refusals.txt. */

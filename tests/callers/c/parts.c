@@ -240,7 +240,7 @@ static void position(const uint8_t *bytes, size_t size, unsigned setting, char *
     tusselgro_place p = r.place;
     (void)setting;
     sprintf(told, "%d %d %d %d %d %d%s%s%s%s", r.refusal, p.latitude, p.longitude, p.blanks, p.table, p.code,
-            r.south ? " south" : "", r.west ? " west" : "", r.latitude_sixty ? " latitude-sixty" : "",
+            p.south ? " south" : "", p.west ? " west" : "", r.latitude_sixty ? " latitude-sixty" : "",
             r.longitude_sixty ? " longitude-sixty" : "");
 }
 
@@ -258,24 +258,50 @@ static void check_positions(void) {
     TELLS(position, "49  .  N/072  .  W-", 0, "0 294000 -432000 4 47 45 west");
     TELLS(position, "0060.00S\xff" "00060.00E\x80", 0, "0 -6000 6000 0 255 128 south latitude-sixty longitude-sixty");
     TELLS(position, "0060.00S/00000.00W-", 0, "0 -6000 0 0 47 45 south west latitude-sixty");
+    TELLS(position, "0000.00S/00000.00W-", 0, "0 0 0 0 47 45 south west");
+    TELLS(position, "0000.00N/00000.00W-", 0, "0 0 0 0 47 45 west");
+    TELLS(position, "0000.  S/000xx.xxE-", 0, "9 0 0 0 0 0");
+    TELLS(position, "0000.  S/00000.  E-", 0, "0 0 0 2 47 45 south");
+    TELLS(position, "0000.00N/00000.00E-", 0, "0 0 0 0 47 45");
     TELLS(position, "", 0, "7 0 0 0 0 0");
     TELLS(position, "/5L!!<*e7>7P[xxxxxxxx", 0, "7 0 0 0 0 0");
     TELLS(position, "4903.50N/07201.75W", 0, "10 0 0 0 0 0");
     TELLS(position, "\xb2", 0, "10 0 0 0 0 0");
     TELLS(position, "\xb2" "903.50N/07201.75W-", 0, "8 0 0 0 0 0");
     TELLS(position, "4903.50N/072  .  W-", 0, "9 0 0 0 0 0");
-    tusselgro_place place = {294350, -432175, 0, '/', '-'};
+    tusselgro_place place = {294350, -432175, 0, '/', '-', false, true};
     HOLDS(wrote(write_position(place, 19), BYTES("4903.50N/07201.75W-")));
     tusselgro_answer answer = write_position(place, 18);
     REFUSED(answer, 16);
     HOLDS(answer.needed == 19);
     place.blanks = 4;
     HOLDS(wrote(write_position(place, 100), BYTES("49  .  N/07201.75W-")));
-    REFUSED(write_position((tusselgro_place){294350, -432175, 6, '/', '-'}, 19), 15);
-    REFUSED(write_position((tusselgro_place){294350, -432175, 0, 128, '-'}, 19), 15);
-    REFUSED(write_position((tusselgro_place){294350, -432175, 0, '/', 255}, 19), 15);
-    REFUSED(write_position((tusselgro_place){540001, 0, 0, '/', '-'}, 19), 15);
-    REFUSED(write_position((tusselgro_place){0, INT32_MIN, 0, '/', '-'}, 0), 15);
+    REFUSED(write_position((tusselgro_place){294350, -432175, 6, '/', '-', false, true}, 19), 15);
+    REFUSED(write_position((tusselgro_place){294350, -432175, 0, 128, '-', false, true}, 19), 15);
+    REFUSED(write_position((tusselgro_place){294350, -432175, 0, '/', 255, false, true}, 19), 15);
+    REFUSED(write_position((tusselgro_place){540001, 0, 0, '/', '-', false, false}, 19), 15);
+    REFUSED(write_position((tusselgro_place){0, INT32_MIN, 0, '/', '-', false, true}, 0), 15);
+}
+
+/* at 0 any two letters are in range, and N and E are written; elsewhere the letters must be the angles' own. */
+static void check_letters(void) {
+    for (int letters = 0; letters < 4; letters++) {
+        bool south = letters & 1, west = letters & 2;
+        tusselgro_answer answer = write_position((tusselgro_place){0, 0, 0, '/', '-', south, west}, 19);
+        HOLDS(wrote(answer, BYTES("0000.00N/00000.00E-")));
+        answer = write_position((tusselgro_place){-50, 1, 2, '/', '-', south, west}, 19);
+        if (south && !west) {
+            HOLDS(wrote(answer, BYTES("0000.  S/00000.01E-")));
+        } else {
+            REFUSED(answer, 15);
+        }
+        answer = write_position((tusselgro_place){1, -1, 0, '/', '-', south, west}, 100);
+        if (!south && west) {
+            HOLDS(wrote(answer, BYTES("0000.01N/00000.01W-")));
+        } else {
+            REFUSED(answer, 15);
+        }
+    }
 }
 
 /* ---- Mic-E */
@@ -292,6 +318,8 @@ static void check_destinations(void) {
     TELLS(destination, "S32U6T", 0, "0 200564 3 0 west");
     TELLS(destination, "S32UVT", 0, "0 200564 3 0 hundred west");
     TELLS(destination, "4LLLLL", 0, "0 -240000 14 5 south");
+    TELLS(destination, "0LLLLL", 0, "0 0 14 5 south");
+    TELLS(destination, "000PPP", 0, "0 0 14 0 hundred west");
     TELLS(destination, "AAA000", 0, "0 0 7 0 south");
     TELLS(destination, "336000", 0, "0 -204000 14 0 south sixty");
     TELLS(destination, "PAP000", 0, "0 0 15 0 south");
@@ -304,6 +332,8 @@ static void check_destinations(void) {
     IS(tusselgro_write_destination(200564, 0, TUSSELGRO_M3, -72774), "S32U6T", 0);
     IS(tusselgro_write_destination(200564, 0, TUSSELGRO_M3, -672774), "S32UVT", 0);
     IS(tusselgro_write_destination(-240000, 5, TUSSELGRO_EMERGENCY, 60000), "4LLLLL", 0);
+    IS(tusselgro_write_destination(0, 5, TUSSELGRO_EMERGENCY, 60000), "0LLZLL", 0);
+    IS(tusselgro_write_destination(0, 0, TUSSELGRO_EMERGENCY, 0), "000PP0", 0);
     IS(tusselgro_write_destination(0, 0, 16, 0), zeros, 15);
     IS(tusselgro_write_destination(0, 0, 255, 0), zeros, 15);
     IS(tusselgro_write_destination(540001, 0, 0, 0), zeros, 15);
@@ -363,6 +393,7 @@ void check_parts(void) {
     check_angles_read();
     check_angles_written();
     check_positions();
+    check_letters();
     check_destinations();
     check_information();
 }

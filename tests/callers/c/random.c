@@ -38,6 +38,8 @@ static const char *const lines[] = {
     "A>B,1,2*,3,4,5,6,7,8:=49  .  N/072  .  W-",
     "A>S32UVT:`(_fn\"Oj/Hello",
     "A>4LLLLL,WIDE2*:'(_fn\"Oj/",
+    "A>B:!0000.  S/00000.00W-",
+    "A>0000PP:`vX\x1cn\"Oj/",
     "ABCDEFGHIJKLMN-0>B,qAC,*,:>hi",
     "\xc3\xa9-00>\xe2\x82\xac*:!9000.00S/18000.00W!",
 };
@@ -79,7 +81,7 @@ static size_t any_frame(uint8_t *bytes) {
             bytes[size++] = (uint8_t)(2 * "ABCKLPZ0159 "[below(place < 3 ? 11 : 12)]);
         bytes[size++] = (uint8_t)((next() & 0xfe) | (at + 1 == addresses));
     }
-    const char *body = strchr(lines[below(4)], ':') + 1;
+    const char *body = strchr(lines[below(6)], ':') + 1;
     bytes[size++] = 0x03;
     bytes[size++] = 0xf0;
     memcpy(bytes + size, body, strlen(body));
@@ -87,6 +89,18 @@ static size_t any_frame(uint8_t *bytes) {
 }
 
 /* ---- what is called */
+
+/* a letter beside an angle that is not 0 and lies on the other side */
+static bool contradicts(bool minus, int32_t angle) { return angle != 0 && minus != (angle < 0); }
+
+static bool contradicted(tusselgro_place p) {
+    return contradicts(p.south, p.latitude) || contradicts(p.west, p.longitude);
+}
+
+/* none but that of the angle, and none in a kind without a position */
+static bool lettered(const tusselgro_body *b) {
+    return !contradicted(b->place) && (b->kind != TUSSELGRO_UNKNOWN || (!b->place.south && !b->place.west));
+}
 
 static void any_read(void) {
     uint8_t bytes[MOST + 8];
@@ -97,6 +111,7 @@ static void any_read(void) {
     tusselgro_comment comment = read.record.body.comment;
     HOLDS(comment.at <= size && comment.len <= size - comment.at);
     HOLDS(read.record.header.path.count <= TUSSELGRO_MOST_HOPS);
+    HOLDS(lettered(&read.record.body));
     if (read.refusal != 0) return;
     write_lent(tusselgro_write_text, read.record, bytes + comment.at, comment.len, below(MOST));
     write_lent(tusselgro_write_frame, read.record, bytes + comment.at, comment.len, below(MOST));
@@ -106,6 +121,8 @@ static void any_read(void) {
 static tusselgro_record wild_record(void) {
     tusselgro_record record;
     any_bytes((uint8_t *)&record, sizeof record);
+    memset(&record.body.place.south, one_in(2), 1);
+    memset(&record.body.place.west, one_in(2), 1);
     memset(&record.body.messaging, one_in(2), 1);
     memset(&record.body.report.current, one_in(2), 1);
     for (int at = 0; at < TUSSELGRO_MOST_HOPS; at++) memset(&record.header.path.hops[at].heard, one_in(2), 1);
@@ -116,15 +133,24 @@ static tusselgro_record wild_record(void) {
 static tusselgro_record near_record(void) {
     uint8_t bytes[MOST + 8];
     tusselgro_record record = tusselgro_read_text(bytes, any_line(bytes)).record;
-    switch (below(9)) {
+    tusselgro_place *place = &record.body.place;
+    switch (below(11)) {
         case 0: record.body.kind = (uint8_t)below(5); break;
         case 1: record.body.report.message = (uint8_t)below(20); break;
-        case 2: record.body.place.blanks = (uint8_t)below(8); break;
-        case 3: record.body.place.latitude = (int32_t)below(1100000) - 550000; break;
-        case 4: record.body.place.longitude = (int32_t)below(2200000) - 1100000; break;
+        case 2: place->blanks = (uint8_t)below(8); break;
+        case 3:
+            place->latitude = (int32_t)below(1100000) - 550000;
+            place->south = one_in(8) ? one_in(2) : place->latitude < 0;
+            break;
+        case 4:
+            place->longitude = (int32_t)below(2200000) - 1100000;
+            place->west = one_in(8) ? one_in(2) : place->longitude < 0;
+            break;
         case 5: record.body.report.speed = (uint32_t)below(900); break;
         case 6: record.header.path.count = below(12); break;
         case 7: record.header.from.call_len = below(20); break;
+        case 8: place->south = !place->south; break;
+        case 9: place->west = !place->west; break;
         default: record.header.to.ssid_len = one_in(2) ? below(20) : (size_t)next(); break;
     }
     return record;
@@ -134,7 +160,9 @@ static void any_write(void) {
     uint8_t comment[MOST];
     size_t size = any_bytes(comment, below(MOST));
     tusselgro_record record = one_in(4) ? wild_record() : near_record();
-    write_lent(one_in(2) ? tusselgro_write_frame : tusselgro_write_text, record, comment, size, below(MOST));
+    writer *function = one_in(2) ? tusselgro_write_frame : tusselgro_write_text;
+    tusselgro_answer answer = write_lent(function, record, comment, size, below(MOST));
+    HOLDS(lettered(&record.body) || answer.refusal == 15);
 }
 
 /* ---- the parts of a packet: what is read of one can be written, and reads as the same again */
@@ -173,6 +201,7 @@ static void latitude_again(const uint8_t *bytes, size_t size) {
     HOLDS(tusselgro_write_latitude(r.latitude, r.blanks, out, 8).refusal == 0);
     tusselgro_latitude_read again = tusselgro_read_latitude(out, 8);
     HOLDS(again.refusal == 0 && again.latitude == r.latitude && again.blanks == r.blanks);
+    HOLDS(!contradicts(r.south, r.latitude) && again.south == (r.latitude < 0));
 }
 
 static void longitude_again(const uint8_t *bytes, size_t size) {
@@ -183,12 +212,14 @@ static void longitude_again(const uint8_t *bytes, size_t size) {
     HOLDS(tusselgro_write_longitude(r.longitude, out, 9).refusal == 0);
     tusselgro_longitude_read again = tusselgro_read_longitude(out, 9, blanks);
     HOLDS(again.refusal == 0 && again.longitude == r.longitude);
+    HOLDS(!contradicts(r.west, r.longitude) && again.west == (r.longitude < 0));
 }
 
 static void position_again(const uint8_t *bytes, size_t size) {
     tusselgro_position_read r = tusselgro_read_position(bytes, size);
     HOLDS(r.refusal == 0 || (r.refusal >= 7 && r.refusal <= 10));
     if (r.refusal != 0) return;
+    HOLDS(!contradicted(r.place));
     uint8_t out[19];
     tusselgro_answer answer = tusselgro_write_position(r.place, out, 19);
     if (r.place.table >= 128 || r.place.code >= 128) {
@@ -198,6 +229,9 @@ static void position_again(const uint8_t *bytes, size_t size) {
     tusselgro_place again = tusselgro_read_position(out, 19).place;
     HOLDS(again.latitude == r.place.latitude && again.longitude == r.place.longitude);
     HOLDS(again.blanks == r.place.blanks && again.table == r.place.table && again.code == r.place.code);
+    HOLDS(again.south == (r.place.latitude < 0) && again.west == (r.place.longitude < 0));
+    r.place.south = !r.place.south;
+    HOLDS(tusselgro_write_position(r.place, out, 19).refusal == (r.place.latitude == 0 ? 0 : 15));
 }
 
 static void destination_again(const uint8_t *bytes, size_t size) {
@@ -208,6 +242,7 @@ static void destination_again(const uint8_t *bytes, size_t size) {
     tusselgro_destination_read again = tusselgro_read_destination(written.bytes, 6);
     HOLDS(written.refusal == 0 && again.refusal == 0 && again.latitude == r.latitude);
     HOLDS(again.message == r.message && again.blanks == r.blanks && again.west == r.west);
+    HOLDS(!contradicts(r.south, r.latitude) && again.south == (r.latitude < 0));
 }
 
 static void information_again(const uint8_t *bytes, size_t size) {
@@ -266,13 +301,24 @@ static void any_list(void) {
     for (size_t at = 3; at < 3 * answer.reported; at += 3) HOLDS(memcmp(written + at - 3, written + at, 3) < 0);
 }
 
+/* Document 02's R-1, of an angle of at most that size: from the angle outward, on the side of its letter. */
+static bool is_box(tusselgro_box box, int32_t most, int64_t angle, uint8_t blanks, bool minus) {
+    static const int32_t widths[6] = {1, 10, 100, 1000, 6000, 60000};
+    if (angle < -most || angle > most || blanks > 5 || contradicts(minus, (int32_t)angle))
+        return box.refusal == 15 && box.lower == 0 && box.upper == 0;
+    int64_t lower = minus ? angle - widths[blanks] : angle, upper = minus ? angle : angle + widths[blanks];
+    return box.refusal == 0 && box.lower == 2 * lower && box.upper == 2 * upper;
+}
+
 static void any_bounds(void) {
     int32_t angle = one_in(4) ? (int32_t)next() : (int32_t)below(2200000) - 1100000;
+    if (one_in(4)) angle = (int32_t)below(3) - 1;
     uint8_t blanks = (uint8_t)below(8);
+    bool minus = one_in(8) ? one_in(2) : angle == 0 ? one_in(2) : angle < 0;
     tusselgro_bounds bounds = one_in(2) ? tusselgro_latitude_bounds(angle, blanks) : tusselgro_longitude_bounds(angle, blanks);
     HOLDS(bounds.refusal == 0 ? bounds.lower < bounds.upper : bounds.refusal == 15 && bounds.lower == 0 && bounds.upper == 0);
-    tusselgro_box box = one_in(2) ? tusselgro_latitude_box(angle, blanks) : tusselgro_longitude_box(angle, blanks);
-    HOLDS(box.refusal == 0 ? box.lower < box.upper : box.refusal == 15 && box.lower == 0 && box.upper == 0);
+    HOLDS(is_box(tusselgro_latitude_box(angle, blanks, minus), 540000, angle, blanks, minus));
+    HOLDS(is_box(tusselgro_longitude_box(angle, blanks, minus), 1080000, angle, blanks, minus));
 }
 
 /* ---- turns */

@@ -1,4 +1,4 @@
-/* Lines and frames read: document 01's values, and every refusal that a reader can give. */
+/* Lines and frames read: document 01's values, document 02's letters, and every refusal that a reader can give. */
 #include "check.h"
 
 #include <string.h>
@@ -23,6 +23,7 @@ static void check_position(void) {
     HOLDS(b.kind == TUSSELGRO_POSITION && !b.messaging && !b.report.current && b.report.message == 0);
     HOLDS(b.place.latitude == 294350 && b.place.longitude == -432175 && b.place.blanks == 0);
     HOLDS(b.place.table == '/' && b.place.code == '-' && b.report.speed == 0 && b.report.course == 0);
+    HOLDS(!b.place.south && b.place.west);
     HOLDS(b.comment.at == 56 && b.comment.len == 4);
     HOLDS(is_call(h.from, "N0CALL", "01") && is_call(h.to, "APRS", ""));
     HOLDS(h.path.count == 3 && is_call(h.path.hops[0].call, "WIDE1", "1") && is_call(h.path.hops[2].call, "K1A", ""));
@@ -31,7 +32,7 @@ static void check_position(void) {
     HOLDS(b.messaging && b.place.blanks == 4 && b.place.latitude == 294000 && b.place.longitude == -432000);
     read = LINE("A>B:");
     REFUSED(read, 0);
-    HOLDS(read.record.body.kind == TUSSELGRO_UNKNOWN);
+    HOLDS(read.record.body.kind == TUSSELGRO_UNKNOWN && !read.record.body.place.south && !read.record.body.place.west);
     HOLDS(is_call(read.record.header.from, "A", "") && read.record.header.path.count == 0);
 }
 
@@ -65,6 +66,29 @@ static void check_mic_e(void) {
     HOLDS(read.refusal == 0 && read.record.body.report.message == TUSSELGRO_MESSAGE_UNKNOWN);
     read = LINE("A>AAA000:`(_fn\"Oj/");
     HOLDS(read.refusal == 0 && read.record.body.report.message == TUSSELGRO_C0);
+}
+
+static bool has_letters(tusselgro_read read, bool south, bool west) {
+    return read.refusal == 0 && read.record.body.place.south == south && read.record.body.place.west == west;
+}
+
+/* R-1: as they stand in a position; in Mic-E N and W where the fourth and the sixth character are P to Z. */
+static void check_letters(void) {
+    HOLDS(has_letters(LINE("A>B:!0000.00N/00000.00E-"), false, false));
+    HOLDS(has_letters(LINE("A>B:!0000.00S/00000.00E-"), true, false));
+    HOLDS(has_letters(LINE("A>B:=0000.00N/00000.00W-"), false, true));
+    tusselgro_read read = LINE("A>B:!0000.00S/00000.00W-");
+    HOLDS(has_letters(read, true, true));
+    HOLDS(read.record.body.place.latitude == 0 && read.record.body.place.longitude == 0);
+    HOLDS(has_letters(LINE("A>B:!9000.00S/18000.00E-"), true, false));
+    read = LINE("A>0LLLLL:`(_fn\"Oj/");
+    HOLDS(has_letters(read, true, false) && read.record.body.place.latitude == 0);
+    HOLDS(has_letters(LINE("A>000PLZ:`(_fn\"Oj/"), false, true));
+    HOLDS(has_letters(LINE("A>0000PL:`vX\x1c\x1c\x1c\x1cj/"), true, false));
+    read = LINE("A>0000PP:`vX\x1c\x1c\x1c\x1cj/");
+    HOLDS(has_letters(read, true, true));
+    HOLDS(read.record.body.place.latitude == 0 && read.record.body.place.longitude == 0);
+    HOLDS(has_letters(LINE("A>S32U6T:`(_fn\"Oj/"), false, true));
 }
 
 /* P11 and P12. */
@@ -113,6 +137,8 @@ static void check_frames(void) {
     REFUSED(read, 0);
     tusselgro_header h = read.record.header;
     HOLDS(read.record.body.kind == TUSSELGRO_POSITION && read.record.body.place.latitude == 294350);
+    HOLDS(has_letters(read, false, true));
+    HOLDS(has_letters(FRAME(TO LAST_FROM PAIR "!0000.00S/00000.00W-"), true, true));
     HOLDS(is_call(h.from, "N0CALL", "1") && is_call(h.to, "APRS", "") && h.path.count == 1);
     HOLDS(is_call(h.path.hops[0].call, "N0CALL", "1") && h.path.hops[0].heard && read.record.body.comment.at == 43);
     REFUSED(FRAME(MIC_E_TO LAST_FROM PAIR "`(_fn\"Oj/"), 0);
@@ -137,6 +163,7 @@ static void check_frames(void) {
 void check_reading(void) {
     check_position();
     check_mic_e();
+    check_letters();
     check_values();
     check_line_refusals();
     check_frames();

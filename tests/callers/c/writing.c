@@ -1,4 +1,4 @@
-/* Records written: document 01's values, every refusal that a writer can give, and wild records. */
+/* Records written: document 01's values, document 02's letters, every refusal of a writer, and wild records. */
 #include "check.h"
 
 #include <string.h>
@@ -25,12 +25,32 @@ static void check_round(void) {
     HOLDS(wrote(TEXT(READ("X>Y,A,B*,C:=0000.00N/00000.00E-"), "", 512), BYTES("X>Y,A,B*,C:=0000.00N/00000.00E-")));
 }
 
+/* R-1: 0 is written N and E, whatever the letters say; in Mic-E P to Z fourth, a digit or L sixth. */
+static void check_zeros(void) {
+    HOLDS(wrote(TEXT(READ("A>B:!0000.00S/00000.00W-"), "", 512), BYTES("A>B:!0000.00N/00000.00E-")));
+    HOLDS(wrote(TEXT(READ("A>0000PP:`vX\x1cn\"Oj/"), "", 512), BYTES("A>000PP0:`vX\x1cn\"Oj/")));
+    HOLDS(wrote(TEXT(READ("A>0LLLLL:`(_fn\"Oj/"), "", 512), BYTES("A>0LLZLL:`(_fn\"Oj/")));
+    for (int letters = 0; letters < 4; letters++) {
+        tusselgro_record r = READ("A>B:!0000.00N/00000.00E-");
+        r.body.place.south = letters & 1;
+        r.body.place.west = letters & 2;
+        HOLDS(wrote(TEXT(r, "", 24), BYTES("A>B:!0000.00N/00000.00E-")));
+        REFUSED(FRAME(r, "", 36), 0);
+        HOLDS(memcmp(written + 16, "!0000.00N/00000.00E-", 20) == 0);
+        r = READ("A>000PP0:`vX\x1cn\"Oj/");
+        r.body.place.south = letters & 1;
+        r.body.place.west = letters & 2;
+        HOLDS(wrote(TEXT(r, "", 18), BYTES("A>000PP0:`vX\x1cn\"Oj/")));
+    }
+}
+
 /* P4: 799 knots, course 360. P7: 105 degrees east. P10: a hop of a frame that is heard and last. */
 static void check_values(void) {
     tusselgro_record r = read_record(mic_e_line);
     r.body.report.speed = 799;
     r.body.report.course = 360;
     r.body.place.longitude = 630000;
+    r.body.place.west = false;
     tusselgro_answer answer = TEXT(r, "", 512);
     HOLDS(answer.refusal == 0 && answer.reported == 18);
     HOLDS(memcmp(written + 10, "\x71\x58\x1c\x6b\x7d\x58", 6) == 0);
@@ -82,7 +102,11 @@ static void check_range(void) {
     SPOILT(position_line, r.body.kind = 255);
     SPOILT(position_line, r.body.kind = TUSSELGRO_UNKNOWN);
     SPOILT(position_line, r.body.place.latitude = 540001);
-    SPOILT(position_line, r.body.place.latitude = INT32_MIN);
+    SPOILT(position_line, r.body.place.latitude = INT32_MIN; r.body.place.south = true);
+    SPOILT(position_line, r.body.place.south = true);
+    SPOILT(position_line, r.body.place.west = false);
+    SPOILT(position_line, r.body.place.latitude = -1);
+    SPOILT(position_line, r.body.place.longitude = 1);
     SPOILT(position_line, r.body.place.longitude = -1080001);
     SPOILT(position_line, r.body.place.blanks = 6);
     SPOILT(position_line, r.body.place.table = 128);
@@ -104,12 +128,19 @@ static void check_range(void) {
     SPOILT(position_line, r.header.to = zero_ssid);
     SPOILT(mic_e_line, r.body.report.message = 16);
     SPOILT(mic_e_line, r.body.report.message = 255);
-    SPOILT(mic_e_line, r.body.place.longitude = 1080000);
+    SPOILT(mic_e_line, r.body.place.longitude = 1080000; r.body.place.west = false);
+    SPOILT(mic_e_line, r.body.place.longitude = -1080000);
+    SPOILT(mic_e_line, r.body.place.south = true);
+    SPOILT(mic_e_line, r.body.place.west = false);
+    SPOILT(mic_e_line, r.body.place.latitude = -1);
+    SPOILT(mic_e_line, r.body.place.longitude = 1);
     SPOILT(mic_e_line, r.body.report.speed = 800);
     SPOILT(mic_e_line, r.body.report.course = 361);
     SPOILT(mic_e_line, r.body.messaging = true);
     SPOILT(mic_e_line, r.header.to = r.header.from);
     SPOILT("A>B:", r.body.place.latitude = 1);
+    SPOILT("A>B:", r.body.place.south = true);
+    SPOILT("A>B:", r.body.place.west = true);
     SPOILT("A>B:", r.body.messaging = true);
 }
 
@@ -127,6 +158,7 @@ static void check_messages(void) {
 
 void check_writing(void) {
     check_round();
+    check_zeros();
     check_values();
     check_refusals();
     check_range();

@@ -2,9 +2,10 @@
 
 use crate::packets::*;
 use crate::random::Random;
-use crate::records::{Form, Record};
+use crate::records::{Record, LATITUDE_SIDES, LONGITUDE_SIDES};
 use crate::Request;
-use protocol::{LATITUDE_LIMIT, LONGITUDE_LIMIT};
+use protocol::rules::Limit;
+use protocol::{Form, LATITUDE_LIMIT, LONGITUDE_LIMIT};
 
 pub fn text_unknown(random: &mut Random) -> Request {
     Request::Text(packet(random, unknown).line())
@@ -155,7 +156,29 @@ fn record(random: &mut Random, kind: &'static str) -> Record {
         record.table = random.below(256);
         record.code = random.below(256);
     }
+    record.letters = letters(random, &record);
     record
+}
+
+fn agreeing_letter(random: &mut Random, limit: Limit, angle: i64) -> u8 {
+    if angle == 0 {
+        *random.pick(&limit.letters())
+    } else {
+        limit.own_letter(angle)
+    }
+}
+
+/// Left out, ones that the record may have, or any.
+fn letters(random: &mut Random, record: &Record) -> Option<[u8; 2]> {
+    match random.below(4) {
+        0 | 1 => None,
+        2 if record.kind == "unknown" => Some(*b"--"),
+        2 => Some([
+            agreeing_letter(random, Limit::Latitude, record.latitude),
+            agreeing_letter(random, Limit::Longitude, record.longitude),
+        ]),
+        _ => Some([*random.pick(b"NS-"), *random.pick(b"EW-")]),
+    }
 }
 
 fn ssid_text(random: &mut Random) -> Vec<u8> {
@@ -179,6 +202,6 @@ pub fn written_mic_e(random: &mut Random) -> Request {
 }
 
 pub fn bounds(random: &mut Random) -> Request {
-    let (limit, name) = *random.pick(&[(LATITUDE_LIMIT, "lat"), (LONGITUDE_LIMIT, "lon")]);
-    Request::Line(format!("B {} {} {}", angle(random, limit), random.below(6), name))
+    let (limit, sides) = *random.pick(&[(LATITUDE_LIMIT, LATITUDE_SIDES), (LONGITUDE_LIMIT, LONGITUDE_SIDES)]);
+    Request::Line(format!("B {} {} {}", angle(random, limit), random.below(6), random.pick(&sides)))
 }

@@ -28,7 +28,7 @@ enum Maker {
 
 use Maker::{Drawn, Whole};
 
-const KINDS: [(&str, Maker); 41] = [
+const KINDS: [(&str, Maker); 43] = [
     ("text-unknown", Drawn(drawn::text_unknown)),
     ("text-position", Drawn(drawn::text_position)),
     ("text-mic-e", Drawn(drawn::text_mic_e)),
@@ -52,6 +52,7 @@ const KINDS: [(&str, Maker); 41] = [
     ("cut", Whole(whole::cut)),
     ("position-first-bytes", Whole(whole::position_first_bytes)),
     ("symbols", Whole(whole::symbols)),
+    ("letters", Whole(whole::letters)),
     ("hops", Whole(whole::hops)),
     ("frame-shapes", Whole(whole::frame_shapes)),
     ("callsigns", Whole(whole::callsigns)),
@@ -67,6 +68,7 @@ const KINDS: [(&str, Maker); 41] = [
     ("written-rooms", Whole(whole::written_rooms)),
     ("written-lengths", Whole(whole::written_lengths)),
     ("written-limits", Whole(whole::written_limits)),
+    ("written-letters", Whole(whole::written_letters)),
     ("written-callsigns", Whole(whole::written_callsigns)),
     ("bounds", Drawn(drawn::bounds)),
     ("bounds-limits", Whole(whole::bounds_limits)),

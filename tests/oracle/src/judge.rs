@@ -1,7 +1,9 @@
 // Judges one request: are the oracle's answer and the port's equal on document 01's domain of equality?
-// Of two refusals only the fact counts; where the oracle marks its answer, document 01's own number is demanded.
+// Of two refusals only the fact counts; where the oracle marks its answer, document 01's own number is demanded. What the Rust does
+// not have, the letters and the page box, is held to document 02's rules.
 
-use protocol::{from_decimal, words, Mark};
+use protocol::rules::{self, Limit};
+use protocol::{from_decimal, from_hex, words, Form, Mark};
 
 /// The numbers that a reader can answer, and those that any function can.
 const LAST_OF_READING: u32 = 12;
@@ -77,10 +79,23 @@ fn judge_rewritten(oracle: &[u8], ours: &[u8]) -> Result<Rewritten, &'static str
     }
 }
 
-fn judge_record(oracle: &[u8], ours: &[u8]) -> Judgement {
-    let (oracle, ours) = (words(oracle), words(ours));
-    if oracle.len() != ours.len() {
+/// The word `letters=XY` that stands behind the Rust's fields.
+fn letters_word(request: &[u8], kind: &[u8]) -> Option<Vec<u8>> {
+    let (form, input) = match words(request).as_slice() {
+        [b"T", input] => (Form::Text, from_hex(input)?),
+        [b"F", input] => (Form::Frame, from_hex(input)?),
+        _ => return None,
+    };
+    Some([&b"letters="[..], &rules::letters(kind, &input, form)?].concat())
+}
+
+fn judge_record(request: &[u8], oracle: &[u8], ours: &[u8]) -> Judgement {
+    let (oracle, mut ours) = (words(oracle), words(ours));
+    if ours.len() != oracle.len() + 1 {
         return Different("accepted by the Rust").into();
+    }
+    if letters_word(request, oracle[1]).as_deref() != ours.pop() {
+        return Different("the letters").into();
     }
     let mut rewritten = Vec::new();
     for (oracle, ours) in oracle.iter().zip(&ours) {
@@ -104,7 +119,7 @@ fn judge_record(oracle: &[u8], ours: &[u8]) -> Judgement {
     }
 }
 
-fn judge_reading(oracle: &[u8], ours: &[u8]) -> Judgement {
+fn judge_reading(request: &[u8], oracle: &[u8], ours: &[u8]) -> Judgement {
     let refused = refusal(ours, LAST_OF_READING);
     let demanded = |is_met: bool, verdict: Verdict, otherwise: &'static str| {
         if is_met {
@@ -114,7 +129,7 @@ fn judge_reading(oracle: &[u8], ours: &[u8]) -> Judgement {
         }
     };
     match words(oracle).as_slice() {
-        [b"0", ..] => judge_record(oracle, ours),
+        [b"0", _, ..] => judge_record(request, oracle, ours),
         [b"outside", mark, b"0"] => match Mark::named(mark) {
             Some(mark) => demanded(
                 refused.is_some() && refused == mark.number_read(),
@@ -163,28 +178,42 @@ fn judge_writing(request: &[u8], oracle: &[u8], ours: &[u8]) -> Verdict {
     }
 }
 
-/// The page box, words four and five, is the port's own and is not compared.
-fn judge_bounds(oracle: &[u8], ours: &[u8]) -> Verdict {
-    let out_of_range = format!("15 {:016x} {:016x} 0 0", 0, 0);
-    match (words(oracle).as_slice(), words(ours).as_slice()) {
-        ([b"outside", b"range"], _) if ours == out_of_range.as_bytes() => Outside(Mark::Range),
-        ([b"outside", ..], _) => Different("document 01 names the number and bounds"),
-        ([b"0", lower, upper, _, _], [b"0", our_lower, our_upper, _, _]) => {
-            if lower == our_lower && upper == our_upper {
-                Accepted
-            } else {
-                Different("the bounds")
-            }
+/// The last words of an answer to B, which are the page box.
+fn page_words(request: &[u8]) -> Option<String> {
+    match words(request).as_slice() {
+        [_, angle, blanks, limit, side @ ..] => {
+            let (angle, limit) = (from_decimal(angle)?, Limit::named(limit)?);
+            let blanks = usize::try_from(from_decimal(blanks)?).ok()?;
+            Some(rules::page_words(limit, angle, blanks, rules::side(limit, angle, side)?))
         }
-        _ => Different("the answer"),
+        _ => None,
+    }
+}
+
+fn judge_bounds(request: &[u8], oracle: &[u8], ours: &[u8]) -> Verdict {
+    let page = match page_words(request) {
+        Some(page) => format!(" {}", page),
+        None => return Different("a request that names no angle"),
+    };
+    let bounds = match ours.strip_suffix(page.as_bytes()) {
+        Some(bounds) => bounds,
+        None => return Different("the page box"),
+    };
+    let out_of_range = format!("15 {:016x} {:016x}", 0, 0);
+    match words(oracle).as_slice() {
+        [b"outside", b"range"] if bounds == out_of_range.as_bytes() => Outside(Mark::Range),
+        [b"outside", ..] => Different("document 01 names the number and bounds"),
+        [b"0", _, _] if bounds == oracle => Accepted,
+        [b"0", _, _] => Different("the bounds"),
+        _ => Different("no answer of the Rust"),
     }
 }
 
 pub fn judge(request: &[u8], oracle: &[u8], ours: &[u8]) -> Judgement {
     match request.first() {
-        Some(b'T' | b'F') => judge_reading(oracle, ours),
+        Some(b'T' | b'F') => judge_reading(request, oracle, ours),
         Some(b'W') => judge_writing(request, oracle, ours).into(),
-        Some(b'B') => judge_bounds(oracle, ours).into(),
+        Some(b'B') => judge_bounds(request, oracle, ours).into(),
         _ => Different("a request the oracle does not know").into(),
     }
 }

@@ -1,6 +1,7 @@
 // The unchanged Rust crate as judge: answers requests of INSPECT.md (T, F, W, B), one a line, one answer a line.
 // Answers outside document 01's domain of equality are marked. With --plain each mark gives way to document 01's number,
-// so that the program can stand in for the port when the comparison itself is tested.
+// and what the Rust does not have is added by document 02's rules, so that the program can stand in for the port when the
+// comparison itself is tested.
 
 mod bounds;
 mod reading;
@@ -10,8 +11,7 @@ mod writing;
 use std::io::{self, BufReader, BufWriter, Write};
 use std::panic::{self, AssertUnwindSafe};
 
-use protocol::{next_line, words};
-use record::Form;
+use protocol::{next_line, words, Form};
 
 const LONGEST_REQUEST: usize = 4096;
 
@@ -40,7 +40,7 @@ fn answer(request: &[u8], style: Style, out: &mut Vec<u8>) {
         [b"T", input] => reading::answer(input, Form::Text, style, out),
         [b"F", input] => reading::answer(input, Form::Frame, style, out),
         [b"W", rest @ ..] => writing::answer(rest, style, out),
-        [b"B", angle, blanks, limit] => bounds::answer(angle, blanks, limit, style, out),
+        [b"B", angle, blanks, limit, side @ ..] => bounds::answer(angle, blanks, limit, side, style, out),
         _ => None,
     };
     if answered.is_none() {

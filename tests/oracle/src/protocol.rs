@@ -1,5 +1,7 @@
-// What the programs of this folder share: hexadecimal, whole numbers, lines of a file, and the marks
+// What the programs of this folder share: hexadecimal, whole numbers, lines of a file, the parts of a packet, and the marks
 // that the oracle puts on answers outside document 01's domain of equality.
+
+pub mod rules;
 
 use std::io::{self, BufRead};
 
@@ -9,6 +11,13 @@ pub const LONGEST_CALLSIGN: usize = 16;
 pub const MOST_HOPS: usize = 8;
 pub const LATITUDE_LIMIT: i64 = 540_000;
 pub const LONGITUDE_LIMIT: i64 = 1_080_000;
+const ADDRESS: usize = 7;
+
+#[derive(Clone, Copy, PartialEq, Eq)]
+pub enum Form {
+    Text,
+    Frame,
+}
 
 pub fn push_hex(out: &mut Vec<u8>, bytes: &[u8]) {
     const DIGITS: &[u8; 16] = b"0123456789abcdef";
@@ -61,6 +70,20 @@ pub fn words(line: &[u8]) -> Vec<&[u8]> {
     line.split(|byte| *byte == b' ').collect()
 }
 
+/// What stands behind a line's first colon, or behind a frame's addresses and control pair.
+pub fn body_of(input: &[u8], form: Form) -> Option<&[u8]> {
+    match form {
+        Form::Text => {
+            let colon = input.iter().position(|byte| *byte == b':')?;
+            input.get(colon + 1..)
+        }
+        Form::Frame => {
+            let last = input.chunks(ADDRESS).position(|address| address.get(6).map_or(true, |end| end & 1 == 1))?;
+            input.get((last + 1) * ADDRESS + 2..)
+        }
+    }
+}
+
 /// Reads the next line, without its end, into `line`; false at the end of the input.
 pub fn next_line(input: &mut impl BufRead, line: &mut Vec<u8>) -> io::Result<bool> {
     line.clear();
@@ -86,12 +109,13 @@ pub enum Mark {
     CallsignText,
     SsidZero,
     Parts,
+    Letters,
     Symbol,
     MicE180,
 }
 
 impl Mark {
-    pub const ALL: [Mark; 12] = [
+    pub const ALL: [Mark; 13] = [
         Mark::TooLong,
         Mark::CallsignLength,
         Mark::Hops,
@@ -102,6 +126,7 @@ impl Mark {
         Mark::CallsignText,
         Mark::SsidZero,
         Mark::Parts,
+        Mark::Letters,
         Mark::Symbol,
         Mark::MicE180,
     ];
@@ -118,6 +143,7 @@ impl Mark {
             Mark::CallsignText => "callsign-text",
             Mark::SsidZero => "ssid-zero",
             Mark::Parts => "parts",
+            Mark::Letters => "letters",
             Mark::Symbol => "symbol",
             Mark::MicE180 => "mic-e-180",
         }
@@ -139,7 +165,7 @@ impl Mark {
         }
     }
 
-    /// The number that document 01 gives to a record so marked when it is to be written or bounded.
+    /// The number that document 01, and for `Letters` document 02, gives to a record so marked when it is to be written or bounded.
     pub fn number_written(self) -> u32 {
         match self {
             Mark::TooLong => 1,

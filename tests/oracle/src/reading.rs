@@ -2,11 +2,9 @@
 
 use aprs_parser::{AprsCst, AprsData, AprsPacket, DecodeError};
 use watch::Seen;
-use crate::record::{push_record, Form};
+use crate::record::push_record;
 use crate::{caught, Style};
-use protocol::{from_hex, Mark, LONGEST, LONGEST_CALLSIGN, MOST_HOPS};
-
-const ADDRESS: usize = 7;
+use protocol::{body_of, from_hex, Form, Mark, LONGEST, LONGEST_CALLSIGN, MOST_HOPS};
 
 /// Document 01's number for the crate's error, as far as the error tells it.
 fn number_of(error: &DecodeError) -> u32 {
@@ -56,19 +54,6 @@ fn mark_of_header(input: &[u8], form: Form, decoded: &Result<AprsPacket, DecodeE
         (Form::Text, _) => mark_of_text_header(input),
         (Form::Frame, Ok(packet)) if packet.via.len() > MOST_HOPS => Some(Mark::Hops),
         (Form::Frame, _) => None,
-    }
-}
-
-fn body_of(input: &[u8], form: Form) -> Option<&[u8]> {
-    match form {
-        Form::Text => {
-            let colon = input.iter().position(|byte| *byte == b':')?;
-            input.get(colon + 1..)
-        }
-        Form::Frame => {
-            let last = input.chunks(ADDRESS).position(|address| address.get(6).map_or(true, |end| end & 1 == 1))?;
-            input.get((last + 1) * ADDRESS + 2..)
-        }
     }
 }
 
@@ -128,7 +113,7 @@ pub fn answer(input: &[u8], form: Form, style: Style, out: &mut Vec<u8>) -> Opti
     let line = match (mark_of(&input, form, &decoded), decoded) {
         (Some(mark), _) if style == Style::Plain => mark.number_read().unwrap_or(number).to_string(),
         (Some(mark), _) => format!("outside {} {}", mark.name(), number),
-        (None, Ok(packet)) => return push_record(out, &packet, &input, style),
+        (None, Ok(packet)) => return push_record(out, &packet, &input, form, style),
         (None, Err(_)) if rests_on_shim && style == Style::Marked => format!("shim {}", number),
         (None, Err(_)) => number.to_string(),
     };

@@ -5,13 +5,7 @@ use aprs_parser::{
     AprsData, AprsPacket, Callsign, EncodeError, Latitude, Longitude, Precision, Via,
 };
 use crate::{caught, Style};
-use protocol::{push_hex, Mark, LONGEST, LONGITUDE_LIMIT};
-
-#[derive(Clone, Copy, PartialEq, Eq)]
-pub enum Form {
-    Text,
-    Frame,
-}
+use protocol::{push_hex, rules, Form, Mark, LONGEST, LONGITUDE_LIMIT};
 
 pub const PRECISIONS: [Precision; 6] = [
     Precision::HundredthMinute,
@@ -216,8 +210,8 @@ fn push_written(out: &mut Vec<u8>, packet: &AprsPacket, form: Form, style: Style
     }
 }
 
-/// The record line of an accepted input; `None` for the kinds that the port does not carry.
-pub fn push_record(out: &mut Vec<u8>, packet: &AprsPacket, input: &[u8], style: Style) -> Option<()> {
+/// The record line of an accepted input, as far as the Rust has its fields; `None` for the kinds that the port does not carry.
+pub fn push_record(out: &mut Vec<u8>, packet: &AprsPacket, input: &[u8], form: Form, style: Style) -> Option<()> {
     let fields = fields(&packet.data)?;
     let (at, length) = comment_place(fields.comment, input);
     out.extend_from_slice(b"0 ");
@@ -249,5 +243,9 @@ pub fn push_record(out: &mut Vec<u8>, packet: &AprsPacket, input: &[u8], style: 
     push_written(out, packet, Form::Text, style);
     out.extend_from_slice(b" frame=");
     push_written(out, packet, Form::Frame, style);
+    if style == Style::Plain {
+        out.extend_from_slice(b" letters=");
+        out.extend_from_slice(&rules::letters(fields.kind.as_bytes(), input, form)?);
+    }
     Some(())
 }

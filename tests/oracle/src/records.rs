@@ -1,6 +1,6 @@
-// Records made by hand, as the requests W of INSPECT.md.
+// Records made by hand, as the requests W of INSPECT.md, and the sides of the requests B.
 
-use protocol::push_hex;
+use protocol::{push_hex, Form};
 
 pub type Name = (Vec<u8>, Vec<u8>);
 
@@ -8,11 +8,9 @@ pub const MESSAGES: [&str; 16] = [
     "M0", "M1", "M2", "M3", "M4", "M5", "M6", "C0", "C1", "C2", "C3", "C4", "C5", "C6", "emergency", "unknown",
 ];
 
-#[derive(Clone, Copy)]
-pub enum Form {
-    Text,
-    Frame,
-}
+/// The last words of a request B: a limit, and the side where it is not left out.
+pub const LATITUDE_SIDES: [&str; 3] = ["lat", "lat N", "lat S"];
+pub const LONGITUDE_SIDES: [&str; 3] = ["lon", "lon E", "lon W"];
 
 #[derive(Clone)]
 pub struct Record {
@@ -32,6 +30,7 @@ pub struct Record {
     pub message: &'static str,
     pub speed: i64,
     pub course: i64,
+    pub letters: Option<[u8; 2]>,
 }
 
 pub fn name(call: &[u8], ssid: &[u8]) -> Name {
@@ -57,6 +56,7 @@ impl Record {
             message: "-",
             speed: 0,
             course: 0,
+            letters: None,
         };
         let placed = Record {
             flag: 1,
@@ -80,7 +80,7 @@ impl Record {
 
     pub fn request(&self) -> String {
         format!(
-            "W {} {} {} {} {} {} {} {} {} {} {} {} {} {} {} {}",
+            "W {} {} {} {} {} {} {} {} {} {} {} {} {} {} {} {}{}",
             match self.form {
                 Form::Text => "text",
                 Form::Frame => "frame",
@@ -99,7 +99,8 @@ impl Record {
             self.code,
             self.message,
             self.speed,
-            self.course
+            self.course,
+            letters_word(self.letters)
         )
     }
 }
@@ -108,6 +109,12 @@ fn hex(bytes: &[u8]) -> String {
     let mut word = Vec::new();
     push_hex(&mut word, bytes);
     String::from_utf8(word).expect("hexadecimal is ASCII")
+}
+
+fn letters_word(letters: Option<[u8; 2]>) -> String {
+    letters.map_or(String::new(), |[latitude, longitude]| {
+        format!(" letters={}{}", char::from(latitude), char::from(longitude))
+    })
 }
 
 fn name_word((call, ssid): &Name) -> String {

@@ -1,9 +1,9 @@
 // Kinds of requests given whole: every case of a set, in a fixed order.
 
 use crate::packets::*;
-use crate::records::{name, Form, Record};
+use crate::records::{name, Record, LATITUDE_SIDES, LONGITUDE_SIDES};
 use crate::Request;
-use protocol::{LATITUDE_LIMIT, LONGEST, LONGITUDE_LIMIT};
+use protocol::{Form, LATITUDE_LIMIT, LONGEST, LONGITUDE_LIMIT};
 
 type Give<'a> = &'a mut dyn FnMut(Request);
 
@@ -252,6 +252,30 @@ pub fn symbols(give: Give) {
     }
 }
 
+/// Both letters of each angle, at 0 and elsewhere, with every number of blanks; and both sides of Mic-E in every class of character.
+pub fn letters(give: Give) {
+    for latitude in ["0000.00", "0000.01", "4903.50", "9000.00"] {
+        for longitude in ["00000.00", "00000.01", "07201.75", "18000.00"] {
+            for blanks in 0..=5 {
+                for (side, other_side) in [("N", "E"), ("N", "W"), ("S", "E"), ("S", "W")] {
+                    let latitude = covered(latitude.as_bytes(), 0b111_111 << (6 - blanks) & 0b111_111, b' ');
+                    let angles = [&latitude, side.as_bytes(), b"/", longitude.as_bytes(), other_side.as_bytes()].concat();
+                    give_both(give, &Packet::simple(b"B", &[b"!", &angles[..], b"-"].concat()));
+                }
+            }
+        }
+    }
+    for first_three in [b"000", b"S32", b"0LL"] {
+        for number in 0..6usize.pow(3) {
+            let last_three = [b"09LPYZ"[number % 6], b"06LPVZ"[number / 6 % 6], b"09LPYZ"[number / 36]];
+            for longitude in [[28, 28, 28], [118, 88, 28], [40, 95, 102]] {
+                let body = [b"`", &longitude[..], b"n\"Oj/"].concat();
+                give_both(give, &Packet::simple(&[&first_three[..], &last_three].concat(), &body));
+            }
+        }
+    }
+}
+
 /// 0 to 10 hops with stars in all places, and with one Q element, or one empty hop, in each place.
 pub fn hops(give: Give) {
     for count in 0..=10 {
@@ -469,6 +493,25 @@ pub fn written_limits(give: Give) {
     }
 }
 
+/// Each pair of letters, and none, beside angles on either side and at 0, in records of each kind.
+pub fn written_letters(give: Give) {
+    for kind in ["unknown", "position", "mic-e"] {
+        for latitude in [0, 1, -1, -50, 294_350, -294_350, LATITUDE_LIMIT, -LATITUDE_LIMIT] {
+            for longitude in [0, 1, -1, 432_175, -432_175, LONGITUDE_LIMIT - 1, 1 - LONGITUDE_LIMIT] {
+                for blanks in [0, 2] {
+                    let record = Record { latitude, longitude, blanks, ..Record::good(kind) };
+                    give_written(give, &record);
+                    for letter in *b"NS-" {
+                        for other_letter in *b"EW-" {
+                            give_written(give, &Record { letters: Some([letter, other_letter]), ..record.clone() });
+                        }
+                    }
+                }
+            }
+        }
+    }
+}
+
 /// Odd calls and SSIDs in each place of a record, with stars in all sets of three places.
 pub fn written_callsigns(give: Give) {
     let mut names = vec![name(b"", b"5"), name(b"A-1", b""), name(b"*", b""), name(b"A:B", b","), name(b"\xc3", b"\xa9")];
@@ -497,12 +540,14 @@ pub fn written_callsigns(give: Give) {
 }
 
 pub fn bounds_limits(give: Give) {
-    for (limit, word) in [(LATITUDE_LIMIT, "lat"), (LONGITUDE_LIMIT, "lon")] {
+    for (limit, sides) in [(LATITUDE_LIMIT, LATITUDE_SIDES), (LONGITUDE_LIMIT, LONGITUDE_SIDES)] {
         let near = (-120..=120).flat_map(|step| [step, limit + step, -limit + step, step * 6000, step * 60_000]);
         let far = [i64::from(i32::MAX), -i64::from(i32::MAX)];
         for angle in near.chain(far) {
             for blanks in 0..=7 {
-                give(Request::Line(format!("B {} {} {}", angle, blanks, word)));
+                for side in sides {
+                    give(Request::Line(format!("B {} {} {}", angle, blanks, side)));
+                }
             }
         }
     }

@@ -4,10 +4,11 @@ use aprs_parser::mic_e::{Course, Message, Speed};
 use aprs_parser::{
     AprsCst, AprsData, AprsMicE, AprsPacket, AprsPosition, Callsign, Latitude, Longitude, Via,
 };
-use crate::record::{mark_of_record, write, Form, Written, MESSAGES, PRECISIONS};
+use crate::record::{mark_of_record, write, Written, MESSAGES, PRECISIONS};
 use crate::Style;
+use protocol::rules::Limit;
 use protocol::{
-    dmh_of, from_decimal, from_hex, push_hex, Mark, LATITUDE_LIMIT, LONGEST, LONGEST_CALLSIGN, LONGITUDE_LIMIT,
+    dmh_of, from_decimal, from_hex, push_hex, Form, Mark, LATITUDE_LIMIT, LONGEST, LONGEST_CALLSIGN, LONGITUDE_LIMIT,
     MOST_HOPS,
 };
 
@@ -49,6 +50,7 @@ struct Request {
     message: Option<Message>,
     speed: u32,
     course: u32,
+    letters: [u8; 2],
 }
 
 fn number<T: TryFrom<i64>>(word: &[u8]) -> Option<T> {
@@ -91,9 +93,30 @@ fn message(word: &[u8]) -> Option<Option<Message>> {
     Some(Some(*message))
 }
 
+/// Both letters by the word behind the sixteen, a dash for none; left out, those of the angles' own sides for a kind with a position.
+fn letters(words: &[&[u8]], kind: Kind, latitude: i64, longitude: i64) -> Option<[u8; 2]> {
+    match words {
+        [] if kind == Kind::Unknown => Some(*b"--"),
+        [] => Some([Limit::Latitude.own_letter(latitude), Limit::Longitude.own_letter(longitude)]),
+        [word] => match word.strip_prefix(b"letters=")? {
+            [first @ (b'N' | b'S' | b'-'), second @ (b'E' | b'W' | b'-')] => Some([*first, *second]),
+            _ => None,
+        },
+        _ => None,
+    }
+}
+
 fn parse(words: &[&[u8]]) -> Option<Request> {
+    let (words, later) = words.split_at(words.len().min(16));
     let [form, room, comment, kind, flag, from, to, path, latitude, longitude, blanks, table, code, word, speed, course]: [&[u8]; 16] =
         words.try_into().ok()?;
+    let kind = match kind {
+        b"unknown" => Kind::Unknown,
+        b"position" => Kind::Position,
+        b"mic-e" => Kind::MicE,
+        _ => return None,
+    };
+    let (latitude, longitude) = (from_decimal(latitude)?, from_decimal(longitude)?);
     let request = Request {
         form: match form {
             b"text" => Form::Text,
@@ -102,24 +125,20 @@ fn parse(words: &[&[u8]]) -> Option<Request> {
         },
         room: number(room).filter(|room| *room <= MOST_ROOM)?,
         comment: from_hex(comment)?,
-        kind: match kind {
-            b"unknown" => Kind::Unknown,
-            b"position" => Kind::Position,
-            b"mic-e" => Kind::MicE,
-            _ => return None,
-        },
+        kind,
         flag: number::<u8>(flag).filter(|flag| *flag <= 1)? == 1,
         from: name(from)?,
         to: name(to)?,
         hops: hops(path)?,
-        latitude: from_decimal(latitude)?,
-        longitude: from_decimal(longitude)?,
+        latitude,
+        longitude,
         blanks: number(blanks)?,
         table: number(table)?,
         code: number(code)?,
         message: message(word)?,
         speed: number(speed)?,
         course: number(course)?,
+        letters: letters(later, kind, latitude, longitude)?,
     };
     if request.kind == Kind::MicE && request.message.is_none() {
         return None;
@@ -155,7 +174,19 @@ fn has_parts_its_kind_lacks(request: &Request) -> bool {
     }
 }
 
-/// Document 01's list of what is refused with 15, but for the two cases that the Rust can be asked about.
+/// Document 02, R-1: a position or Mic-E has two letters, neither against a nonzero angle; another kind has none.
+fn letters_fit(request: &Request) -> bool {
+    let [latitude_letter, longitude_letter] = request.letters;
+    match request.kind {
+        Kind::Unknown => request.letters == *b"--",
+        Kind::Position | Kind::MicE => {
+            Limit::Latitude.agrees(latitude_letter, request.latitude)
+                && Limit::Longitude.agrees(longitude_letter, request.longitude)
+        }
+    }
+}
+
+/// The documents' list of what is refused with 15, but for the two cases that the Rust can be asked about.
 fn mark_of_request(request: &Request) -> Option<Mark> {
     let in_range = request.latitude.abs() <= LATITUDE_LIMIT
         && request.longitude.abs() <= LONGITUDE_LIMIT
@@ -167,6 +198,9 @@ fn mark_of_request(request: &Request) -> Option<Mark> {
     }
     if has_parts_its_kind_lacks(request) {
         return Some(Mark::Parts);
+    }
+    if !letters_fit(request) {
+        return Some(Mark::Letters);
     }
     [&request.from, &request.to]
         .into_iter()

@@ -20,14 +20,12 @@ use crate::refusal::Refusal;
 #[derive(Clone, Copy, Debug, PartialEq, Eq, Hash)]
 #[non_exhaustive]
 pub struct Destination {
-    /// The latitude; blank digits count as 0.
+    /// The latitude with its letter; blank digits count as 0.
     pub latitude: Latitude,
     /// By the digits that are blank.
     pub precision: Precision,
     /// The message.
     pub message: Message,
-    /// Whether the latitude is south, also at 0.
-    pub south: bool,
     /// Whether the offset of the longitude is 100, else 0.
     pub hundred: bool,
     /// The side of the longitude.
@@ -43,10 +41,9 @@ impl Destination {
         let read = unsafe { ffi::tusselgro_read_destination(call.as_ptr(), call.len()) };
         Refusal::check(read.refusal)?;
         Ok(Destination {
-            latitude: Latitude::from_hundredths(read.latitude)?,
+            latitude: Latitude::lettered(read.latitude, !read.south)?,
             precision: Precision::try_from(read.blanks)?,
             message: Message::try_from(read.message)?,
-            south: read.south,
             hundred: read.hundred,
             side: Side::of(read.west),
             sixty: read.sixty,
@@ -54,7 +51,7 @@ impl Destination {
     }
 
     /// The characters that carry a latitude and a message, and the offset and side of the longitude that goes with
-    /// them. One of 180 degrees is out of range.
+    /// them; an angle of 0 is written north or east. A longitude of 180 degrees is out of range.
     pub fn encode(
         latitude: Latitude,
         precision: Precision,
@@ -87,7 +84,7 @@ mod tests {
             (200564, 0)
         );
         assert_eq!(
-            (read.message, read.south, read.sixty),
+            (read.message, read.latitude.is_south(), read.sixty),
             (Message::M3, false, false)
         );
         assert_eq!((read.hundred, read.side), (false, Side::West));
@@ -96,8 +93,17 @@ mod tests {
             (blank.latitude.hundredths(), blank.precision.blanks()),
             (-240000, 5)
         );
-        assert_eq!((blank.message, blank.south), (Message::Emergency, true));
+        assert_eq!(
+            (blank.message, blank.latitude.is_south()),
+            (Message::Emergency, true)
+        );
         assert_eq!((blank.hundred, blank.side), (false, Side::East));
+        let zero = Destination::decode(b"0LLLLL").unwrap();
+        assert_eq!(
+            (zero.latitude.hundredths(), zero.latitude.is_south()),
+            (0, true)
+        );
+        assert_eq!((zero.hundred, zero.side), (false, Side::East));
         for wrong in [&b"LLLLLL"[..], b"S32U6", b"S32U6TT", b"s32u6t", b""] {
             assert_eq!(Destination::decode(wrong), Err(Refusal::MicEDestination));
         }

@@ -18,7 +18,7 @@ use crate::refusal::Refusal;
 /// ```
 #[derive(Clone, Copy, Debug, PartialEq, Eq, Hash)]
 pub struct Information {
-    /// The longitude.
+    /// The longitude, with the letter of the side that the destination gave.
     pub longitude: Longitude,
     /// The speed.
     pub speed: Speed,
@@ -42,7 +42,7 @@ impl Information {
         };
         Refusal::check(read.refusal)?;
         Ok(Information {
-            longitude: Longitude::from_hundredths(read.information.longitude)?,
+            longitude: Longitude::lettered(read.information.longitude, !side.is_west())?,
             speed: Speed::new(read.information.speed)?,
             course: Course::new(read.information.course)?,
             symbol_code: read.information.code,
@@ -88,6 +88,17 @@ mod tests {
         let mut out = b"`".to_vec();
         read.unwrap().encode(&mut out).unwrap();
         assert_eq!(out, b"`(_fn\"Oj/");
+    }
+
+    #[test]
+    fn zero_has_the_letter_of_the_side() {
+        for side in [Side::East, Side::West] {
+            let read = Information::decode(b"vX\x1cl \x1cj/", true, side).unwrap();
+            assert_eq!(
+                (read.longitude.hundredths(), read.longitude.side()),
+                (0, side)
+            );
+        }
     }
 
     /// Document 01's P1 to P7.

@@ -13,9 +13,9 @@ use crate::refusal::Refusal;
 #[derive(Clone, Copy, Debug, PartialEq, Eq, Hash)]
 #[non_exhaustive]
 pub struct AprsMicE<'a> {
-    /// Where it is.
+    /// Where it is, with its letter.
     pub latitude: Latitude,
-    /// The longitude that goes with it; to be written, short of 180 degrees.
+    /// The longitude that goes with it, with its letter; to be written, short of 180 degrees.
     pub longitude: Longitude,
     /// By the digits of the latitude that are blank.
     pub precision: Precision,
@@ -88,7 +88,8 @@ impl<'a> AprsMicE<'a> {
         Ok(())
     }
 
-    /// The destination that goes with the body. aprs-parser always has one; here 180 degrees of longitude are refused.
+    /// The destination that goes with the body; it says N and E for angles of 0. aprs-parser always has one; here 180
+    /// degrees of longitude are refused.
     pub fn encode_destination(&self) -> Result<Callsign, Refusal> {
         let bytes =
             Destination::encode(self.latitude, self.precision, self.message, self.longitude)?;
@@ -109,6 +110,7 @@ impl<'a> AprsMicE<'a> {
 #[cfg(test)]
 mod tests {
     use super::*;
+    use crate::longitude::Side;
 
     #[test]
     fn destination_and_body_both_ways() {
@@ -121,6 +123,28 @@ mod tests {
             report.encode(&mut out).unwrap();
             assert_eq!(&out[4..], body);
         }
+    }
+
+    /// Document 02's R-1: both letters of 0 are read, and 0 is written N and E: P to Z fourth, a digit sixth.
+    #[test]
+    fn zero_keeps_its_letters_and_is_written_north_and_east() {
+        let to = Callsign::new("0000PP").unwrap();
+        let report = AprsMicE::decode(b"vX\x1cn\"Oj/", to, true).unwrap();
+        assert_eq!(
+            (report.latitude.hundredths(), report.longitude.hundredths()),
+            (0, 0)
+        );
+        assert!(report.latitude.is_south() && report.longitude.side() == Side::West);
+        assert_eq!(report.encode_destination(), Callsign::new("000PP0"));
+        let mut out = Vec::new();
+        report.encode(&mut out).unwrap();
+        assert_eq!(out, b"`vX\x1cn\"Oj/");
+        let again = AprsMicE::decode(&out[1..], Callsign::new("000PP0").unwrap(), true);
+        let built = AprsMicE::new(Latitude::default(), Longitude::default());
+        assert_eq!(
+            again.map(|again| (again.latitude, again.longitude)),
+            Ok((built.latitude, built.longitude))
+        );
     }
 
     #[test]

@@ -4,6 +4,9 @@ use borrow.Author.Needs.{needs}
 use Rattle.body.proofs.blank.Statement.{statement}
 use Rattle.body.proofs.blank.Tie as tie
 
+blank-requires : tie.Need-blank-requires
+blank-requires c κs = search needs
+
 no-report-requires : tie.Need-no-report-requires
 no-report-requires c κs = search needs
 
@@ -12,4 +15,4 @@ unfolding noComment blankBody
 returns c = cc
 
 pub blank-spec : {M : Type 1} → statement M
-blank-spec = tie.close (tie.spec no-report-requires returns)
+blank-spec = tie.close (tie.spec blank-requires no-report-requires returns)

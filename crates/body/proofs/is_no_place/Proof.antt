@@ -1,4 +1,4 @@
--- Five zeros, one test each. Assumes nothing.
+-- Five zeros, one test each, and then the letters. Assumes nothing.
 use Rattle.laws.proofs.Picks.{picks}
 use Rattle.body.specs.Range.{isNoPlace}
 use Rattle.body.proofs.Tests.{tests}
@@ -32,7 +32,14 @@ returns-5 : tie.Need-returns-5
 unfolding isNoPlace
 returns-5 c = search (picks, tests)
 
+is-no-letter-requires : tie.Need-is-no-letter-requires
+is-no-letter-requires c κs = search needs
+
+returns-6 : tie.Need-returns-6
+unfolding isNoPlace
+returns-6 c = search (picks, tests) fits 4000
+
 pub is-no-place-spec : {M : Type 1} → statement M
 is-no-place-spec =
     tie.close
-    (tie.spec parts-requires returns parts-requires-2 returns-2 returns-3 returns-4 returns-5)
+    (tie.spec parts-requires returns parts-requires-2 returns-2 returns-3 returns-4 returns-5 is-no-letter-requires returns-6)

@@ -1,4 +1,4 @@
--- The box of the longitude that the number is. Assumes nothing.
+-- The box of the longitude that the number is, on the side that is told. Assumes nothing.
 use mathlib.Core.Path.{_∙_, ap}
 use lib.IntN.{ℤ}
 use Rattle.lonlat.specs.Angle.{mostLongitude}
@@ -12,7 +12,7 @@ longitude-box-requires : tie.Need-longitude-box-requires
 longitude-box-requires c κs = search needs
 
 returns : tie.Need-returns
-returns c = c .longitude-box .ensures ∙ ap (λ (z : ℤ). boxOf mostLongitude z (c .before .args .blanks)) (back (c .before .args .longitude) (record { sfits = search needs }))
+returns c = c .longitude-box .ensures ∙ ap (λ (z : ℤ). boxOf mostLongitude z (c .before .args .blanks) (c .before .args .west)) (back (c .before .args .longitude) (record { sfits = search needs }))
 
 pub tusselgro-longitude-box-spec : {M : Type 1} → statement M
 tusselgro-longitude-box-spec = tie.close (tie.spec longitude-box-requires returns)

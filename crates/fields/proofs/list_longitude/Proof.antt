@@ -7,10 +7,9 @@ use lib.IntN.{ℤ, natAbs}
 use borrow.Author.Tests.{lt-ltb, le-ltb}
 use Rattle.lonlat.specs.Angle.{mostLongitude}
 use Rattle.lonlat.specs.Longitude.{longitudeRefusal}
-use Rattle.numbers.specs.Sign.{isMinus, sidesOf}
+use Rattle.numbers.specs.Sign.{isOn, sidesOf}
 use Rattle.numbers.specs.declared.Sides.{Sides}
 use Rattle.numbers.proofs.Sign.{back}
-use Rattle.fields.specs.Search.{sameSide}
 use Rattle.fields.proofs.Answers.{out-of-range, empty-list}
 use Rattle.fields.proofs.Sides.{on-side, off-side}
 use borrow.Author.Needs.{needs}
@@ -26,13 +25,16 @@ module _ (z : ℤ) (s : Sides) (e : s ≡ sidesOf z) where
   unfolding longitudeRefusal sidesOf
   over h = rw (lt-ltb mostLongitude (natAbs z) (rw (ap (λ (x : Sides). x .size) e) at h))
 
-  side : (west u t : Bool) → u ≡ sameSide (s .minus) west (s .size) → u ≡ t → sameSide (isMinus z) west (natAbs z) ≡ t
-  unfolding sidesOf
-  side west u t p q = ap (λ (x : Sides). sameSide (x .minus) west (x .size)) (sym e) ∙ sym p ∙ q
-
   inside : s .size ≤ mostLongitude → longitudeRefusal z ≡ 0
   unfolding longitudeRefusal sidesOf
   inside h = rw (le-ltb mostLongitude (natAbs z) (rw (ap (λ (x : Sides). x .size) e) at h))
+
+-- the test of the side is the target's
+side : (c : tie.After-is-on) (t : Bool) → c .is-on .result ≡ t → isOn (c .before .before .before .before .before .args .west) (c .before .before .before .before .before .args .target .0) ≡ t
+side c t q =
+    let s = c .before .before .before in
+    let z = s .before .before .args .target .0 in
+    ap (isOn (s .before .before .args .west)) (sym (back z (record { sfits = s .struct-told .given .0 .1 }))) ∙ sym (c .is-on .ensures) ∙ q
 
 parts-requires : tie.Need-parts-requires
 parts-requires c κs = search needs
@@ -45,8 +47,8 @@ returns c =
     let p = c .before .before in
     out-of-range _ _ _ _ (over _ _ (told p) (c .before .if1 .taken)) (c .refused .ensures)
 
-same-side-requires : tie.Need-same-side-requires
-same-side-requires c κs = search needs
+is-on-requires : tie.Need-is-on-requires
+is-on-requires c κs = search needs
 
 list-requires : tie.Need-list-requires
 list-requires c κs = search needs
@@ -62,7 +64,7 @@ returns-2 c =
     let p = t .before .before in
     let z = p .before .before .before .args .target .0 in
     let q = told p in
-    let e : sameSide (isMinus z) (p .before .before .before .args .west) (natAbs z) ≡ true = side z _ q _ _ true (t .same-side .ensures) (m .before .before .if2 .taken) in
+    let e = side t true (m .before .before .if2 .taken) in
     rw (inside z _ q (t .before .if1 .left), on-side (p .before .before .before .args .hundred) (p .before .before .before .args .west) z e, ← ap (λ (x : Sides). x .size) q) (m .list .ensures)
 
 done-requires : tie.Need-done-requires
@@ -75,7 +77,7 @@ returns-3 c =
     let p = t .before .before in
     let z = p .before .before .before .args .target .0 in
     let q = told p in
-    let e : sameSide (isMinus z) (p .before .before .before .args .west) (natAbs z) ≡ false = side z _ q _ _ false (t .same-side .ensures) (c .before .if2 .left) in
+    let e = side t false (c .before .if2 .left) in
     empty-list _ _ _ _ (inside z _ q (t .before .if1 .left)) (off-side (p .before .before .before .args .hundred) (p .before .before .before .args .west) z e) (c .done .ensures)
 
 pub list-longitude-spec : {M : Type 1} → statement M
@@ -85,7 +87,7 @@ list-longitude-spec =
     parts-requires
     refused-requires
     returns
-    same-side-requires
+    is-on-requires
     list-requires
     same-length
     returns-2

@@ -1,7 +1,7 @@
 -- `bounds_of`: the angle in range, and then the range around it on its side. Assumes nothing.
 use Rattle.numbers.proofs.Sign.{back}
 use Rattle.position.proofs.Numerals.{nought}
-use Rattle.position.proofs.Angles.{no-bounds, bounds-minus, bounds-plus}
+use Rattle.position.proofs.Floats.{no-bounds, bounds-minus, bounds-plus}
 use borrow.Author.Needs.{needs}
 use Rattle.position.proofs.bounds_of.Statement.{statement}
 use Rattle.position.proofs.bounds_of.Tie as tie

@@ -3,7 +3,7 @@ use Prim.Native.Nat.{_≤_}
 use mathlib.Core.Path.{sym, ap}
 use native.Mathlib.Omega.{arith}
 use Rattle.position.specs.Bounds.{degreeWidth}
-use Rattle.position.proofs.Angles.{degree-width-most}
+use Rattle.position.proofs.Floats.{degree-width-most}
 use Rattle.position.proofs.Numerals.{sixty, six-thousand, six-hundred, six, one, ten}
 use Rattle.position.proofs.degree_width.Statement.{statement}
 use Rattle.position.proofs.degree_width.Tie as tie

@@ -12,7 +12,7 @@ box-of-requires : tie.Need-box-of-requires
 box-of-requires c κs = search needs
 
 returns : tie.Need-returns
-returns c = c .box-of .ensures ∙ ap (λ (z : ℤ). boxOf mostLongitude z (c .before .before .args .blanks)) (back (c .before .before .args .l .0) (record { sfits = search needs }))
+returns c = c .box-of .ensures ∙ ap (λ (z : ℤ). boxOf mostLongitude z (c .before .before .args .blanks) (c .before .before .args .west)) (back (c .before .before .args .l .0) (record { sfits = search needs }))
 
 pub longitude-box-spec : {M : Type 1} → statement M
 longitude-box-spec = tie.close (tie.spec box-of-requires returns)

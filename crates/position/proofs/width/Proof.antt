@@ -4,7 +4,7 @@ use mathlib.Core.Path.{sym, ap}
 use native.Mathlib.Omega.{arith}
 use lib.IntN.{pos}
 use Rattle.lonlat.specs.Angle.{widthOf}
-use Rattle.position.proofs.Angles.{width-most}
+use Rattle.position.proofs.Boxes.{width-most}
 use Rattle.position.proofs.width.Statement.{statement}
 use Rattle.position.proofs.width.Tie as tie
 

@@ -1,5 +1,5 @@
--- `write_position`: the leaves' texts, the symbol, and then the whole. Assumes nothing.
-use Rattle.position.proofs.Writing.{still-nineteen, latitude-out, longitude-out, symbols-out, position-wrote}
+-- `write_position`: the leaves' texts, the letters, the symbol, and then the whole. Assumes nothing.
+use Rattle.position.proofs.Writing.{still-nineteen, latitude-out, longitude-out, letters-out, symbols-out, position-wrote}
 use borrow.Author.Needs.{needs}
 use Rattle.position.proofs.write_position.Statement.{statement}
 use Rattle.position.proofs.write_position.Tie as tie
@@ -34,14 +34,23 @@ refused-requires-2 c κs = search needs
 returns-2 : tie.Need-returns-2
 returns-2 c = search longitude-out
 
-symbols-in-range-requires : tie.Need-symbols-in-range-requires
-symbols-in-range-requires c κs = search needs
+letters-agree-requires : tie.Need-letters-agree-requires
+letters-agree-requires c κs = search needs
 
 refused-requires-3 : tie.Need-refused-requires-3
 refused-requires-3 c κs = search needs
 
 returns-3 : tie.Need-returns-3
-returns-3 c = search symbols-out
+returns-3 c = search letters-out
+
+symbols-in-range-requires : tie.Need-symbols-in-range-requires
+symbols-in-range-requires c κs = search needs
+
+refused-requires-4 : tie.Need-refused-requires-4
+refused-requires-4 c κs = search needs
+
+returns-4 : tie.Need-returns-4
+returns-4 c = search symbols-out
 
 array-write-text : tie.Need-array-write-text
 array-write-text c = search needs
@@ -58,8 +67,8 @@ write-requires c κs = search needs
 same-length : tie.Need-same-length
 same-length c = search needs
 
-returns-4 : tie.Need-returns-4
-returns-4 c = search position-wrote
+returns-5 : tie.Need-returns-5
+returns-5 c = search position-wrote
 
 pub write-position-spec : {M : Type 1} → statement M
 write-position-spec =
@@ -75,12 +84,15 @@ write-position-spec =
     write-longitude-requires
     refused-requires-2
     returns-2
-    symbols-in-range-requires
+    letters-agree-requires
     refused-requires-3
     returns-3
+    symbols-in-range-requires
+    refused-requires-4
+    returns-4
     array-write-text
     array-write-text-2
     slice-aggregate-write
     write-requires
     same-length
-    returns-4)
+    returns-5)

@@ -1,0 +1,110 @@
+// What document 02 asks that the Rust does not have, computed from a request alone: the letters of both angles and the page box.
+
+use crate::{body_of, Form, LATITUDE_LIMIT, LONGITUDE_LIMIT};
+
+/// Hundredths of a minute that an angle with 0 to 5 blanks leaves open.
+const WIDTHS: [i64; 6] = [1, 10, 100, 1000, 6000, 60_000];
+
+#[derive(Clone, Copy, PartialEq, Eq)]
+pub enum Limit {
+    Latitude,
+    Longitude,
+}
+
+impl Limit {
+    pub fn named(word: &[u8]) -> Option<Limit> {
+        match word {
+            b"lat" => Some(Limit::Latitude),
+            b"lon" => Some(Limit::Longitude),
+            _ => None,
+        }
+    }
+
+    pub fn largest(self) -> i64 {
+        match self {
+            Limit::Latitude => LATITUDE_LIMIT,
+            Limit::Longitude => LONGITUDE_LIMIT,
+        }
+    }
+
+    /// North or east, then south or west.
+    pub fn letters(self) -> [u8; 2] {
+        match self {
+            Limit::Latitude => *b"NS",
+            Limit::Longitude => *b"EW",
+        }
+    }
+
+    /// The letter of the angle's own side; at 0 north or east.
+    pub fn own_letter(self, angle: i64) -> u8 {
+        self.letters()[usize::from(angle < 0)]
+    }
+
+    /// True of a letter that is one of the two and does not contradict a nonzero angle.
+    pub fn agrees(self, letter: u8, angle: i64) -> bool {
+        self.letters().contains(&letter) && (angle == 0 || letter == self.own_letter(angle))
+    }
+}
+
+fn six_characters(input: &[u8], form: Form) -> Option<Vec<u8>> {
+    match form {
+        Form::Text => {
+            let destination = input.iter().position(|byte| *byte == b'>')? + 1;
+            input.get(destination..destination + 6).map(<[u8]>::to_vec)
+        }
+        Form::Frame => {
+            let address = input.get(..6)?;
+            Some(address.iter().map(|byte| (byte >> 1).to_ascii_uppercase()).collect())
+        }
+    }
+}
+
+/// The letters of an accepted packet: those that stand in a position; in Mic-E N and W where the fourth and the sixth character of the
+/// destination are P to Z; none in another kind.
+pub fn letters(kind: &[u8], input: &[u8], form: Form) -> Option<[u8; 2]> {
+    match kind {
+        b"position" => {
+            let body = body_of(input, form)?;
+            Some([*body.get(8)?, *body.get(18)?])
+        }
+        b"mic-e" => {
+            let characters = six_characters(input, form)?;
+            let north = (b'P'..=b'Z').contains(&characters[3]);
+            let west = (b'P'..=b'Z').contains(&characters[5]);
+            Some([if north { b'N' } else { b'S' }, if west { b'W' } else { b'E' }])
+        }
+        b"unknown" => Some(*b"--"),
+        _ => None,
+    }
+}
+
+/// The side that the words behind a limit name: one of its two letters, or, left out, the angle's own.
+pub fn side(limit: Limit, angle: i64, words: &[&[u8]]) -> Option<u8> {
+    match words {
+        [] => Some(limit.own_letter(angle)),
+        [[letter]] if limit.letters().contains(letter) => Some(*letter),
+        _ => None,
+    }
+}
+
+/// The page box in half hundredths: "from 2T to 2(T + w) on the north or east side and from 2(T - w) to 2T on the other"; none
+/// out of range, or for a letter that contradicts the angle.
+fn page_box(limit: Limit, angle: i64, blanks: usize, letter: u8) -> Option<(i64, i64)> {
+    let width = WIDTHS.get(blanks)?;
+    if angle.abs() > limit.largest() || !limit.agrees(letter, angle) {
+        return None;
+    }
+    if letter == limit.letters()[0] {
+        Some((2 * angle, 2 * (angle + width)))
+    } else {
+        Some((2 * (angle - width), 2 * angle))
+    }
+}
+
+/// The box as the last words of an answer to B.
+pub fn page_words(limit: Limit, angle: i64, blanks: usize, letter: u8) -> String {
+    match page_box(limit, angle, blanks, letter) {
+        Some((from, to)) => format!("{} {} box=0", from, to),
+        None => "0 0 box=15".to_string(),
+    }
+}
