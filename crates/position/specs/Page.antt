@@ -16,7 +16,7 @@ use Rattle.position.specs.Reach.{inReach}
 abbrev pub noBox : PageBox
 noBox = record { refusal = 15; from = pos 0; to = pos 0 }
 
--- in half hundredths, so twice the angle: from the angle on away from 0, south or west where minus
+-- in half hundredths, so twice the angle: from the angle away from 0, which is south or west where minus
 unfoldable pub outward : ℤ → ℤ → Bool → PageBox
 outward angle width minus =
     cond minus
