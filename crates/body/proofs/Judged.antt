@@ -3,11 +3,11 @@
 -- Assumes nothing.
 use mathlib.Core.Path.{_≡_, refl}
 use mathlib.Core.Bool.{Bool, true, false, false≢true, not, cond, _&&_, _||_}
-use Prim.Native.Nat.{ℕ, _<_, _≤_}
+use Prim.Native.Nat.{_<_, _≤_}
 use native.Mathlib.Omega.{arith}
 use lib.Dec.{eqb, leb, ltb}
 use lib.IntN.{natAbs}
-use borrow.Author.Tests.{not-true, leb-true, leb-false, ltb-true, le-leb, lt-leb, lt-ltb, le-ltb}
+use borrow.Author.Tests.{not-true, leb-true, leb-false, ltb-true, le-leb, lt-leb}
 use Rattle.laws.proofs.Tests.{and-first, and-second}
 use Rattle.callsign.specs.declared.Callsign.{Callsign}
 use Rattle.callsign.specs.Range.{isBlankCall}
@@ -16,6 +16,7 @@ use Rattle.lonlat.specs.Latitude.{latitudeRefusal}
 use Rattle.position.specs.declared.Place.{Place}
 use Rattle.position.specs.Reach.{inReach}
 use Rattle.position.specs.Position.{placeInRange, lettersAgree}
+use Rattle.position.proofs.Reach.{over-under}
 use Rattle.mic_e.specs.Longitude.{longitudeOut}
 use Rattle.mic_e.specs.Motion.{mostSpeed, mostCourse, motionOut}
 use Rattle.mic_e.specs.Destination.{destinationRefusal}
@@ -27,19 +28,11 @@ use Rattle.body.specs.Written.{informationOf}
 
 -- ---- what the writers refuse
 
--- over a limit, or within it
-over-within : (a most : ℕ) → ltb most a ≡ not (leb a most)
-over-within a most = go (leb a most) refl
-  where
-    go : (t : Bool) → leb a most ≡ t → ltb most a ≡ not t
-    go true e = le-ltb most a (leb-true a most e)
-    go false e = lt-ltb most a (leb-false a most e)
-
 -- the destination's: latitude, blanks, and 180 degrees
 pub destination-judges : (place : Place) → eqb (destinationRefusal (place .latitude .0) (place .blanks) (place .longitude .0)) 0 ≡ (placeInRange place && isShort place)
 unfolding destinationRefusal longitudeOut latitudeRefusal placeInRange inReach isShort
 destination-judges place =
-    rw (over-within (natAbs (place .latitude .0)) mostLatitude, over-within (place .blanks) 5, over-within mostLongitude (natAbs (place .longitude .0)))
+    rw (over-under mostLatitude (natAbs (place .latitude .0)), over-under 5 (place .blanks), over-under (natAbs (place .longitude .0)) mostLongitude)
     (go (leb (natAbs (place .latitude .0)) mostLatitude) (leb (place .blanks) 5) (leb mostLongitude (natAbs (place .longitude .0)))
     (leb (natAbs (place .longitude .0)) mostLongitude)
     (λ e. le-leb (natAbs (place .longitude .0)) mostLongitude (omega (arith, leb-false mostLongitude (natAbs (place .longitude .0)) e))))
@@ -60,8 +53,8 @@ unfolding informationOut informationOf longitudeOut motionOut isShort motionInRa
 information-judges place report e =
     rw (
       lt-leb mostLongitude (natAbs (place .longitude .0)) (ltb-true (natAbs (place .longitude .0)) mostLongitude e),
-      over-within (report .speed .0) mostSpeed,
-      over-within (report .course .0) mostCourse,
+      over-under mostSpeed (report .speed .0),
+      over-under mostCourse (report .course .0),
     )
     (go (leb (report .speed .0) mostSpeed) (leb (report .course .0) mostCourse))
   where

@@ -3,10 +3,10 @@
 -- of an angle that is a multiple of that width, exactly those that are cut to it.
 -- Assumes nothing.
 use mathlib.Core.Path.{_≡_, refl, sym, ap, _∙_}
-use mathlib.Core.Bool.{Bool, true, false, false≢true, _&&_}
+use mathlib.Core.Bool.{Bool, true, false, false≢true, not, _&&_}
 use Prim.Native.Nat.{ℕ, zero, suc, _+_, _-_, _*_, _%_, _<_, _≤_}
 use native.Mathlib.Omega.{arith}
-use borrow.Author.Tests.{le-leb, lt-leb, leb-true, leb-false, lt-ltb, le-ltb, ltb-true, ltb-false}
+use borrow.Author.Tests.{le-leb, lt-leb, leb-true, leb-false, lt-ltb, le-ltb, ltb-true}
 use lib.Dec.{leb, ltb, leb·suc-suc}
 use lib.IntN.{ℤ, pos, negsuc, negℤ, natAbs, _-ℤ_, negℤ-+ℤ, pos-*ℤ-negsuc}
 use lib.Signed.{leZ, ltZ}
@@ -20,7 +20,7 @@ use Rattle.position.specs.declared.PageBox.{PageBox}
 use Rattle.position.specs.Reach.{inReach}
 use Rattle.position.specs.Page.{outward, boxOf, holds}
 use Rattle.position.proofs.Boxes.{twice-turned}
-use Rattle.position.proofs.Reach.{reach-few}
+use Rattle.position.proofs.Reach.{over-under, reach-few}
 
 -- ---- twice a number, and a number turned to the other side
 
@@ -32,11 +32,7 @@ double-le a b = go (leb a b) refl
     go false e = lt-leb (2 * a) (2 * b) (omega (arith, leb-false a b e))
 
 double-lt : (a b : ℕ) → ltb (2 * a) (2 * b) ≡ ltb a b
-double-lt a b = go (ltb a b) refl
-  where
-    go : (t : Bool) → ltb a b ≡ t → ltb (2 * a) (2 * b) ≡ t
-    go true e = lt-ltb (2 * a) (2 * b) (omega (arith, ltb-true a b e))
-    go false e = le-ltb (2 * a) (2 * b) (omega (arith, ltb-false a b e))
+double-lt a b = over-under (2 * a) (2 * b) ∙ ap not (double-le b a) ∙ sym (over-under a b)
 
 turned-le : (p q : ℕ) → leZ (negℤ (pos p)) (negℤ (pos q)) ≡ leb q p
 turned-le zero zero = refl

@@ -1,9 +1,9 @@
 -- What is in range: the tests, and what they tell.
 -- Assumes nothing.
-use mathlib.Core.Path.{_≡_}
+use mathlib.Core.Path.{_≡_, refl}
 use mathlib.Core.Bool.{Bool, true, false, not}
 use Prim.Native.Nat.{ℕ, _<_, _≤_}
-use borrow.Author.Tests.{le-leb, lt-leb, lt-ltb, le-ltb, leb-true, not-false}
+use borrow.Author.Tests.{le-leb, lt-leb, lt-ltb, le-ltb, leb-true, ltb-true, ltb-false, not-false}
 use lib.Dec.{leb, ltb}
 use lib.IntN.{ℤ, natAbs}
 use mir.Syntax.{w32}
@@ -16,6 +16,14 @@ use Rattle.numbers.proofs.Sign.{back, parts-size}
 use Rattle.position.specs.declared.Place.{Place}
 use Rattle.position.specs.Reach.{inReach}
 use Rattle.position.specs.Position.{placeInRange, lettersAgree, symbolsInRange}
+
+-- below, or not up to it
+pub over-under : (a b : ℕ) → ltb a b ≡ not (leb b a)
+over-under a b = go (ltb a b) refl
+  where
+    go : (t : Bool) → ltb a b ≡ t → t ≡ not (leb b a)
+    go true e = rw (lt-leb b a (ltb-true a b e))
+    go false e = rw (le-leb b a (ltb-false a b e))
 
 -- p is the angle taken apart, z the angle as the code has it
 module _ (most blanks : ℕ) (angle z : ℤ) (back : z ≡ angle) (p : Sides) (e : p ≡ sidesOf z) where

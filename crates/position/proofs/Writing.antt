@@ -6,9 +6,9 @@ use mathlib.Core.Bool.{Bool, true, false, not, cond, _&&_, _||_}
 use mathlib.Core.List.{List, [], _∷_, _++_}
 use Prim.Native.Nat.{ℕ, _≤_}
 use native.Mathlib.Omega.{arith}
-use borrow.Author.Tests.{le-leb, lt-leb, ltb-true, ltb-false, not-true, not-false}
+use borrow.Author.Tests.{le-leb, not-true, not-false}
 use borrow.Rule.Slice.PartMut.{midOf, putMid, same-len-mid}
-use lib.Dec.{ltb, leb}
+use lib.Dec.{leb}
 use lib.IntN.{ℤ, natAbs}
 use lib.ListN.{length, drop, set, replicate, length-append, length-drop, length-set}
 use lib.Seq.{length-take-le}
@@ -24,16 +24,9 @@ use Rattle.lonlat.proofs.Texts.{latitude-text-length, longitude-text-length}
 use Rattle.position.specs.declared.Place.{Place}
 use Rattle.position.specs.Reach.{inReach}
 use Rattle.position.specs.Position.{placeInRange, lettersAgree, symbolsInRange, positionFits, positionRefusal, positionText}
-use Rattle.position.proofs.Reach.{reach-few}
+use Rattle.position.proofs.Reach.{over-under, reach-few}
 
 -- ---- a leaf's refusal is its part of the test
-
-over-under : (a b : ℕ) → ltb a b ≡ not (leb b a)
-over-under a b = go (ltb a b) refl
-  where
-    go : (t : Bool) → ltb a b ≡ t → t ≡ not (leb b a)
-    go true e = rw (lt-leb b a (ltb-true a b e))
-    go false e = rw (le-leb b a (ltb-false a b e))
 
 one-out : (x : Bool) → _≡_ {A = ℕ} (cond (not x) 15 0) (cond (x && true) 0 15)
 one-out true = refl
