@@ -103,27 +103,38 @@ enum { TUSSELGRO_MOST_BYTES = 512, TUSSELGRO_MOST_HOPS = 8, TUSSELGRO_MOST_CALLS
 
 /*
  * A callsign as it is written. text holds the call; then, if there is an SSID, a dash and the SSID; the rest is 0.
- * Its length is call_len, and 1 + ssid_len more if ssid_len is not 0. An empty callsign is all zeros. 32 bytes.
+ * Its length is call_len, and 1 + ssid_len more if ssid_len is not 0. An empty callsign is all zeros. 19 bytes.
+ *
+ * had_zero_ssid is a mark: the text that was read had the SSID '0', which is dropped. N0CALL-0 is read as N0CALL with
+ * the mark, and written as N0CALL. It is set where the SSID, once the star is off, is the one byte '0': of A-0 and
+ * A-0*, not of A-00, A-0-0 or A-+0. A frame never sets it, nor does anything that is refused. A Mic-E record has no
+ * destination, and no mark of one. Writers ignore the mark wherever it is: beside an SSID, and in a destination or a
+ * hop that must otherwise be all zeros. Two callsigns that differ in it alone are the same callsign.
+ *
+ * Both lengths are bytes. A length over 255 must be tested before it is put here: C keeps its last eight bits, which
+ * may be in range. Before the mark was here the lengths were size_t, and tusselgro_callsign_read had the mark as zero;
+ * what was compiled with that header must be compiled again, since every record with a callsign in it has changed.
  */
 typedef struct {
     uint8_t text[TUSSELGRO_MOST_CALLSIGN];
-    size_t call_len;
-    size_t ssid_len;
+    uint8_t call_len;
+    uint8_t ssid_len;
+    bool had_zero_ssid;
 } tusselgro_callsign;
 
-/* A hop of the path, and whether it was heard. 40 bytes. */
+/* A hop of the path, and whether it was heard. 20 bytes. */
 typedef struct {
     tusselgro_callsign call;
     bool heard;
 } tusselgro_hop;
 
-/* The hops in their order; those past count are all zeros. 328 bytes. */
+/* The hops in their order; those past count are all zeros. 168 bytes. */
 typedef struct {
     tusselgro_hop hops[TUSSELGRO_MOST_HOPS];
     size_t count;
 } tusselgro_path;
 
-/* Where a packet comes from, where it goes to, and its path; a Mic-E record has no destination. 392 bytes. */
+/* Where a packet comes from, where it goes to, and its path; a Mic-E record has no destination. 208 bytes. */
 typedef struct {
     tusselgro_callsign from;
     tusselgro_callsign to;
@@ -173,14 +184,14 @@ typedef struct {
     uint8_t kind;   /* TUSSELGRO_UNKNOWN, .._POSITION or .._MIC_E */
 } tusselgro_body;
 
-/* A packet. What its kind lacks is 0: an Unknown one has its header alone. A record of zeros is the blank one. 448
+/* A packet. What its kind lacks is 0: an Unknown one has its header alone. A record of zeros is the blank one. 264
    bytes. */
 typedef struct {
     tusselgro_header header;
     tusselgro_body body;
 } tusselgro_record;
 
-/* What reading gives: 0 and the record, or the refusal and the blank record (Unknown kind, all zeros). 456 bytes. */
+/* What reading gives: 0 and the record, or the refusal and the blank record (Unknown kind, all zeros). 272 bytes. */
 typedef struct {
     tusselgro_record record;
     uint8_t refusal;
@@ -220,11 +231,10 @@ tusselgro_answer tusselgro_write_frame(tusselgro_record record, const uint8_t *c
  * A reader says all that it saw, also what a record does not keep; at a refusal all else is 0 or false.
  */
 
-/* A callsign; whether a star followed it; whether its SSID was a lone '0', which is dropped. 40 bytes. */
+/* A callsign, with its mark; whether a star followed it. 21 bytes. */
 typedef struct {
     tusselgro_callsign call;
     bool starred;
-    bool zero;
     uint8_t refusal;
 } tusselgro_callsign_read;
 
@@ -234,7 +244,7 @@ tusselgro_callsign_read tusselgro_read_callsign(const uint8_t *text, size_t text
 /* Writes a callsign as text, with a star behind it if starred. Refusals: 15, 16. */
 tusselgro_answer tusselgro_write_callsign(tusselgro_callsign call, bool starred, uint8_t *out, size_t out_len);
 
-/* An AX.25 address as it was read, with the two flags of its seventh byte. 40 bytes. */
+/* An AX.25 address as it was read, with the two flags of its seventh byte. 22 bytes. */
 typedef struct {
     tusselgro_callsign call;
     bool heard;

@@ -1,10 +1,10 @@
-// Sets the callsigns and positions of a capture as a table, with the page's box of each position in half hundredths of
-// a minute. The capture has a line a packet; it is the file that the first argument names. A line that is refused is told
-// on standard error, and the status is then 1; it is 2 where no table was set.
+// Sets the callsigns and positions of a capture as a table, callsigns as they were typed, with the page's box of each
+// position in half hundredths of a minute. The capture has a line a packet; it is the file that the first argument names.
+// A line that is refused is told on standard error, and the status is then 1; it is 2 where no table was set.
 
 use std::error::Error;
 use std::process::ExitCode;
-use tusselgro::{AprsData, AprsPacket, Latitude, Longitude, Precision, Via};
+use tusselgro::{AprsData, AprsPacket, Callsign, Latitude, Longitude, Precision, Via};
 
 fn place(data: &AprsData<'_>) -> Option<(Latitude, Longitude, Precision)> {
     match data {
@@ -15,13 +15,16 @@ fn place(data: &AprsData<'_>) -> Option<(Latitude, Longitude, Precision)> {
 }
 
 fn row(packet: &AprsPacket<'_>) -> String {
-    let to = packet.to().map_or("-", |to| to.as_str());
+    let from = packet.from.typed_text();
+    let to = packet
+        .to()
+        .map_or_else(|| "-".to_string(), Callsign::typed_text);
     let heard = packet
         .via
         .iter()
         .filter(|via| matches!(via, Via::Callsign(_, true)));
     let heard = format!("{}/{}", heard.count(), packet.via.len());
-    let mut row = format!("{:<10} {to:<10} {heard:<5}", packet.from);
+    let mut row = format!("{from:<10} {to:<10} {heard:<5}");
     if let Some((latitude, longitude, precision)) = place(&packet.data) {
         row += &format!(" {latitude} {longitude}");
         row += &format!(" {:9.5} {:10.5}", latitude.degrees(), longitude.degrees());

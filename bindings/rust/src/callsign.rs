@@ -19,12 +19,14 @@ use std::str::FromStr;
 /// ```
 ///
 /// It is in the order of its text's bytes, and `Default` is the empty one, which a line may have. Unlike that of
-/// aprs-parser it is `Copy`, has at most 16 bytes of text, and each way to make one may refuse.
+/// aprs-parser it is `Copy`, has at most 16 bytes of text, and each way to make one may refuse. An SSID `0` is dropped as
+/// it is there, but not without a [mark](Self::had_zero_ssid); callsigns that differ in the mark alone are equal.
 #[derive(Clone, Copy, Default, PartialEq, Eq, PartialOrd, Ord, Hash)]
 pub struct Callsign(ffi::Callsign);
 
 impl Callsign {
-    /// A callsign from its text, as in `N0CALL` or `N0CALL-1`. The first dash splits it, an SSID `0` is dropped.
+    /// A callsign from its text, as in `N0CALL` or `N0CALL-1`. The first dash splits it, an SSID `0` is dropped and
+    /// leaves its mark.
     ///
     /// A star behind the text is no part of a callsign and refused; [`decode_textual`](Self::decode_textual) reports
     /// it. Where aprs-parser answers `None`, this says why.
@@ -40,7 +42,7 @@ impl Callsign {
         Self::new(&call)?.with_call(call.as_ref())
     }
 
-    /// A callsign of a call and an SSID; `0` is none, and an empty one is refused.
+    /// A callsign of a call and an SSID; `0` is none but for its mark, and an empty one is refused.
     pub fn new_with_ssid(call: impl AsRef<str>, ssid: impl AsRef<str>) -> Result<Self, Refusal> {
         let call = call.as_ref();
         Self::new(format!("{call}-{}", ssid.as_ref()))?.with_call(call)
@@ -55,8 +57,7 @@ impl Callsign {
         }
     }
 
-    /// Reads a callsign's text; whether a star followed it, which a heard hop has. That an SSID `0` was dropped, only
-    /// [`ffi::CallsignRead`] tells.
+    /// Reads a callsign's text; whether a star followed it, which a heard hop has.
     pub fn decode_textual(text: &[u8]) -> Result<(Self, bool), Refusal> {
         // SAFETY: the pointer and the length are those of one slice.
         let read = unsafe { ffi::tusselgro_read_callsign(text.as_ptr(), text.len()) };
@@ -73,30 +74,69 @@ impl Callsign {
 
     /// The call, which may be empty.
     pub fn call(&self) -> &str {
-        self.part(0, self.0.call_len)
+        self.part(0, self.lengths().0)
     }
 
     /// The SSID without its dash.
     pub fn ssid(&self) -> Option<&str> {
-        match self.0.ssid_len {
-            0 => None,
-            length => Some(self.part(self.0.call_len.saturating_add(1), length)),
+        match self.lengths() {
+            (_, 0) => None,
+            (call, ssid) => Some(self.part(call + 1, ssid)),
         }
     }
 
     /// Call, dash and SSID.
     pub fn as_str(&self) -> &str {
-        let tail = match self.0.ssid_len {
-            0 => 0,
-            length => length.saturating_add(1),
-        };
-        self.part(0, self.0.call_len.saturating_add(tail))
+        match self.lengths() {
+            (call, 0) => self.part(0, call),
+            (call, ssid) => self.part(0, call + 1 + ssid),
+        }
+    }
+
+    /// Whether it was read from a text with the SSID `0`, which is dropped: that of `A-0` and `A-0*`, not of `A-00`,
+    /// `A-0-0` or `A-+0`.
+    ///
+    /// A frame has no such text, so its callsigns are never marked. A mark is never written, and callsigns are equal
+    /// with it and without.
+    ///
+    /// ```
+    /// use tusselgro::{AprsPacket, Callsign};
+    ///
+    /// let packet = AprsPacket::decode_textual(b"N0CALL-0>APRS,WIDE1-0*:")?;
+    /// assert!(packet.from.had_zero_ssid());
+    /// assert_eq!(packet.to().map(Callsign::had_zero_ssid), Some(false));
+    /// assert_eq!((packet.from.to_string(), packet.from.ssid()), ("N0CALL".to_string(), None));
+    /// assert_eq!(packet.from, Callsign::new("N0CALL")?);
+    /// # Ok::<(), tusselgro::Refusal>(())
+    /// ```
+    pub fn had_zero_ssid(&self) -> bool {
+        self.0.had_zero_ssid
+    }
+
+    /// The text that it was read from, but for a star: call, dash and SSID, and the `-0` that was dropped. Of an AX.25
+    /// address, what [`as_str`](Self::as_str) is.
+    ///
+    /// ```
+    /// use tusselgro::Callsign;
+    ///
+    /// for text in ["N0CALL", "N0CALL-0", "N0CALL-00"] {
+    ///     assert_eq!(Callsign::new(text)?.typed_text(), text);
+    /// }
+    /// # Ok::<(), tusselgro::Refusal>(())
+    /// ```
+    pub fn typed_text(&self) -> String {
+        let dropped = if self.had_zero_ssid() { "-0" } else { "" };
+        [self.as_str(), dropped].concat()
+    }
+
+    /// The bytes of the call, and those of the SSID.
+    fn lengths(&self) -> (usize, usize) {
+        (self.0.call_len.into(), self.0.ssid_len.into())
     }
 
     /// A part of the text; nothing where the record of it is not in range, whatever it holds.
     fn part(&self, from: usize, length: usize) -> &str {
-        let end = from.saturating_add(length);
-        let bytes = self.0.text.get(from..end).unwrap_or_default();
+        let bytes = self.0.text.get(from..from + length).unwrap_or_default();
         std::str::from_utf8(bytes).unwrap_or_default()
     }
 
@@ -141,7 +181,7 @@ impl<T: AsRef<str>> IntoCallsign for T {
     }
 }
 
-/// Call, dash and SSID, its zeros kept.
+/// Call, dash and SSID, its zeros kept; a dropped `-0` is not shown, which [`typed_text`](Callsign::typed_text) has.
 impl fmt::Display for Callsign {
     fn fmt(&self, f: &mut fmt::Formatter<'_>) -> fmt::Result {
         f.pad(self.as_str())
@@ -157,10 +197,29 @@ impl fmt::Debug for Callsign {
 #[cfg(test)]
 mod tests {
     use super::*;
+    use crate::CallsignField;
+    use std::cmp::Ordering;
+    use std::collections::hash_map::DefaultHasher;
     use std::collections::HashSet;
+    use std::hash::{Hash, Hasher};
 
     fn new(text: &str) -> Callsign {
         Callsign::new(text).unwrap()
+    }
+
+    fn hash(callsign: Callsign) -> u64 {
+        let mut state = DefaultHasher::new();
+        callsign.hash(&mut state);
+        state.finish()
+    }
+
+    fn written(callsign: Callsign) -> Vec<u8> {
+        let mut out = Vec::new();
+        callsign.encode_textual(true, &mut out).unwrap();
+        callsign
+            .encode_ax25(&mut out, CallsignField::Source, false)
+            .unwrap();
+        out
     }
 
     #[test]
@@ -180,6 +239,62 @@ mod tests {
         }
         assert_eq!(new(""), Callsign::default());
         assert_eq!(new("").to_string(), "");
+    }
+
+    /// Document 02's R-2.
+    #[test]
+    fn a_dropped_zero_leaves_its_mark() {
+        for call in ["A", "0", "ABCDEFGHIJKLMN", "\u{20ac}"] {
+            let text = format!("{call}-0");
+            let marked = new(&text);
+            assert!(marked.had_zero_ssid(), "{text}");
+            assert_eq!((marked.as_str(), marked.ssid()), (call, None));
+            assert_eq!(marked.typed_text(), text);
+        }
+        for text in [
+            "", "A", "A0", "A-00", "A-0-0", "A-+0", "A-01", "A-10", "A-0*0",
+        ] {
+            assert!(!new(text).had_zero_ssid(), "{text}");
+            assert_eq!(new(text).typed_text(), text);
+        }
+        let (starred, star) = Callsign::decode_textual(b"A-0*").unwrap();
+        assert_eq!((starred.typed_text(), star), ("A-0".to_string(), true));
+        let (twice, _) = Callsign::decode_textual(b"A-0**").unwrap();
+        assert_eq!((twice.ssid(), twice.had_zero_ssid()), (Some("0*"), false));
+    }
+
+    #[test]
+    fn a_callsign_of_parts_is_marked_by_its_ssid() {
+        let mark = |made: Result<Callsign, Refusal>| made.unwrap().had_zero_ssid();
+        assert!(mark(Callsign::new_with_ssid("A", "0")));
+        assert!(!mark(Callsign::new_with_ssid("A", "00")));
+        assert!(!mark(Callsign::new_no_ssid("A")));
+        assert!(!Callsign::default().had_zero_ssid());
+    }
+
+    #[test]
+    fn an_address_has_no_mark() {
+        for seventh in [0x60, 0xe1] {
+            let address = [0x9c, 0x6e, 0x98, 0x8a, 0x9a, 0x40, seventh];
+            let (callsign, ..) = Callsign::decode_ax25(&address).unwrap();
+            assert_eq!(
+                (callsign.as_str(), callsign.had_zero_ssid()),
+                ("N7LEM", false)
+            );
+        }
+    }
+
+    #[test]
+    fn a_mark_is_no_part_of_the_name() {
+        let (marked, plain) = (new("N7LEM-0"), new("N7LEM"));
+        assert!(marked.had_zero_ssid() && !plain.had_zero_ssid());
+        assert_eq!(marked, plain);
+        assert_eq!(marked.cmp(&plain), Ordering::Equal);
+        assert_eq!(hash(marked), hash(plain));
+        assert_eq!(format!("{marked} {marked:?}"), "N7LEM Callsign(\"N7LEM\")");
+        for callsign in [marked, plain] {
+            assert_eq!(written(callsign), b"N7LEM*\x9c\x6e\x98\x8a\x9a\x40\x61");
+        }
     }
 
     #[test]
@@ -266,9 +381,10 @@ mod tests {
                 text,
                 call_len,
                 ssid_len,
+                had_zero_ssid: false,
             })
         };
-        for wild in [made(b'A', usize::MAX, usize::MAX), made(0xff, 4, 2)] {
+        for wild in [made(b'A', u8::MAX, u8::MAX), made(0xff, 4, 2)] {
             assert_eq!(
                 (wild.as_str(), wild.call(), wild.ssid()),
                 ("", "", Some(""))

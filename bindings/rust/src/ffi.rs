@@ -1,6 +1,9 @@
 //! The C functions and records of `include/tusselgro.h` as Rust sees them, field by field the same. The rest of this
 //! crate stands on them and asks for no `unsafe`; what each function does and refuses, the header says.
 
+use std::cmp::Ordering;
+use std::hash::{Hash, Hasher};
+
 /// The kind of a record that is neither a position nor a Mic-E report.
 pub const UNKNOWN: u8 = 0;
 /// The kind of a position.
@@ -24,16 +27,52 @@ pub const MOST_HOPS: usize = 8;
 /// No callsign's text is longer.
 pub const MOST_CALLSIGN: usize = 16;
 
-/// A callsign as it is written. One in range is ordered by the bytes of its text.
+/// A callsign as it is written. One in range is ordered by the bytes of its text. Equality, order and hash do not look
+/// at the mark.
 #[repr(C)]
-#[derive(Clone, Copy, Debug, Default, PartialEq, Eq, PartialOrd, Ord, Hash)]
+#[derive(Clone, Copy, Debug, Default)]
 pub struct Callsign {
     /// Call, dash and SSID; the rest is 0.
     pub text: [u8; MOST_CALLSIGN],
     /// The bytes of the call.
-    pub call_len: usize,
+    pub call_len: u8,
     /// The bytes of the SSID; 0 for none, and then there is no dash.
-    pub ssid_len: usize,
+    pub ssid_len: u8,
+    /// The mark: the text that was read had the SSID `0`, which is dropped. Writers ignore it.
+    pub had_zero_ssid: bool,
+}
+
+impl Callsign {
+    /// All of it but the mark.
+    fn unmarked(&self) -> (&[u8; MOST_CALLSIGN], u8, u8) {
+        (&self.text, self.call_len, self.ssid_len)
+    }
+}
+
+impl PartialEq for Callsign {
+    fn eq(&self, other: &Self) -> bool {
+        self.unmarked() == other.unmarked()
+    }
+}
+
+impl Eq for Callsign {}
+
+impl PartialOrd for Callsign {
+    fn partial_cmp(&self, other: &Self) -> Option<Ordering> {
+        Some(self.cmp(other))
+    }
+}
+
+impl Ord for Callsign {
+    fn cmp(&self, other: &Self) -> Ordering {
+        self.unmarked().cmp(&other.unmarked())
+    }
+}
+
+impl Hash for Callsign {
+    fn hash<H: Hasher>(&self, state: &mut H) {
+        self.unmarked().hash(state);
+    }
 }
 
 /// A hop of a path.
@@ -164,12 +203,10 @@ pub struct Answer {
 #[repr(C)]
 #[derive(Clone, Copy, Debug, PartialEq, Eq)]
 pub struct CallsignRead {
-    /// The callsign.
+    /// The callsign, with its mark.
     pub call: Callsign,
     /// Whether a star followed it.
     pub starred: bool,
-    /// Whether its SSID was a lone `0`, which is dropped.
-    pub zero: bool,
     /// The refusal's number, or 0.
     pub refusal: u8,
 }
@@ -427,13 +464,13 @@ mod tests {
 
     #[test]
     fn records_have_the_sizes_that_the_header_states() {
-        assert_eq!((size_of::<Callsign>(), size_of::<Hop>()), (32, 40));
-        assert_eq!((size_of::<Path>(), size_of::<Header>()), (328, 392));
+        assert_eq!((size_of::<Callsign>(), size_of::<Hop>()), (19, 20));
+        assert_eq!((size_of::<Path>(), size_of::<Header>()), (168, 208));
         assert_eq!((size_of::<Place>(), size_of::<Report>()), (16, 12));
         assert_eq!((size_of::<Comment>(), size_of::<Body>()), (16, 56));
-        assert_eq!((size_of::<Record>(), size_of::<Read>()), (448, 456));
-        assert_eq!((size_of::<Answer>(), size_of::<CallsignRead>()), (24, 40));
-        assert_eq!((size_of::<AddressRead>(), size_of::<Address>()), (40, 8));
+        assert_eq!((size_of::<Record>(), size_of::<Read>()), (264, 272));
+        assert_eq!((size_of::<Answer>(), size_of::<CallsignRead>()), (24, 21));
+        assert_eq!((size_of::<AddressRead>(), size_of::<Address>()), (22, 8));
         assert_eq!(
             (size_of::<LatitudeRead>(), size_of::<LongitudeRead>()),
             (8, 8)
@@ -451,5 +488,24 @@ mod tests {
             (20, 24)
         );
         assert_eq!(size_of::<PageBox>(), 12);
+    }
+
+    #[test]
+    fn equality_looks_at_all_of_a_callsign_but_its_mark() {
+        let mut record = Record::default();
+        record.header.from.had_zero_ssid = true;
+        record.header.to.had_zero_ssid = true;
+        record.header.path.hops[7].call.had_zero_ssid = true;
+        assert_eq!(record, Record::default());
+        let others: [fn(&mut Callsign); 3] = [
+            |callsign| callsign.text[15] = 1,
+            |callsign| callsign.call_len = 1,
+            |callsign| callsign.ssid_len = 1,
+        ];
+        for change in others {
+            let mut other = record;
+            change(&mut other.header.path.hops[7].call);
+            assert_ne!(other, record);
+        }
     }
 }

@@ -122,6 +122,14 @@ mod tests {
         unsafe { ffi::tusselgro_read_text(line.as_ptr(), line.len()) }.record
     }
 
+    /// The marks, which equality does not look at: those of the source, the destination and all hops.
+    fn marks(record: &ffi::Record) -> Vec<bool> {
+        let ffi::Header { from, to, path } = &record.header;
+        let hops = path.hops.iter().map(|hop| &hop.call);
+        let callsigns = [from, to].into_iter().chain(hops);
+        callsigns.map(|callsign| callsign.had_zero_ssid).collect()
+    }
+
     #[test]
     fn a_record_comes_back_but_for_the_comments_place() {
         for line in [
@@ -133,11 +141,14 @@ mod tests {
             b"A>B:!0000.00N/00000.00W-",
             b"A>0LLLLL:`vX\x1cn\"Oj/",
             b"A>B-7:hi",
+            b"A-0>B-0,C,D-0*:!0000.00N/00000.00E-",
+            b"A-0>S32UVT-0,B-0:`(_fn\"Oj/",
         ] {
             let mut record = read(line);
             let packet = packet_of(&record, line).unwrap();
             record.body.comment = ffi::Comment::default();
             assert_eq!(record_of(&packet), record);
+            assert_eq!(marks(&record_of(&packet)), marks(&record));
         }
     }
 
@@ -171,7 +182,7 @@ mod tests {
         }
         let mut record = read(line);
         record.header.path.count = usize::MAX;
-        record.header.from.call_len = usize::MAX;
+        record.header.from.call_len = u8::MAX;
         let packet = packet_of(&record, line).unwrap();
         assert_eq!((packet.via.len(), packet.from.as_str()), (8, ""));
         assert_eq!(

@@ -1,4 +1,4 @@
-// Whole packets against the library itself, on document 01's values.
+// Whole packets against the library itself, on the values of documents 01 and 02.
 
 use crate::mic_e::{Course, Message, Speed};
 use crate::*;
@@ -142,6 +142,66 @@ fn a_zero_is_read_with_its_letter_and_written_north_or_east() {
         assert_eq!((latitude.hundredths(), latitude.is_south()), (0, south));
         assert_eq!(longitude.side(), side);
         assert_eq!(written(&packet), Ok(expected.to_vec()));
+    }
+}
+
+/// A digit for the source, one for the destination, one for each hop: 1 where it is marked; `-` for no destination.
+fn marks(packet: &AprsPacket<'_>) -> String {
+    let hops = packet.via.iter().filter_map(Via::callsign);
+    let callsigns = [Some(&packet.from), packet.to()]
+        .into_iter()
+        .chain(hops.map(|(callsign, _)| Some(callsign)));
+    let mark = |callsign: Option<&Callsign>| match callsign.map(Callsign::had_zero_ssid) {
+        Some(true) => '1',
+        Some(false) => '0',
+        None => '-',
+    };
+    callsigns.map(mark).collect()
+}
+
+/// Document 02's R-2.
+#[test]
+fn a_dropped_zero_is_marked_where_it_stood() {
+    let cases: [(&[u8], &str); 9] = [
+        (b"A-0>B-0,C-0,D-0*,E-0:!0000.00N/00000.00E-", "11111"),
+        (b"A-0>B,C,D:", "1000"),
+        (b"A>B-0,C,D:", "0100"),
+        (b"A>B,C-0,D:", "0010"),
+        (b"A>B,C,D-0*:", "0001"),
+        (b"A>B,1,2,3,4,5,6,7,8-0:", "0000000001"),
+        (b"A-00>B-0-0,C-+0,D-01,E:", "00000"),
+        (b"A-0>S32U6T-0,B-0,C:`(_fn\"Oj/", "1-10"),
+        (b"A>S32U6T-0:`(_fn\"Oj/", "0-"),
+    ];
+    for (line, expected) in cases {
+        assert_eq!(marks(&read(line)), expected, "{line:?}");
+    }
+}
+
+#[test]
+fn marks_are_not_written_and_not_compared() {
+    let cases: [(&[u8], &[u8], &str); 2] = [
+        (
+            b"A-0>B-0,C-0,D-0*:!0000.00N/00000.00E-",
+            b"A>B,C,D*:!0000.00N/00000.00E-",
+            "0000",
+        ),
+        (
+            b"A-0>S32U6T-0,B-0*:`(_fn\"Oj/",
+            b"A>S32U6T,B*:`(_fn\"Oj/",
+            "0-0",
+        ),
+    ];
+    for (line, plain, none) in cases {
+        assert_eq!(read(line), read(plain));
+        assert_eq!(written(&read(line)), Ok(plain.to_vec()));
+        assert_eq!(marks(&read(plain)), none);
+        let frames = [line, plain].map(|line| {
+            let mut frame = Vec::new();
+            read(line).encode_ax25(&mut frame).map(|()| frame).unwrap()
+        });
+        assert_eq!(frames[0], frames[1]);
+        assert_eq!(marks(&AprsPacket::decode_ax25(&frames[0]).unwrap()), none);
     }
 }
 

@@ -70,19 +70,14 @@ fn no_call() -> CallWord {
     CallWord { call, good: false }
 }
 
-// Call and SSID as they were given. What a text of sixteen bytes cannot hold is cut off it: the lengths tell.
-fn joined(call: &[u8], ssid: &[u8]) -> CallWord {
+// Call, dash and SSID as they were given. What sixteen bytes cannot hold is cut off: the lengths tell.
+fn joined(call: &[u8], ssid: &[u8]) -> [u8; 16] {
     let mut text = [0u8; 16];
     let mut end = buffer::put(call, &mut text, 0);
     end = buffer::put(lines::cut(b"-", ssid.len()), &mut text, end);
     let room = if end <= 16 { 16 - end } else { 0 };
     buffer::put(lines::cut(ssid, room), &mut text, end);
-    let call = Callsign {
-        text,
-        call_len: call.len(),
-        ssid_len: ssid.len(),
-    };
-    CallWord { call, good: true }
+    text
 }
 
 // `CALL/SSID`
@@ -107,7 +102,14 @@ fn call_word(s: &[u8]) -> CallWord {
     if 16 - n < k {
         return no_call();
     }
-    joined(lines::cut(&call, n), lines::cut(&ssid, k))
+    let text = joined(lines::cut(&call, n), lines::cut(&ssid, k));
+    let call = Callsign {
+        text,
+        call_len: n as u8,
+        ssid_len: k as u8,
+        had_zero_ssid: false,
+    };
+    CallWord { call, good: true }
 }
 
 // A callsign, and a star behind it where the hop is heard.
@@ -118,6 +120,30 @@ fn hop_word(s: &[u8]) -> CallWord {
     }
     call_word(lines::cut(s, star))
 }
+
+// ---- marks, by `zeros=BITS`: a digit for each callsign, 1 where its text had the SSID `0`
+
+// Whether each byte is the digit 0 or 1.
+fn are_bits(s: &[u8]) -> bool {
+    let mut i: usize = 0;
+    while i < s.len() {
+        let digit = s[i];
+        if (digit != b'0') & (digit != b'1') {
+            return false;
+        }
+        i += 1;
+    }
+    true
+}
+
+// A callsign with the mark that the digit at a place says; none where there is no digit.
+fn marked(c: Callsign, bits: &[u8], place: usize) -> Callsign {
+    let mut out = c;
+    out.had_zero_ssid = check::same(lines::cut(lines::tail(bits, place), 1), b"1");
+    out
+}
+
+// ---- the header
 
 fn no_header() -> HeaderWord {
     let header = header::blank();
@@ -134,7 +160,7 @@ fn with_path(from: Callsign, to: Callsign, hops: [Hop; 8], count: usize) -> Head
 }
 
 // Hops joined by commas, or a dash for none.
-fn path_word(from: Callsign, to: Callsign, s: &[u8]) -> HeaderWord {
+fn path_word(from: Callsign, to: Callsign, bits: &[u8], s: &[u8]) -> HeaderWord {
     let none = header::blank();
     let spare = none.path;
     let mut hops = spare.hops;
@@ -150,7 +176,7 @@ fn path_word(from: Callsign, to: Callsign, s: &[u8]) -> HeaderWord {
         if !made.good {
             return no_header();
         }
-        let call = made.call;
+        let call = marked(made.call, bits, i + 2);
         let hop = Hop {
             call,
             heard: laws::find(word, b'*') != word.len(),
@@ -166,19 +192,41 @@ fn path_word(from: Callsign, to: Callsign, s: &[u8]) -> HeaderWord {
 }
 
 // `FROM TO HOPS`, and more behind it
-pub fn header_word(s: &[u8]) -> HeaderWord {
+fn callsigns_word(s: &[u8], bits: &[u8]) -> HeaderWord {
     let made = call_word(lines::first(s));
     if !made.good {
         return no_header();
     }
-    let from = made.call;
+    let from = marked(made.call, bits, 0);
     let s = lines::rest(s);
     let made = call_word(lines::first(s));
     if !made.good {
         return no_header();
     }
-    let to = made.call;
-    path_word(from, to, lines::first(lines::rest(s)))
+    let to = marked(made.call, bits, 1);
+    path_word(from, to, bits, lines::first(lines::rest(s)))
+}
+
+// The same with the marks, which stand behind the record's eleven words; left out, there are none.
+pub fn header_word(s: &[u8]) -> HeaderWord {
+    let more = words::past(words::behind(words::skip(s, 10)), b" letters=");
+    if !words::has(more, b" zeros=") {
+        return callsigns_word(s, b"");
+    }
+    let bits = words::value(more, b" zeros=");
+    if bits.len() < 2 {
+        return no_header();
+    }
+    if !are_bits(bits) {
+        return no_header();
+    }
+    let named = callsigns_word(s, bits);
+    let header = named.header;
+    let path = header.path;
+    if lines::tail(bits, 2).len() != path.count {
+        return no_header();
+    }
+    named
 }
 
 // ---- the body
@@ -292,7 +340,7 @@ fn report_word(mic_e: bool, current: bool, s: &[u8]) -> ReportWord {
 
 // Whether nothing else stands there.
 fn is_known(s: &[u8]) -> bool {
-    words::past(s, b" letters=").len() == 0
+    words::past(words::past(s, b" letters="), b" zeros=").len() == 0
 }
 
 fn has_position(k: Kind) -> bool {

@@ -34,7 +34,7 @@ unfolding isKnown recordInC bodyInC reportInC
 known-in-c r = rw (kind-kept (r .body .kind) .1, message-kept (r .body .report .message) .1)
 
 abbrev pub noCall : Callsign
-noCall = record { text = replicate 16 0; «call_len» = 0; «ssid_len» = 0 }
+noCall = record { text = replicate 16 0; «call_len» = 0; «ssid_len» = 0; «had_zero_ssid» = false }
 
 abbrev pub noHop : Hop
 noHop = record { call = noCall; heard = false }

@@ -1,6 +1,7 @@
 -- Laws of a callsign made of an address's characters and an SSID's number: its bytes go in one after the other.
 -- Assumes nothing.
 use mathlib.Core.Path.{_≡_, sym, ap, _∙_}
+use mathlib.Core.Bool.{false}
 use mathlib.Core.List.{List, [], _∷_, _++_, append-assoc}
 use Prim.Native.Nat.{ℕ, _+_, _-_, _/_, _%_, _<_, _≤_}
 use native.Mathlib.Omega.{arith}
@@ -14,16 +15,16 @@ use Rattle.callsign.specs.declared.Callsign.{Callsign}
 use Rattle.callsign.specs.Text.{joined, callAs, made}
 use Rattle.callsign.specs.Address.{ssidOf, ssidText}
 
-module _ (call text : List ℕ) (n ssid : ℕ) (six : length call ≡ 6) (h : n ≤ 6) (e : text ≡ padTo 16 0 (take n call)) where
+module _ (r : Callsign) (call text : List ℕ) (n ssid : ℕ) (six : length call ≡ 6) (h : n ≤ 6) (e : text ≡ padTo 16 0 (take n call)) where
   size : length (take n call) ≡ n
   size = length-take-le n call (omega arith)
 
   more : (p : List ℕ) (v k : ℕ) → length p ≡ k → length (p ++ v ∷ []) ≡ k + 1
   more p v k q = length-append p (v ∷ []) ∙ ap (λ (m : ℕ). m + 1) q
 
-  pub no-number : ssid ≡ 0 → callAs text n 0 ≡ made (take n call) (ssidText ssid)
+  pub no-number : ssid ≡ 0 → r ≡ callAs text n 0 false → r ≡ made (take n call) (ssidText ssid)
   unfolding made joined ssidText
-  no-number z = rw (z, size, e)
+  no-number z w = w ∙ rw (z, size, e)
 
   module _ (z : ssid ≡ 0 → ⊥) where
     dashed : set text n dash ≡ padTo 16 0 (take n call ++ dash ∷ [])
@@ -32,22 +33,22 @@ module _ (call text : List ℕ) (n ssid : ℕ) (six : length call ≡ 6) (h : n 
     digit-more : (v : ℕ) → set (set text n dash) (n + 1) v ≡ padTo 16 0 ((take n call ++ dash ∷ []) ++ v ∷ [])
     digit-more v = ap (λ (l : List ℕ). set l (n + 1) v) dashed ∙ pad-set 16 0 (take n call ++ dash ∷ []) (n + 1) v (more (take n call) dash n size) (omega arith)
 
-    pub one-digit : ssid < 10 → callAs (set (set text n dash) (n + 1) (digit0 + ssid)) n 1 ≡ made (take n call) (ssidText ssid)
+    pub one-digit : ssid < 10 → r ≡ callAs (set (set text n dash) (n + 1) (digit0 + ssid)) n 1 false → r ≡ made (take n call) (ssidText ssid)
     unfolding made joined ssidText
-    one-digit l =
-        rw (ne-eqb ssid 0 z, lt-ltb ssid 10 l, size)
-        (ap (λ (t : List ℕ). callAs t n 1) (digit-more (digit0 + ssid) ∙ ap (λ (t : List ℕ). padTo 16 0 t) (append-assoc (take n call) (dash ∷ []) ((digit0 + ssid) ∷ []))))
+    one-digit l w =
+        w ∙ rw (ne-eqb ssid 0 z, lt-ltb ssid 10 l, size)
+        (ap (λ (t : List ℕ). callAs t n 1 false) (digit-more (digit0 + ssid) ∙ ap (λ (t : List ℕ). padTo 16 0 t) (append-assoc (take n call) (dash ∷ []) ((digit0 + ssid) ∷ []))))
 
     pub two-digits : 10 ≤ ssid → ssid < 16
-        → callAs (set (set (set text n dash) (n + 1) 49) (n + 2) (digit0 + (ssid - 10))) n 2 ≡ made (take n call) (ssidText ssid)
+        → r ≡ callAs (set (set (set text n dash) (n + 1) 49) (n + 2) (digit0 + (ssid - 10))) n 2 false → r ≡ made (take n call) (ssidText ssid)
     unfolding made joined ssidText
-    two-digits l m =
+    two-digits l m w =
         let tens : digit0 + ssid / 10 ≡ 49 = omega arith in
         let ones : digit0 + ssid % 10 ≡ digit0 + (ssid - 10) = omega arith in
         let p : List ℕ = (take n call ++ dash ∷ []) ++ 49 ∷ [] in
         let k : length p ≡ n + 2 = more (take n call ++ dash ∷ []) 49 (n + 1) (more (take n call) dash n size) ∙ two in
-        rw (ne-eqb ssid 0 z, le-ltb ssid 10 l, size, tens, ones)
-        (ap (λ (t : List ℕ). callAs t n 2)
+        w ∙ rw (ne-eqb ssid 0 z, le-ltb ssid 10 l, size, tens, ones)
+        (ap (λ (t : List ℕ). callAs t n 2 false)
         (ap (λ (t : List ℕ). set t (n + 2) (digit0 + (ssid - 10))) (digit-more 49) ∙ pad-set 16 0 p (n + 2) (digit0 + (ssid - 10)) k (omega arith)
         ∙ ap (λ (t : List ℕ). padTo 16 0 t)
         (append-assoc (take n call ++ dash ∷ []) (49 ∷ []) ((digit0 + (ssid - 10)) ∷ []) ∙ append-assoc (take n call) (dash ∷ []) (49 ∷ (digit0 + (ssid - 10)) ∷ []))))

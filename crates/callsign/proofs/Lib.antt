@@ -9,6 +9,7 @@ pub mod Digits
 pub mod Characters
 pub mod Sends
 pub mod Made
+pub mod Marks
 pub mod AddressBack
 pub mod TextBack
 pub mod Theorems

@@ -3,7 +3,7 @@
 use mathlib.Core.Path.{_≡_, refl, sym, ap, _∙_}
 use mathlib.Core.Bool.{Bool, true, false, cond, not, false≢true}
 use mathlib.Core.List.{List, [], _∷_, _++_}
-use Prim.Native.Nat.{ℕ, zero, suc, _-_, _<_, _≤_}
+use Prim.Native.Nat.{ℕ, suc, _-_, _<_, _≤_}
 use native.Mathlib.Omega.{arith}
 use borrow.Author.Tests.{eqb-true, eqb-false, ltb-false}
 use lib.Dec.{eqb, ltb}
@@ -13,20 +13,22 @@ use Rattle.laws.specs.Bytes.{star, dash, digit0}
 use Rattle.laws.specs.Lists.{indexOf}
 use Rattle.laws.proofs.Places.{index-split, index-le}
 use Rattle.laws.proofs.Tests.{and-both}
+use Rattle.callsign.specs.declared.Callsign.{Callsign}
 use Rattle.callsign.specs.declared.CallRead.{CallRead}
 use Rattle.callsign.specs.Utf8.{utf8}
-use Rattle.callsign.specs.Text.{joined, made, isZero, callRefused, callAccepted, parted, readUnstarred, readText}
+use Rattle.callsign.specs.Text.{joined, made, markedAs, isZero, callRefused, callAccepted, parted, readUnstarred, readText}
 use Rattle.callsign.specs.Range.{inRange, textOf, withStar}
 use Rattle.callsign.proofs.Unicode.{utf8-split}
 use Rattle.callsign.proofs.Ranges.{utf8-none, zero-none, joined-full}
 use Rattle.callsign.proofs.Made.{made-range, made-written, blank-range}
+use Rattle.callsign.proofs.Marks.{mark-in-range, mark-in-text}
 
 -- a refusal; no dash; `-0` dropped; call and SSID
 pub data Seen (t : List ℕ) (starred : Bool) : CallRead → Type 0 where
   refused : (n : ℕ) → 3 ≤ n → n ≤ 4 → Seen t starred (callRefused n)
-  bare : length t ≤ 16 → utf8 t ≡ true → Seen t starred (callAccepted (made t []) starred false)
-  zeroed : (a : List ℕ) → t ≡ a ++ dash ∷ digit0 ∷ [] → length t ≤ 16 → utf8 t ≡ true → Seen t starred (callAccepted (made a []) starred true)
-  full : (a b : List ℕ) → t ≡ a ++ dash ∷ b → (length b ≡ 0 → ⊥) → isZero b ≡ false → length t ≤ 16 → utf8 t ≡ true → Seen t starred (callAccepted (made a b) starred false)
+  bare : length t ≤ 16 → utf8 t ≡ true → Seen t starred (callAccepted (made t []) starred)
+  zeroed : (a : List ℕ) → t ≡ a ++ dash ∷ digit0 ∷ [] → length t ≤ 16 → utf8 t ≡ true → Seen t starred (callAccepted (markedAs true (made a [])) starred)
+  full : (a b : List ℕ) → t ≡ a ++ dash ∷ b → (length b ≡ 0 → ⊥) → isZero b ≡ false → length t ≤ 16 → utf8 t ≡ true → Seen t starred (callAccepted (made a b) starred)
 
 zero-is : (b : List ℕ) → isZero b ≡ true → b ≡ digit0 ∷ []
 unfolding isZero
@@ -40,7 +42,7 @@ module _ (t : List ℕ) (starred : Bool) (h : length t ≤ 16) (v : utf8 t ≡ t
   seen-parted a b e = go (eqb (length a) 0) (eqb (length b) 0) (isZero b) refl refl
     where
       go : (p q z : Bool) → eqb (length b) 0 ≡ q → isZero b ≡ z
-          → Seen t starred (cond p (callRefused 3) (cond q (callRefused 3) (cond z (callAccepted (made a []) starred true) (callAccepted (made a b) starred false))))
+          → Seen t starred (cond p (callRefused 3) (cond q (callRefused 3) (cond z (callAccepted (markedAs true (made a [])) starred) (callAccepted (made a b) starred))))
       go true q z f g = refused 3 (omega arith) (omega arith)
       go false true z f g = refused 3 (omega arith) (omega arith)
       go false false true f g = zeroed a (e ∙ ap (λ (l : List ℕ). a ++ dash ∷ l) (zero-is b g)) h v
@@ -51,7 +53,7 @@ unfolding readUnstarred
 seen t starred = go (ltb 16 (length t)) (utf8 t) (eqb (indexOf dash t) (length t)) refl refl refl
   where
     go : (p q d : Bool) → ltb 16 (length t) ≡ p → utf8 t ≡ q → eqb (indexOf dash t) (length t) ≡ d
-        → Seen t starred (cond p (callRefused 4) (cond (not q) (callRefused 3) (cond d (callAccepted (made t []) starred false) (parted (take (indexOf dash t) t) (drop (suc (indexOf dash t)) t) starred))))
+        → Seen t starred (cond p (callRefused 4) (cond (not q) (callRefused 3) (cond d (callAccepted (made t []) starred) (parted (take (indexOf dash t) t) (drop (suc (indexOf dash t)) t) starred))))
     go true q d e f g = refused 4 (omega arith) (omega arith)
     go false false d e f g = refused 3 (omega arith) (omega arith)
     go false true true e f g = bare (ltb-false 16 (length t) e) f
@@ -70,7 +72,7 @@ unfolding callRefused callAccepted joined
 seen-range t starred r (refused n h m) = blank-range
 seen-range t starred r (bare h v) = made-range t [] h v utf8-none zero-none
 seen-range t starred r (zeroed a e h v) =
-    made-range a [] (omega (arith, ap length e, length-append a (dash ∷ digit0 ∷ []))) (sides t a (digit0 ∷ []) e v .0) utf8-none zero-none
+    mark-in-range true (made a []) ∙ made-range a [] (omega (arith, ap length e, length-append a (dash ∷ digit0 ∷ []))) (sides t a (digit0 ∷ []) e v .0) utf8-none zero-none
 seen-range t starred r (full a b e k z h v) =
     let s = sides t a b e v in
     made-range a b (rw (joined-full a b k, ← e) h) (s .0) (s .1) z
@@ -91,19 +93,23 @@ unfoldable pub withZero : List ℕ → Bool → List ℕ
 withZero l true = l ++ dash ∷ digit0 ∷ []
 withZero l false = l
 
+-- a callsign as it was typed, but for a star
+unfoldable pub typedText : Callsign → List ℕ
+typedText c = withZero (textOf c) (c .«had_zero_ssid»)
+
 -- the text that a reading stands for
 unfoldable pub asRead : CallRead → List ℕ
-asRead r = withStar (withZero (textOf (r .call)) (r .zero)) (r .starred)
+asRead r = withStar (typedText (r .call)) (r .starred)
 
 bare-written : (a : List ℕ) → textOf (made a []) ≡ a
 unfolding joined
 bare-written a = made-written a []
 
 seen-back : (t : List ℕ) (starred : Bool) (r : CallRead) → Seen t starred r → r .refusal ≡ 0 → asRead r ≡ withStar t starred
-unfolding callRefused callAccepted asRead withZero
+unfolding callRefused callAccepted asRead typedText withZero markedAs made
 seen-back t starred r (refused n h m) q = absurd (omega arith)
 seen-back t starred r (bare h v) q = ap (λ (l : List ℕ). withStar l starred) (bare-written t)
-seen-back t starred r (zeroed a e h v) q = ap (λ (l : List ℕ). withStar l starred) (ap (λ (l : List ℕ). l ++ dash ∷ digit0 ∷ []) (bare-written a) ∙ sym e)
+seen-back t starred r (zeroed a e h v) q = ap (λ (l : List ℕ). withStar l starred) (ap (λ (l : List ℕ). l ++ dash ∷ digit0 ∷ []) (mark-in-text true (made a []) ∙ bare-written a) ∙ sym e)
 seen-back t starred r (full a b e k z h v) q = ap (λ (l : List ℕ). withStar l starred) (made-written a b ∙ joined-full a b k ∙ sym e)
 
 star-off : (s : List ℕ) → getD s (length s - 1) 0 ≡ star → take (length s - 1) s ++ star ∷ [] ≡ s

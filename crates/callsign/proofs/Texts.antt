@@ -15,7 +15,7 @@ use Rattle.laws.proofs.Lists.{part-length}
 use Rattle.laws.proofs.Places.{index-split, index-le}
 use Rattle.callsign.specs.declared.CallRead.{CallRead}
 use Rattle.callsign.specs.Utf8.{characters, utf8}
-use Rattle.callsign.specs.Text.{joined, callAs, made, isZero, callRefused, callAccepted, parted, readUnstarred, readText}
+use Rattle.callsign.specs.Text.{joined, callAs, made, markedAs, isZero, callRefused, callAccepted, parted, readUnstarred, readText}
 use Rattle.callsign.proofs.Ranges.{zero-alone, not-zero, joined-full}
 
 -- ---- the two sides of a dash
@@ -31,28 +31,28 @@ module _ (a b : List ℕ) (starred : Bool) where
     parted-right k = rw (ne-eqb (length a) 0 h, eq-eqb (length b) 0 k)
 
     module _ (k : length b ≡ 0 → ⊥) where
-      parted-zero : isZero b ≡ true → parted a b starred ≡ callAccepted (made a []) starred true
+      parted-zero : isZero b ≡ true → parted a b starred ≡ callAccepted (markedAs true (made a [])) starred
       unfolding parted
       parted-zero z = rw (ne-eqb (length a) 0 h, ne-eqb (length b) 0 k, z)
 
-      parted-kept : isZero b ≡ false → parted a b starred ≡ callAccepted (made a b) starred false
+      parted-kept : isZero b ≡ false → parted a b starred ≡ callAccepted (made a b) starred
       unfolding parted
       parted-kept z = rw (ne-eqb (length a) 0 h, ne-eqb (length b) 0 k, z)
 
-module _ (r : CallRead) (a x : List ℕ) (n : ℕ) (starred z : Bool) (e : length a ≡ n) where
-  accepted-bare : x ≡ padTo 16 0 a → r ≡ callAccepted (callAs x n 0) starred z → r ≡ callAccepted (made a []) starred z
-  unfolding made joined
-  accepted-bare q w = w ∙ rw (q, ← e)
+module _ (r : CallRead) (a x : List ℕ) (n : ℕ) (starred : Bool) (e : length a ≡ n) where
+  accepted-bare : (z : Bool) → x ≡ padTo 16 0 a → r ≡ callAccepted (callAs x n 0 z) starred → r ≡ callAccepted (markedAs z (made a [])) starred
+  unfolding made markedAs joined
+  accepted-bare z q w = w ∙ rw (q, ← e)
 
   accepted-full : (b : List ℕ) (k : ℕ) → (length b ≡ 0 → ⊥) → length b ≡ k → x ≡ padTo 16 0 (a ++ dash ∷ b)
-      → r ≡ callAccepted (callAs x n k) starred z → r ≡ callAccepted (made a b) starred z
+      → r ≡ callAccepted (callAs x n k false) starred → r ≡ callAccepted (made a b) starred
   unfolding made
   accepted-full b k h f q w = w ∙ rw (joined-full a b h, q, ← e, ← f)
 
 -- ---- the text without its star
 
 module _ (t : List ℕ) (starred : Bool) where
-  short : length t ≤ 16 → readUnstarred t starred ≡ cond (not (utf8 t)) (callRefused 3) (cond (eqb (indexOf dash t) (length t)) (callAccepted (made t []) starred false) (parted (take (indexOf dash t) t) (drop (suc (indexOf dash t)) t) starred))
+  short : length t ≤ 16 → readUnstarred t starred ≡ cond (not (utf8 t)) (callRefused 3) (cond (eqb (indexOf dash t) (length t)) (callAccepted (made t []) starred) (parted (take (indexOf dash t) t) (drop (suc (indexOf dash t)) t) starred))
   unfolding readUnstarred
   short h = rw (le-ltb 16 (length t) h)
 
@@ -67,9 +67,10 @@ pub text-there : (t : List ℕ) (u : Bool) → u ≡ utf8 t → not u ≡ false 
 text-there t u e n = sym e ∙ not-false u n
 
 module _ (t : List ℕ) (starred : Bool) (d : ℕ) (h : length t ≤ 16) (valid : utf8 t ≡ true) (f : d ≡ indexOf dash t) where
-  pub undashed : (r : CallRead) (x : List ℕ) → d ≡ length t → x ≡ padTo 16 0 t → r ≡ callAccepted (callAs x (length t) 0) starred false → r ≡ readUnstarred t starred
+  pub undashed : (r : CallRead) (x : List ℕ) → d ≡ length t → x ≡ padTo 16 0 t → r ≡ callAccepted (callAs x (length t) 0 false) starred → r ≡ readUnstarred t starred
+  unfolding made markedAs
   undashed r x w q s =
-      accepted-bare r t x (length t) starred false refl q s ∙ sym (short t starred h ∙ rw (valid, eq-eqb (indexOf dash t) (length t) (sym f ∙ w)))
+      accepted-bare r t x (length t) starred refl false q s ∙ sym (short t starred h ∙ rw (valid, eq-eqb (indexOf dash t) (length t) (sym f ∙ w)))
 
   module _ (i : d ≡ length t → ⊥) where
     ssid-length : length (drop (suc (indexOf dash t)) t) ≡ length t - d - 1
@@ -92,26 +93,26 @@ module _ (t : List ℕ) (starred : Bool) (d : ℕ) (h : length t ≤ 16) (valid 
         first : getD (drop (suc (indexOf dash t)) t) 0 0 ≡ getD t (d + 1) 0
         first = getD-drop (suc (indexOf dash t)) t 0 0 ∙ ap (λ (j : ℕ). getD t j 0) (omega arith)
 
-        pub ssid-zero : (r : CallRead) (x : List ℕ) → length t - d - 1 ≡ 1 → getD t (d + 1) 0 ≡ digit0 → x ≡ padTo 16 0 (take d t) → r ≡ callAccepted (callAs x d 0) starred true → r ≡ readUnstarred t starred
+        pub ssid-zero : (r : CallRead) (x : List ℕ) → length t - d - 1 ≡ 1 → getD t (d + 1) 0 ≡ digit0 → x ≡ padTo 16 0 (take d t) → r ≡ callAccepted (callAs x d 0 true) starred → r ≡ readUnstarred t starred
         ssid-zero r x w z q s =
-            accepted-bare r (take (indexOf dash t) t) x d starred true call-length (q ∙ ap (λ (m : ℕ). padTo 16 0 (take m t)) f) s
+            accepted-bare r (take (indexOf dash t) t) x d starred call-length true (q ∙ ap (λ (m : ℕ). padTo 16 0 (take m t)) f) s
             ∙ sym (at-parts ∙ parted-zero _ _ starred (λ m. c (sym call-length ∙ m)) (λ m. k (sym ssid-length ∙ m)) (zero-alone _ (ssid-length ∙ w) (first ∙ z)))
 
-        ssid-kept : (r : CallRead) (x : List ℕ) → (length t - d - 1 ≡ 1 → getD t (d + 1) 0 ≡ digit0 → ⊥) → x ≡ padTo 16 0 t → r ≡ callAccepted (callAs x d (length t - d - 1)) starred false → r ≡ readUnstarred t starred
+        ssid-kept : (r : CallRead) (x : List ℕ) → (length t - d - 1 ≡ 1 → getD t (d + 1) 0 ≡ digit0 → ⊥) → x ≡ padTo 16 0 t → r ≡ callAccepted (callAs x d (length t - d - 1) false) starred → r ≡ readUnstarred t starred
         ssid-kept r x w q s =
             let b : List ℕ = drop (suc (indexOf dash t)) t in
             let there : length b ≡ 0 → ⊥ = λ m. k (sym ssid-length ∙ m) in
-            accepted-full r (take (indexOf dash t) t) x d starred false call-length b (length t - d - 1) there ssid-length
+            accepted-full r (take (indexOf dash t) t) x d starred call-length b (length t - d - 1) there ssid-length
             (q ∙ ap (λ (l : List ℕ). padTo 16 0 l) (index-split dash t (omega (arith, index-le dash t)))) s
             ∙ sym (at-parts ∙ parted-kept _ b starred (λ m. c (sym call-length ∙ m)) there (not-zero b (λ o z. w (sym ssid-length ∙ o) (sym first ∙ z))))
 
-        pub ssid-long : (r : CallRead) (x : List ℕ) → (length t - d - 1 ≡ 1 → ⊥) → x ≡ padTo 16 0 t → r ≡ callAccepted (callAs x d (length t - d - 1)) starred false → r ≡ readUnstarred t starred
+        pub ssid-long : (r : CallRead) (x : List ℕ) → (length t - d - 1 ≡ 1 → ⊥) → x ≡ padTo 16 0 t → r ≡ callAccepted (callAs x d (length t - d - 1) false) starred → r ≡ readUnstarred t starred
         ssid-long r x w q = ssid-kept r x (λ a b. w a) q
 
-        pub ssid-other : (r : CallRead) (x : List ℕ) → (getD t (d + 1) 0 ≡ digit0 → ⊥) → x ≡ padTo 16 0 t → r ≡ callAccepted (callAs x d (length t - d - 1)) starred false → r ≡ readUnstarred t starred
+        pub ssid-other : (r : CallRead) (x : List ℕ) → (getD t (d + 1) 0 ≡ digit0 → ⊥) → x ≡ padTo 16 0 t → r ≡ callAccepted (callAs x d (length t - d - 1) false) starred → r ≡ readUnstarred t starred
         ssid-other r x w q = ssid-kept r x (λ a b. w b) q
 
-pub empty : (t : List ℕ) (starred : Bool) (r : CallRead) → length t ≡ 0 → r ≡ callAccepted (callAs (replicate 16 0) 0 0) starred false → r ≡ readUnstarred t starred
+pub empty : (t : List ℕ) (starred : Bool) (r : CallRead) → length t ≡ 0 → r ≡ callAccepted (callAs (replicate 16 0) 0 0 false) starred → r ≡ readUnstarred t starred
 unfolding padTo utf8 characters indexOf
 empty [] starred r h e = undashed [] starred 0 (omega arith) refl refl r (replicate 16 0) refl refl e
 empty (b ∷ t) starred r h e = absurd (omega arith)

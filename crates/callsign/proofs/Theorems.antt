@@ -12,8 +12,8 @@ use Rattle.callsign.specs.declared.Callsign.{Callsign}
 use Rattle.callsign.specs.declared.Field.{Field}
 use Rattle.callsign.specs.declared.Field.the-variants.{Hop}
 use Rattle.callsign.specs.Utf8.{after, characters, utf8}
-use Rattle.callsign.specs.Text.{joined, made, isZero, readText}
-use Rattle.callsign.specs.Range.{callPart, ssidPart, textLen, isDashed, inRange, rangeRefusal}
+use Rattle.callsign.specs.Text.{joined, made, markedAs, isZero, readText}
+use Rattle.callsign.specs.Range.{callPart, ssidPart, textLen, isDashed, inRange, rangeRefusal, textOf}
 use Rattle.callsign.specs.Address.{ssidOf, heardOf, lastOf, onto, areSpaces, unpacked, ssidText, addressOf, readAddress}
 use Rattle.callsign.specs.Packed.{ssidNumber, bit, upperBits, seventhOf, sent, packedAs, packedBy, writeAddress}
 use Rattle.callsign.proofs.Ranges.{accepted}
@@ -21,6 +21,7 @@ use Rattle.callsign.proofs.Bits.{heardIn}
 use Rattle.callsign.proofs.Characters.{address-as}
 use Rattle.callsign.proofs.AddressBack as address
 use Rattle.callsign.proofs.TextBack as text
+use Rattle.callsign.proofs.Marks as marks
 
 -- an address that was written reads back: the call raised, the SSID's number as text, bit 7 as the field has it
 pub address-reads-back : (c : Callsign) (field : Field) (last : Bool) → writeAddress c field last .refusal ≡ 0
@@ -45,9 +46,27 @@ text-is-in-range = text.text-range
 pub text-can-be-written : (s : List ℕ) → rangeRefusal (readText s .call) ≡ 0
 text-can-be-written s = accepted (readText s .call) (text.text-range s)
 
--- what an accepted text is written as, with the `-0` and the star that were reported, is that text
+-- what an accepted text is written as, with the `-0` that its mark tells of and the star that was reported, is that text
 pub text-is-kept : (s : List ℕ) → readText s .refusal ≡ 0 → text.asRead (readText s) ≡ s
 text-is-kept = text.text-back
+
+-- ---- document 02, R-2: the mark of a dropped `0`
+
+-- an accepted text sets it exactly where its SSID, once the star is off, is `0`
+pub mark-exactly : (s : List ℕ) → readText s .refusal ≡ 0 → readText s .call .«had_zero_ssid» ≡ isZero (marks.typedSsid (marks.starOff s))
+mark-exactly = marks.text-mark
+
+-- an address never does: its callsign without a mark is that callsign
+pub address-has-no-mark : (b : List ℕ) → marks.unmarkedCall (readAddress b .call) ≡ readAddress b .call
+address-has-no-mark = marks.unmarked-address
+
+-- the writers do not look at it
+pub marks-move-no-text : (zero : Bool) (c : Callsign) → (rangeRefusal (markedAs zero c) ≡ rangeRefusal c) × (textOf (markedAs zero c) ≡ textOf c)
+unfolding rangeRefusal
+marks-move-no-text zero c = (rw (marks.mark-in-range zero c), marks.mark-in-text zero c)
+
+pub marks-move-no-address : (zero : Bool) (c : Callsign) (field : Field) (last : Bool) → writeAddress (markedAs zero c) field last ≡ writeAddress c field last
+marks-move-no-address = marks.mark-in-address
 
 -- ---- P10: hop N0CALL-1, heard, last
 

@@ -1,7 +1,8 @@
 -- An AX.25 address read (AX.25 2.2, section 3.12; document 01, 'Modules in port order', 1): "An AX.25 address is 7
 -- bytes. Six are characters shifted left by one; a low bit set is 3. Spaces may only trail; all spaces give an empty
 -- call. Others must be ASCII letters or digits, and letters are raised to capitals. Bits 1 to 4 of the seventh byte
--- are the SSID; 0 means none. Bit 7 is heard; low bit set means last; bits 5 and 6 are ignored."
+-- are the SSID; 0 means none. Bit 7 is heard; low bit set means last; bits 5 and 6 are ignored." Document 02, R-2, of the mark: "In
+-- frames it is never set."
 -- Assumes nothing.
 use Prim.Native.Nat.{ℕ, _+_, _*_, _/_, _%_}
 use mathlib.Core.Bool.{Bool, true, false, cond, _&&_}

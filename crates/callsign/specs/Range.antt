@@ -1,5 +1,6 @@
 -- Which callsigns are in range, and the text that is written of one. Document 01: "15 is given for: .. callsign text
--- over 16 bytes, not UTF-8, or SSID `0`; spare bytes .. not zero". UTF-8 is judged of call and SSID each.
+-- over 16 bytes, not UTF-8, or SSID `0`; spare bytes .. not zero". UTF-8 is judged of call and SSID each. Document 02, R-2, of the
+-- mark: "Writers ignore it".
 -- Assumes nothing.
 use Prim.Native.Nat.{ℕ, _+_}
 use mathlib.Core.Bool.{Bool, true, false, not, cond, _&&_}

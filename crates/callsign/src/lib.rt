@@ -14,21 +14,21 @@ ghost use Rattle.callsign.specs.Address.{heardOf, lastOf, ssidOf, ssidTe
 ghost use Rattle.callsign.specs.Packed.{ssidNumber, upperBits, seventhOf, unwrittenBy, packedAs, writeAddress};
 use numbers::Count;
 
-// A callsign as it is written: call, dash and SSID in `text`, the rest of it zero. Without an SSID there is no dash.
+// A callsign as it is written: call, dash and SSID in `text`, the rest of it zero. Without an SSID there is no dash. The mark says
+// that it was read from a text whose SSID was a lone `0`, which is dropped; nothing that judges or writes a callsign looks at it.
 #[repr(C)]
 pub struct Callsign {
     pub text: [u8; 16],
-    pub call_len: usize,
-    pub ssid_len: usize,
+    pub call_len: u8,
+    pub ssid_len: u8,
+    pub had_zero_ssid: bool,
 }
 
-// What reading a text gives: the refusal's number or 0, the callsign, whether a star followed it, and whether its
-// SSID was a lone `0`, which is dropped.
+// What reading a text gives: the refusal's number or 0, the callsign, and whether a star followed it.
 #[repr(C)]
 pub struct CallRead {
     pub call: Callsign,
     pub starred: bool,
-    pub zero: bool,
     pub refusal: u8,
 }
 
@@ -151,6 +151,7 @@ pub fn blank() -> Callsign
         text,
         call_len: 0,
         ssid_len: 0,
+        had_zero_ssid: false,
     }
 }
 
@@ -161,23 +162,33 @@ fn refused(n: u8) -> CallRead
     CallRead {
         call,
         starred: false,
-        zero: false,
         refusal: n,
     }
 }
 
-fn accepted(text: [u8; 16], n: usize, k: usize, starred: bool, zero: bool) -> CallRead
-    ensures { λ r. ⌜ r ≡ callAccepted (callAs text n k) starred zero ⌝ }
+// The callsign of a text, the lengths of its call and its SSID, and its mark.
+fn call_as(text: [u8; 16], n: usize, k: usize, zero: bool) -> Callsign
+    requires { ⌜ (n ≤ 16) × (k ≤ 16) ⌝ }
+    ensures { λ r. ⌜ r ≡ callAs text n k zero ⌝ }
 {
-    let call = Callsign {
+    let call_len = n as u8;
+    let ssid_len = k as u8;
+    Callsign {
         text,
-        call_len: n,
-        ssid_len: k,
-    };
+        call_len,
+        ssid_len,
+        had_zero_ssid: zero,
+    }
+}
+
+fn accepted(text: [u8; 16], n: usize, k: usize, zero: bool, starred: bool) -> CallRead
+    requires { ⌜ (n ≤ 16) × (k ≤ 16) ⌝ }
+    ensures { λ r. ⌜ r ≡ callAccepted (callAs text n k zero) starred ⌝ }
+{
+    let call = call_as(text, n, k, zero);
     CallRead {
         call,
         starred,
-        zero,
         refusal: 0,
     }
 }
@@ -214,7 +225,7 @@ fn read_parts(t: &[u8], padded: [u8; 16], starred: bool) -> CallRead
     let n = t.len();
     let d = laws::find(t, b'-');
     if d == n {
-        return accepted(padded, n, 0, starred, false);
+        return accepted(padded, n, 0, false, starred);
     }
     if d == 0 {
         return refused(3);
@@ -226,10 +237,10 @@ fn read_parts(t: &[u8], padded: [u8; 16], starred: bool) -> CallRead
     if k == 1 {
         if t[d + 1] == b'0' {
             let call = pad(&t[..d]);
-            return accepted(call, d, 0, starred, true);
+            return accepted(call, d, 0, true, starred);
         }
     }
-    accepted(padded, d, k, starred, false)
+    accepted(padded, d, k, false, starred)
 }
 
 // Reads a text whose star, if it had one, is off. An empty one is told apart so that the bytes of any other lie side by side
@@ -239,7 +250,7 @@ fn read_unstarred(t: &[u8], starred: bool) -> CallRead
 {
     let n = t.len();
     if n == 0 {
-        return accepted([0; 16], 0, 0, starred, false);
+        return accepted([0; 16], 0, 0, false, starred);
     }
     if 16 < n {
         return refused(4);
@@ -302,8 +313,8 @@ fn is_sound(text: [u8; 16], n: usize) -> bool
 pub fn text_len(c: Callsign) -> usize
     ensures { λ r. ⌜ r ≡ min (textLen c) 16 ⌝ }
 {
-    let n = c.call_len;
-    let k = c.ssid_len;
+    let n = c.call_len as usize;
+    let k = c.ssid_len as usize;
     if 16 < n {
         return 16;
     }
@@ -335,8 +346,8 @@ pub fn is_blank(c: Callsign) -> bool
 pub fn in_range(c: Callsign) -> bool
     ensures { λ r. ⌜ r ≡ inRange c ⌝ }
 {
-    let n = c.call_len;
-    let k = c.ssid_len;
+    let n = c.call_len as usize;
+    let k = c.ssid_len as usize;
     let text = c.text;
     if 16 < n {
         return false;
@@ -435,28 +446,16 @@ fn numbered(call: [u8; 6], n: usize, ssid: u8) -> Callsign
 {
     let mut text = pad(&call[..n]);
     if ssid == 0 {
-        return Callsign {
-            text,
-            call_len: n,
-            ssid_len: 0,
-        };
+        return call_as(text, n, 0, false);
     }
     text[n] = b'-';
     if ssid < 10 {
         text[n + 1] = b'0' + ssid;
-        return Callsign {
-            text,
-            call_len: n,
-            ssid_len: 1,
-        };
+        return call_as(text, n, 1, false);
     }
     text[n + 1] = b'1';
     text[n + 2] = b'0' + (ssid - 10);
-    Callsign {
-        text,
-        call_len: n,
-        ssid_len: 2,
-    }
+    call_as(text, n, 2, false)
 }
 
 // The characters of an address, unpacked.
@@ -600,8 +599,8 @@ pub fn write_address(c: Callsign, field: Field, last: bool) -> AddressWritten
         return unwritten(15);
     }
     let text = c.text;
-    let n = c.call_len;
-    let k = c.ssid_len;
+    let n = c.call_len as usize;
+    let k = c.ssid_len as usize;
     if k == 0 {
         let s = seventh(field, 0, last);
         return packed(&text[..n], s);

@@ -13,5 +13,7 @@ pub mod FrameHops
 pub mod Frames
 pub mod Answers
 pub mod FrameBack
+pub mod Kept
+pub mod Marks
 pub mod Theorems
 pub mod Unique

@@ -1,5 +1,5 @@
--- What the definitions of a header amount to: what is read is in range, refusals are few and blank, stars carry over, and a
--- frame that was written reads back.
+-- What the definitions of a header amount to: what is read is in range, refusals are few and blank, stars carry over, a line's bytes
+-- stand in what is read of it, marks move nothing that is written, and a frame that was written reads back.
 -- Assumes nothing.
 use mathlib.Core.Path.{_≡_, refl, _∙_}
 use mathlib.Core.Logic.{_⊎_}
@@ -9,6 +9,7 @@ use Prim.Native.Nat.{ℕ, _<_, _≤_}
 use lib.ListN.{length, getD}
 use Rattle.laws.specs.Bytes.{within, star, comma}
 use Rattle.laws.specs.Lists.{indexOf, padTo}
+use Rattle.laws.proofs.Unique.{alike-without}
 use Rattle.callsign.specs.Utf8.{after, characters, utf8}
 use Rattle.callsign.specs.Text.{joined, made, isZero, callAccepted, parted, readUnstarred, readText}
 use Rattle.callsign.specs.Packed.{bit}
@@ -16,10 +17,10 @@ use Rattle.callsign.specs.Range.{callPart, ssidPart, textOf, withStar}
 use Rattle.callsign.proofs.AddressBack.{inAddress}
 use Rattle.header.specs.declared.Hop.{Hop}
 use Rattle.header.specs.declared.Header.{Header}
-use Rattle.header.specs.Header.{mostBytes, blankHop, these, before, pathOf, hopsOf, headerRefused, headerAccepted}
+use Rattle.header.specs.Header.{mostBytes, blankHop, these, before, pathOf, hopsOf, blankHeader, headerRefused, headerAccepted}
 use Rattle.header.specs.Text.{onFirst, fields, isQ, hopOf, readHop, hopThen, textHops, starsOf, anyHeard, carried, readHeaderText, readTextHeader, hopsText, headerText}
 use Rattle.header.specs.Frame.{readFrameHeader, headerFrame}
-use Rattle.header.specs.Range.{headerInRange, frameRefusal}
+use Rattle.header.specs.Range.{headerInRange, textRefusal, frameRefusal}
 use Rattle.header.proofs.Typed.{isSet, star-bit}
 use Rattle.header.proofs.Stars.{starredLast, eachText, written-stars, carried-starred, carried-twice}
 use Rattle.header.proofs.TextWritten as text
@@ -27,6 +28,8 @@ use Rattle.header.proofs.FrameWritten as frame
 use Rattle.header.proofs.Walks.{InText, InLine, InFrame}
 use Rattle.header.proofs.Answers.{text-answered, line-answered, frame-answered, answered-range, answered-body, answered-number, answered-blank, Starred, Starless, answered-heard, answered-set, answered-starless}
 use Rattle.header.proofs.FrameBack.{inFrame, frame-back}
+use Rattle.header.proofs.Kept.{Kept, text-kept, line-kept}
+use Rattle.header.proofs.Marks.{unmarked, unmarked-text, unmarked-text-refusal, unmarked-frame, unmarked-frame-refusal, unmarked-read, unmarked-blank}
 
 -- ---- what is read: of any text, any line and any frame, accepted or not
 
@@ -106,6 +109,32 @@ frame-has-no-stars s = answered-starless InFrame s (frame-answered s)
 -- a text's hops are written with one star, and carrying it back gives the same hops heard
 pub stars-are-kept : (l : List Hop) → (hopsText (carried l) ≡ eachText (starredLast (carried l))) × (carried (starredLast (carried l)) ≡ carried l)
 stars-are-kept l = (written-stars (carried l), carried-starred (carried l) ∙ carried-twice l)
+
+-- ---- document 02, R-2: "say when a zero SSID was dropped"
+
+-- the bytes of an accepted text, up to its body, are its callsigns with `-0` where the mark is set, and with the stars that were typed: a
+-- hop's by its bit, behind source and destination one or none
+pub any-text-is-kept : (s : List ℕ) → readHeaderText s .refusal ≡ 0 → Kept s (readHeaderText s)
+any-text-is-kept = text-kept
+
+-- and so of a line
+pub text-is-kept : (s : List ℕ) → readTextHeader s .refusal ≡ 0 → Kept s (readTextHeader s)
+text-is-kept = line-kept
+
+-- "In frames it is never set": a header without its marks is that header
+pub frame-has-no-mark : (s : List ℕ) → unmarked (readFrameHeader s .header) ≡ readFrameHeader s .header
+frame-has-no-mark = unmarked-read
+
+-- nor by a refusal, which has the blank header
+pub blank-has-no-mark : unmarked blankHeader ≡ blankHeader
+blank-has-no-mark = unmarked-blank
+
+-- "Writers ignore it": headers that differ in marks alone are refused alike, and written with the same bytes
+pub marks-move-no-text : (h h′ : Header) → unmarked h ≡ unmarked h′ → (textRefusal h ≡ textRefusal h′) × (headerText h ≡ headerText h′)
+marks-move-no-text h h′ e = (alike-without unmarked textRefusal unmarked-text-refusal h h′ e, alike-without unmarked headerText unmarked-text h h′ e)
+
+pub marks-move-no-frame : (h h′ : Header) → unmarked h ≡ unmarked h′ → (frameRefusal h ≡ frameRefusal h′) × (headerFrame h ≡ headerFrame h′)
+marks-move-no-frame h h′ e = (alike-without unmarked frameRefusal unmarked-frame-refusal h h′ e, alike-without unmarked headerFrame unmarked-frame h h′ e)
 
 -- ---- frames
 

@@ -42,12 +42,13 @@ stars-below (h ∷ l) = go (h .heard) (stars-below l) (two-pow-succ (length l))
 abbrev pub isSet : ℕ → ℕ → Bool
 isSet n j = eqb (n / 2 ^ j % 2) 1
 
-lowest : (b : Bool) (n : ℕ) → eqb ((bit b + 2 * n) % 2) 1 ≡ b
+-- the lowest bit, and the number of the others
+pub lowest : (b : Bool) (n : ℕ) → eqb ((bit b + 2 * n) % 2) 1 ≡ b
 unfolding bit
 lowest true n = eq-eqb ((1 + 2 * n) % 2) 1 (omega arith)
 lowest false n = ne-eqb ((0 + 2 * n) % 2) 1 (λ z. omega arith)
 
-others : (b : Bool) (n : ℕ) → (bit b + 2 * n) / 2 ≡ n
+pub others : (b : Bool) (n : ℕ) → (bit b + 2 * n) / 2 ≡ n
 unfolding bit
 others true n = omega arith
 others false n = omega arith

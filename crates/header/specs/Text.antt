@@ -1,5 +1,6 @@
 -- The header of a line of text. Document 01, order: "1; `:`; `>`; source; destination; hops from the left; body. A hop: 5, 6,
--- 4, 3." Modules, 5: "In text a hop is heard if it or a later hop is starred; writing stars the last heard one only."
+-- 4, 3." Modules, 5: "In text a hop is heard if it or a later hop is starred; writing stars the last heard one only." Document 02, R-2:
+-- "every header reader passes this on for source, destination and each hop", the mark of a dropped zero, which a callsign carries.
 -- Assumes nothing.
 use Prim.Native.Nat.{ℕ, zero, suc, _+_, _*_}
 use mathlib.Core.Bool.{Bool, false, not, cond, _&&_, _||_}
@@ -51,7 +52,7 @@ isQ t = eqb (length t) 3 && (eqb (getD t 0 0) smallQ && eqb (getD t 1 0) capital
 unfoldable pub hopRefused : ℕ → HopRead
 hopRefused n = record { refusal = n; hop = blankHop }
 
--- a hop by its callsign, 4 and 3; its star
+-- a hop by its callsign, marked or not, 4 and 3; its star
 unfoldable pub hopOf : CallRead → HopRead
 hopOf c = record { refusal = c .refusal; hop = record { call = c .call; heard = c .starred } }
 

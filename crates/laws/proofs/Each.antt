@@ -2,7 +2,7 @@
 -- Assumes nothing.
 use mathlib.Core.Path.{_≡_, refl, sym, ap, _∙_}
 use mathlib.Core.Bool.{Bool, true, false, not, _&&_, and-false}
-use mathlib.Core.List.{List, [], _∷_, _++_}
+use mathlib.Core.List.{List, [], _∷_, _++_, map}
 use Prim.Native.Nat.{ℕ, zero, suc, _+_, _<_, _≤_}
 use native.Mathlib.Nat.{not-suc-le-zero, le-of-suc-le-suc}
 use native.Mathlib.Numerals.{add-one}
@@ -54,6 +54,12 @@ module _ {A : Type 0} (p : A → Bool) where
   unfolding every
   every-replicate x e zero = refl
   every-replicate x e (suc n) = rw e (every-replicate x e n)
+
+  -- an element made into another that is tested alike
+  pub every-map : (f : A → A) → ((x : A) → p (f x) ≡ p x) → (l : List A) → every p (map f l) ≡ every p l
+  unfolding every
+  every-map f e [] = refl
+  every-map f e (x ∷ l) = rw (e x, every-map f e l)
 
   pub every-at : (l : List A) (i : ℕ) (z : A) → every p l ≡ true → i < length l → p (getD l i z) ≡ true
   every-at [] i z e h = absurd (not-suc-le-zero h)

@@ -15,9 +15,10 @@ fn called(refusal: u8, c: Callsign, out: &mut [u8], at: usize) -> usize {
 // `callsign TEXT`
 pub fn text(s: &[u8], out: &mut [u8], at: usize) -> usize {
     let r = callsign::read_text(s);
-    let mut end = called(r.refusal, r.call, out, at);
+    let c = r.call;
+    let mut end = called(r.refusal, c, out, at);
     end = words::count(b" starred=", r.starred as usize, out, end);
-    words::count(b" zero=", r.zero as usize, out, end)
+    words::count(b" zero=", c.had_zero_ssid as usize, out, end)
 }
 
 // `address BYTES`
@@ -61,13 +62,14 @@ pub fn last_hop(s: &[u8], out: &mut [u8], at: usize) -> usize {
 }
 
 // A callsign by its text and lengths, written.
-fn written(bytes: &[u8], call_len: usize, ssid_len: usize, out: &mut [u8], at: usize) -> usize {
+fn written(bytes: &[u8], call_len: u8, ssid_len: u8, out: &mut [u8], at: usize) -> usize {
     let mut text = [0u8; 16];
     buffer::write(bytes, &mut text);
     let c = Callsign {
         text,
         call_len,
         ssid_len,
+        had_zero_ssid: false,
     };
     let mut line = [0u8; 32];
     let w = callsign::write_text(c, false, &mut line);
@@ -77,9 +79,13 @@ fn written(bytes: &[u8], call_len: usize, ssid_len: usize, out: &mut [u8], at: u
 // `spelled CALL_LEN SSID_LEN BYTES`
 pub fn spelled(s: &[u8], out: &mut [u8], at: usize) -> usize {
     let t = lines::rest(s);
-    let n = words::counted(lines::first(s), lines::first(t));
-    if !n.good {
+    let n = words::byte(lines::first(s));
+    let k = words::byte(lines::first(t));
+    if 255 < n {
         return at;
     }
-    written(lines::rest(t), n.first as usize, n.second as usize, out, at)
+    if 255 < k {
+        return at;
+    }
+    written(lines::rest(t), n as u8, k as u8, out, at)
 }

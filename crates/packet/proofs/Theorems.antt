@@ -1,4 +1,4 @@
--- The crate's theorems: what is read, the boxes of it, and what of it is not written.
+-- The crate's theorems: what is read, the boxes of it, the marks of dropped zeros, and what of it is not written.
 -- Assumes nothing.
 use mathlib.Core.Path.{_≡_, refl, ap, _∙_}
 use mathlib.Core.Bool.{Bool, true, false, not, cond}
@@ -6,21 +6,23 @@ use mathlib.Core.List.{List}
 use Prim.Native.Nat.{ℕ, _+_, _≤_}
 use lib.Dec.{ltb}
 use lib.ListN.{length}
-use Rattle.buffer.specs.Wrote.{overBy}
-use Rattle.header.specs.Text.{readHeaderText}
+use Rattle.laws.proofs.Unique.{alike-without}
+use Rattle.buffer.specs.Wrote.{overBy, wrote}
+use Rattle.header.specs.Text.{readHeaderText, readTextHeader}
 use Rattle.header.specs.Frame.{readFrameHeader}
 use Rattle.header.specs.Range.{frameRefusal as headerFrameRefusal}
 use Rattle.body.specs.Range.{isExcepted}
 use Rattle.body.specs.Written.{kindRefusal}
 use Rattle.body.proofs.Theorems.{InnerEdges}
 use Rattle.packet.specs.declared.Record.{Record}
-use Rattle.packet.specs.Record.{packetRefused}
+use Rattle.packet.specs.Record.{blankRecord, packetRefused}
 use Rattle.packet.specs.Range.{recordInRange, rangeRefusal}
 use Rattle.packet.specs.Packet.{readAnyText, readText, readFrame}
 use Rattle.header.specs.Header.{mostBytes}
 use Rattle.packet.specs.Written.{writtenHeader, textBytes, frameBytes, orElse, recordRefusal, textRefusal, frameRefusal}
 use Rattle.packet.proofs.Order.{or-or}
 use Rattle.packet.proofs.Given.{Given, after-blank, refused-first, any-text-given, text-given, frame-given}
+use Rattle.packet.proofs.Marks.{unmarkedRecord, unmarked-text-bytes, unmarked-frame-bytes, unmarked-refusal-of-text, unmarked-refusal-of-frame, unmarked-blank-record, unmarked-frame-record, LineKept, any-text-line-kept, text-line-kept}
 
 -- ---- "A refused decode returns the blank record"
 
@@ -68,6 +70,32 @@ text-inner-edges s = text-given s .edges
 
 pub frame-inner-edges : (s : List ℕ) → InnerEdges (readFrame s .«record» .body)
 frame-inner-edges s = frame-given s .edges
+
+-- ---- document 02, R-2: "every header reader passes this on for source, destination and each hop"
+
+-- the bytes of an accepted text, up to its body, are the record's callsigns with `-0` where the mark is set, and with the stars that
+-- were typed; but for the destination that a Mic-E record lacks
+pub any-text-is-kept : (s : List ℕ) → readAnyText s .refusal ≡ 0 → LineKept s (readHeaderText s) (readAnyText s .«record»)
+any-text-is-kept = any-text-line-kept
+
+pub text-is-kept : (s : List ℕ) → readText s .refusal ≡ 0 → LineKept s (readTextHeader s) (readText s .«record»)
+text-is-kept = text-line-kept
+
+-- "In frames it is never set": the record of any frame, accepted or not, has no mark
+pub frame-has-no-mark : (s : List ℕ) → unmarkedRecord (readFrame s .«record») ≡ readFrame s .«record»
+frame-has-no-mark = unmarked-frame-record
+
+-- nor has the blank one, which refusals return
+pub blank-has-no-mark : unmarkedRecord blankRecord ≡ blankRecord
+blank-has-no-mark = unmarked-blank-record
+
+-- "Writers ignore it": of records that differ in marks alone, answer and buffer are the same
+module _ (r r′ : Record) (e : unmarkedRecord r ≡ unmarkedRecord r′) (comment out : List ℕ) where
+  pub marks-move-no-text : wrote (textRefusal r comment) (textBytes r comment) out ≡ wrote (textRefusal r′ comment) (textBytes r′ comment) out
+  marks-move-no-text = alike-without unmarkedRecord (λ x. wrote (textRefusal x comment) (textBytes x comment) out) (λ x. rw (unmarked-refusal-of-text x comment, unmarked-text-bytes x comment)) r r′ e
+
+  pub marks-move-no-frame : wrote (frameRefusal r comment) (frameBytes r comment) out ≡ wrote (frameRefusal r′ comment) (frameBytes r′ comment) out
+  marks-move-no-frame = alike-without unmarkedRecord (λ x. wrote (frameRefusal x comment) (frameBytes x comment) out) (λ x. rw (unmarked-refusal-of-frame x comment, unmarked-frame-bytes x comment)) r r′ e
 
 -- ---- which read records are not written: 15 for those two, 14 for Unknown, 1 over 512 bytes, and no other
 

@@ -1,9 +1,10 @@
 // A record in words, and written again: `KIND from= to= hops= lat= lon= blanks= table= code= flag= message= speed= course= comment=
-// text= frame= letters=`. Part of the programs inspect and bench.
+// text= frame= letters= zeros=`. Part of the programs inspect and bench.
 use body::Body;
 use body::Comment;
 use body::Kind;
 use body::Report;
+use callsign::Callsign;
 use header::Header;
 use header::Hop;
 use header::Path;
@@ -163,6 +164,33 @@ fn letters(k: Kind, p: Place, out: &mut [u8], at: usize) -> usize {
     }
 }
 
+// 1 where the text of a callsign had the SSID `0`.
+fn zero(c: Callsign, out: &mut [u8], at: usize) -> usize {
+    words::side(c.had_zero_ssid, b"0", b"1", out, at)
+}
+
+fn hop_zeros(path: Path, out: &mut [u8], at: usize) -> usize {
+    let mut end = at;
+    let mut i: usize = 0;
+    while i < 8 {
+        if path.count <= i {
+            return end;
+        }
+        let h = path.hops[i];
+        end = zero(h.call, out, end);
+        i += 1;
+    }
+    end
+}
+
+// A digit for the source, one for the destination and one for each hop.
+fn zeros(h: Header, out: &mut [u8], at: usize) -> usize {
+    let mut end = buffer::put(b" zeros=", out, at);
+    end = zero(h.from, out, end);
+    end = zero(h.to, out, end);
+    hop_zeros(h.path, out, end)
+}
+
 // A record in words, from the answer 0 on. The words of a later request go behind them.
 pub fn record(r: Record, line: &[u8], plain: bool, out: &mut [u8], at: usize) -> usize {
     let h = r.header;
@@ -174,5 +202,6 @@ pub fn record(r: Record, line: &[u8], plain: bool, out: &mut [u8], at: usize) ->
     end = header(h, plain, out, end);
     end = body(b, out, end);
     end = again(r, comment_in(c, line), plain, out, end);
-    letters(k, p, out, end)
+    end = letters(k, p, out, end);
+    zeros(h, out, end)
 }

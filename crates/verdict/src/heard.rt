@@ -13,7 +13,7 @@ pub enum Heard {
 // A Mic-E packet to that destination, whose body starts at a place.
 fn packet(to: Callsign, at: usize) -> Heard {
     let text = to.text;
-    let read = mic_e::read_destination(lines::cut(&text, to.call_len));
+    let read = mic_e::read_destination(lines::cut(&text, to.call_len as usize));
     match read {
         DestinationRead::Read(d) => Heard::MicE(at, d.hundred, d.west),
         DestinationRead::Refused => Heard::Refused,

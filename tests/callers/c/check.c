@@ -82,7 +82,7 @@ static bool output_kept(const uint8_t *lent, size_t room, size_t changed) {
     return unchanged(output_page(), lent) && unchanged(lent + changed, output_page() + PAGE);
 }
 
-static bool same_answer(tusselgro_answer a, tusselgro_answer b) {
+bool same_answer(tusselgro_answer a, tusselgro_answer b) {
     return a.refusal == b.refusal && a.reported == b.reported && a.needed == b.needed;
 }
 
@@ -132,8 +132,15 @@ bool wrote(tusselgro_answer answer, const uint8_t *bytes, size_t size) {
     return answer.refusal == 0 && answer.reported == size && memcmp(written, bytes, size) == 0;
 }
 
-static bool same_callsign(const tusselgro_callsign *a, const tusselgro_callsign *b) {
-    return memcmp(a->text, b->text, sizeof a->text) == 0 && a->call_len == b->call_len && a->ssid_len == b->ssid_len;
+bool *mark_of(tusselgro_record *record, size_t place) {
+    tusselgro_header *h = &record->header;
+    tusselgro_callsign *call = place == 0 ? &h->from : place == 1 ? &h->to : &h->path.hops[place - 2].call;
+    return &call->had_zero_ssid;
+}
+
+bool same_callsign(const tusselgro_callsign *a, const tusselgro_callsign *b) {
+    return memcmp(a->text, b->text, sizeof a->text) == 0 && a->call_len == b->call_len && a->ssid_len == b->ssid_len &&
+           a->had_zero_ssid == b->had_zero_ssid;
 }
 
 static bool same_path(const tusselgro_path *a, const tusselgro_path *b) {

@@ -39,6 +39,12 @@ extern uint8_t written[1024];
 /* Whether those bytes are these, as many as were reported. */
 bool wrote(tusselgro_answer answer, const uint8_t *bytes, size_t size);
 
+/* The marks of dropped zeros in a record by their places: the source's, the destination's, those of all eight hops. */
+enum { MARKS = 2 + TUSSELGRO_MOST_HOPS };
+bool *mark_of(tusselgro_record *record, size_t place);
+
+bool same_answer(tusselgro_answer a, tusselgro_answer b);
+bool same_callsign(const tusselgro_callsign *a, const tusselgro_callsign *b);
 bool same_record(const tusselgro_record *a, const tusselgro_record *b);
 bool is_blank(const tusselgro_record *record);
 

@@ -38,21 +38,21 @@ static tusselgro_callsign call_of(const char *text) {
     return tusselgro_read_callsign((const uint8_t *)text, strlen(text)).call;
 }
 
-/* call/SSID, and that text holds nothing else */
+/* call/SSID, that text holds nothing else, and the mark of a dropped zero */
 static int tell_call(char *told, int refusal, tusselgro_callsign c) {
-    int call = (int)c.call_len, ssid = (int)c.ssid_len;
-    size_t used = c.call_len + (ssid > 0 ? 1 + c.ssid_len : 0);
+    int call = c.call_len, ssid = c.ssid_len, used = call + (ssid > 0 ? 1 + ssid : 0);
     if (used > 16 || (ssid > 0 && c.text[call] != '-')) return snprintf(told, TOLD, "no callsign");
-    bool tidy = memcmp(c.text + used, (uint8_t[16]){0}, 16 - used) == 0;
+    bool tidy = memcmp(c.text + used, (uint8_t[16]){0}, 16 - (size_t)used) == 0;
     const char *from = ssid > 0 ? (const char *)c.text + call + 1 : "";
-    return snprintf(told, TOLD, "%d %.*s/%.*s%s", refusal, call, (const char *)c.text, ssid, from, tidy ? "" : " spare");
+    return snprintf(told, TOLD, "%d %.*s/%.*s%s%s", refusal, call, (const char *)c.text, ssid, from, tidy ? "" : " spare",
+                    c.had_zero_ssid ? " zero" : "");
 }
 
 static void callsign(const uint8_t *bytes, size_t size, unsigned setting, char *told) {
     tusselgro_callsign_read r = tusselgro_read_callsign(bytes, size);
     (void)setting;
     told += tell_call(told, r.refusal, r.call);
-    sprintf(told, "%s%s", r.starred ? " starred" : "", r.zero ? " zero" : "");
+    sprintf(told, "%s", r.starred ? " starred" : "");
 }
 
 static void check_callsigns_read(void) {
@@ -61,8 +61,14 @@ static void check_callsigns_read(void) {
     TELLS(callsign, "", 0, "0 /");
     TELLS(callsign, "*", 0, "0 / starred");
     TELLS(callsign, "A-0", 0, "0 A/ zero");
-    TELLS(callsign, "A-0*", 0, "0 A/ starred zero");
+    TELLS(callsign, "A-0*", 0, "0 A/ zero starred");
+    TELLS(callsign, "0-0", 0, "0 0/ zero");
+    TELLS(callsign, "ABCDEFGHIJKLMN-0*", 0, "0 ABCDEFGHIJKLMN/ zero starred");
     TELLS(callsign, "A-00", 0, "0 A/00");
+    TELLS(callsign, "A-0-0", 0, "0 A/0-0");
+    TELLS(callsign, "A-+0", 0, "0 A/+0");
+    TELLS(callsign, "A-0**", 0, "0 A/0* starred");
+    TELLS(callsign, "0", 0, "0 0/");
     TELLS(callsign, "A-1-2", 0, "0 A/1-2");
     TELLS(callsign, "X**", 0, "0 X*/ starred");
     TELLS(callsign, "ABCDEFGHIJKLMN-1*", 0, "0 ABCDEFGHIJKLMN/1 starred");
@@ -70,6 +76,8 @@ static void check_callsigns_read(void) {
     TELLS(callsign, "ABCDEFGHIJKLMNOP\xff", 0, "4 /");
     TELLS(callsign, "A-", 0, "3 /");
     TELLS(callsign, "-1", 0, "3 /");
+    TELLS(callsign, "-0", 0, "3 /");
+    TELLS(callsign, "\xff-0", 0, "3 /");
     TELLS(callsign, "A-*", 0, "3 /");
     TELLS(callsign, "\xff*", 0, "3 /");
     HOLDS(tusselgro_read_callsign(NULL, 0).refusal == 0);
@@ -93,13 +101,19 @@ static void check_callsigns_written(void) {
     HOLDS(wrote(write_callsign(call_of("N0CALL-01"), false, 9), BYTES("N0CALL-01")));
     HOLDS(wrote(write_callsign(call_of("N0CALL-01"), true, 100), BYTES("N0CALL-01*")));
     HOLDS(wrote(write_callsign(call_of(""), false, 0), BYTES("")));
+    HOLDS(wrote(write_callsign(call_of("A-0"), true, 2), BYTES("A*")));
+    HOLDS(wrote(write_callsign((tusselgro_callsign){"A-1", 1, 1, true}, false, 3), BYTES("A-1")));
+    HOLDS(wrote(write_callsign((tusselgro_callsign){"", 0, 0, true}, false, 0), BYTES("")));
     tusselgro_answer answer = write_callsign(call_of("N0CALL-01"), true, 9);
     REFUSED(answer, 16);
     HOLDS(answer.needed == 10);
-    REFUSED(write_callsign((tusselgro_callsign){"A-0", 1, 1}, false, 100), 15);
-    REFUSED(write_callsign((tusselgro_callsign){"A", 17, 0}, false, 100), 15);
-    REFUSED(write_callsign((tusselgro_callsign){"A", (size_t)-1, (size_t)-1}, true, 100), 15);
-    REFUSED(write_callsign((tusselgro_callsign){"\xff", 1, 0}, false, 0), 15);
+    REFUSED(write_callsign((tusselgro_callsign){"A-0", 1, 1, false}, false, 100), 15);
+    REFUSED(write_callsign((tusselgro_callsign){"A-0", 1, 1, true}, false, 100), 15);
+    REFUSED(write_callsign((tusselgro_callsign){"A", 17, 0, false}, false, 100), 15);
+    REFUSED(write_callsign((tusselgro_callsign){"A", 255, 255, false}, true, 100), 15);
+    REFUSED(write_callsign((tusselgro_callsign){"A-1", 1, 254, false}, true, 100), 15);
+    REFUSED(write_callsign((tusselgro_callsign){"A-1", 255, 1, false}, true, 100), 15);
+    REFUSED(write_callsign((tusselgro_callsign){"\xff", 1, 0, false}, false, 0), 15);
 }
 
 /* ---- addresses */
@@ -135,12 +149,16 @@ static void check_addresses_written(void) {
     IS(tusselgro_write_address(n7lem, TUSSELGRO_SOURCE, true), "\x9c\x6e\x98\x8a\x9a\x40\x61", 0);
     IS(tusselgro_write_address(n7lem, TUSSELGRO_SOURCE, false), "\x9c\x6e\x98\x8a\x9a\x40\x60", 0);
     IS(tusselgro_write_address(call_of("N7OO-+1"), TUSSELGRO_HEARD_HOP, true), "\x9c\x6e\x9e\x9e\x40\x40\xe3", 0);
+    IS(tusselgro_write_address(call_of("N7LEM-0"), TUSSELGRO_SOURCE, true), "\x9c\x6e\x98\x8a\x9a\x40\x61", 0);
+    n0call.had_zero_ssid = true;
+    IS(tusselgro_write_address(n0call, TUSSELGRO_HEARD_HOP, true), "\x9c\x60\x86\x82\x98\x98\xe3", 0);
     IS(tusselgro_write_address(call_of("ABCDEFG"), TUSSELGRO_SOURCE, false), zeros, 13);
     IS(tusselgro_write_address(call_of("A-16"), TUSSELGRO_SOURCE, false), zeros, 13);
     IS(tusselgro_write_address(call_of("A/"), TUSSELGRO_SOURCE, false), zeros, 13);
     IS(tusselgro_write_address(n0call, 4, false), zeros, 15);
     IS(tusselgro_write_address(call_of("ABCDEFG"), 255, true), zeros, 15);
-    IS(tusselgro_write_address((tusselgro_callsign){"ABCDEFG", 17, 0}, TUSSELGRO_HOP, true), zeros, 15);
+    IS(tusselgro_write_address((tusselgro_callsign){"ABCDEFG", 17, 0, false}, TUSSELGRO_HOP, true), zeros, 15);
+    IS(tusselgro_write_address((tusselgro_callsign){"A-1", 1, 254, false}, TUSSELGRO_HOP, true), zeros, 15);
 }
 
 /* ---- angles and positions */

@@ -42,6 +42,8 @@ static const char *const lines[] = {
     "A>0000PP:`vX\x1cn\"Oj/",
     "ABCDEFGHIJKLMN-0>B,qAC,*,:>hi",
     "\xc3\xa9-00>\xe2\x82\xac*:!9000.00S/18000.00W!",
+    "N0CALL-0>APRS-0,WIDE1-0,WIDE2-0*,K1A-00:!4903.50N/07201.75W-",
+    "A-0>S32U6T-0,B-0,C*:`(_fn\"Oj/",
 };
 
 static size_t damaged(uint8_t *bytes, size_t size) {
@@ -102,6 +104,39 @@ static bool lettered(const tusselgro_body *b) {
     return !contradicted(b->place) && (b->kind != TUSSELGRO_UNKNOWN || (!b->place.south && !b->place.west));
 }
 
+/* Document 02's R-2, of a callsign's text: the SSID, once the star is off, is the one byte '0'. */
+static bool has_zero(const uint8_t *text, size_t size) {
+    if (size > 0 && text[size - 1] == '*') size--;
+    const uint8_t *dash = memchr(text, '-', size);
+    return dash != NULL && dash + 2 == text + size && dash[1] == '0';
+}
+
+static bool is_unmarked(tusselgro_record record) {
+    bool none = true;
+    for (size_t place = 0; place < MARKS; place++) none = none && !*mark_of(&record, place);
+    return none;
+}
+
+/* The bytes before the first of these two, one of which must be there. */
+static size_t before(const uint8_t *bytes, uint8_t one, uint8_t other) {
+    size_t size = 0;
+    while (bytes[size] != one && bytes[size] != other) size++;
+    return size;
+}
+
+/* The marks of a record are those of the line that it was read from, but for the destination that Mic-E has not. */
+static bool is_marked_by(tusselgro_record record, const uint8_t *line) {
+    bool same = true, ended = false, mic_e = record.body.kind == TUSSELGRO_MIC_E;
+    for (size_t place = 0; place < MARKS; place++) {
+        size_t size = ended ? 0 : before(line, place == 0 ? '>' : ',', ':');
+        bool marked = !ended && !(mic_e && place == 1) && has_zero(line, size);
+        same = same && *mark_of(&record, place) == marked;
+        ended = ended || line[size] == ':';
+        line += ended ? 0 : size + 1;
+    }
+    return same && ended;
+}
+
 static void any_read(void) {
     uint8_t bytes[MOST + 8];
     bool frame = one_in(2);
@@ -113,6 +148,7 @@ static void any_read(void) {
     HOLDS(read.record.header.path.count <= TUSSELGRO_MOST_HOPS);
     HOLDS(lettered(&read.record.body));
     if (read.refusal != 0) return;
+    HOLDS(frame ? is_unmarked(read.record) : is_marked_by(read.record, bytes));
     write_lent(tusselgro_write_text, read.record, bytes + comment.at, comment.len, below(MOST));
     write_lent(tusselgro_write_frame, read.record, bytes + comment.at, comment.len, below(MOST));
 }
@@ -126,6 +162,7 @@ static tusselgro_record wild_record(void) {
     memset(&record.body.messaging, one_in(2), 1);
     memset(&record.body.report.current, one_in(2), 1);
     for (int at = 0; at < TUSSELGRO_MOST_HOPS; at++) memset(&record.header.path.hops[at].heard, one_in(2), 1);
+    for (size_t place = 0; place < MARKS; place++) memset(mark_of(&record, place), one_in(2), 1);
     return record;
 }
 
@@ -148,12 +185,16 @@ static tusselgro_record near_record(void) {
             break;
         case 5: record.body.report.speed = (uint32_t)below(900); break;
         case 6: record.header.path.count = below(12); break;
-        case 7: record.header.from.call_len = below(20); break;
+        case 7: record.header.from.call_len = (uint8_t)(one_in(2) ? below(20) : next()); break;
         case 8: place->south = !place->south; break;
         case 9: place->west = !place->west; break;
-        default: record.header.to.ssid_len = one_in(2) ? below(20) : (size_t)next(); break;
+        default: record.header.to.ssid_len = (uint8_t)(one_in(2) ? below(20) : next()); break;
     }
     return record;
+}
+
+static bool fits(tusselgro_callsign c) {
+    return c.call_len + (c.ssid_len > 0 ? 1 + c.ssid_len : 0) <= TUSSELGRO_MOST_CALLSIGN;
 }
 
 static void any_write(void) {
@@ -161,8 +202,15 @@ static void any_write(void) {
     size_t size = any_bytes(comment, below(MOST));
     tusselgro_record record = one_in(4) ? wild_record() : near_record();
     writer *function = one_in(2) ? tusselgro_write_frame : tusselgro_write_text;
-    tusselgro_answer answer = write_lent(function, record, comment, size, below(MOST));
+    size_t room = below(MOST);
+    tusselgro_answer answer = write_lent(function, record, comment, size, room);
     HOLDS(lettered(&record.body) || answer.refusal == 15);
+    HOLDS((fits(record.header.from) && fits(record.header.to)) || answer.refusal == 15);
+    uint8_t unchanged[sizeof written];
+    memcpy(unchanged, written, sizeof written);
+    for (size_t place = 0; place < MARKS; place++) *mark_of(&record, place) = one_in(2);
+    HOLDS(same_answer(answer, write_lent(function, record, comment, size, room)));
+    HOLDS(memcmp(unchanged, written, sizeof written) == 0);
 }
 
 /* ---- the parts of a packet: what is read of one can be written, and reads as the same again */
@@ -172,25 +220,32 @@ static const char *const parts[] = {
 };
 
 static void callsign_again(const uint8_t *bytes, size_t size) {
+    static const tusselgro_callsign blank;
     tusselgro_callsign_read r = tusselgro_read_callsign(bytes, size);
-    HOLDS(r.refusal == 0 || r.refusal == 3 || r.refusal == 4);
+    HOLDS(r.refusal == 0 || ((r.refusal == 3 || r.refusal == 4) && same_callsign(&r.call, &blank)));
     if (r.refusal != 0) return;
+    HOLDS(r.call.had_zero_ssid == has_zero(bytes, size));
+    r.call.had_zero_ssid = one_in(2);
     uint8_t out[17];
     tusselgro_answer answer = tusselgro_write_callsign(r.call, r.starred, out, sizeof out);
     tusselgro_callsign_read again = tusselgro_read_callsign(out, answer.reported);
     HOLDS(answer.refusal == 0 && again.refusal == 0 && again.starred == r.starred);
-    HOLDS(memcmp(&again.call, &r.call, sizeof r.call) == 0);
+    r.call.had_zero_ssid = false;
+    HOLDS(same_callsign(&again.call, &r.call));
 }
 
 static void address_again(const uint8_t *bytes, size_t size) {
     tusselgro_address_read r = tusselgro_read_address(bytes, size);
     HOLDS(r.refusal == 0 || r.refusal == 3);
     if (r.refusal != 0) return;
+    HOLDS(!r.call.had_zero_ssid);
     uint8_t field = r.heard ? TUSSELGRO_HEARD_HOP : TUSSELGRO_HOP;
+    r.call.had_zero_ssid = one_in(2);
     tusselgro_address written = tusselgro_write_address(r.call, field, r.last);
     tusselgro_address_read again = tusselgro_read_address(written.bytes, 7);
     HOLDS(written.refusal == 0 && again.refusal == 0 && again.heard == r.heard && again.last == r.last);
-    HOLDS(memcmp(&again.call, &r.call, sizeof r.call) == 0);
+    r.call.had_zero_ssid = false;
+    HOLDS(same_callsign(&again.call, &r.call));
 }
 
 static void latitude_again(const uint8_t *bytes, size_t size) {

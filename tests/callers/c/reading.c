@@ -1,4 +1,4 @@
-/* Lines and frames read: document 01's values, document 02's letters, and every refusal that a reader can give. */
+/* Lines and frames read: document 01's values, document 02's letters and marks, every refusal that a reader can give. */
 #include "check.h"
 
 #include <string.h>
@@ -91,6 +91,44 @@ static void check_letters(void) {
     HOLDS(has_letters(LINE("A>S32U6T:`(_fn\"Oj/"), false, true));
 }
 
+/* a digit for the source, one for the destination, one for each hop: 1 where it is marked; a spare hop is not */
+static bool has_marks(tusselgro_read read, const char *digits) {
+    size_t used = strlen(digits);
+    bool same = read.refusal == 0 && used == 2 + read.record.header.path.count;
+    for (size_t place = 0; place < MARKS; place++)
+        same = same && *mark_of(&read.record, place) == (place < used && digits[place] == '1');
+    return same;
+}
+
+/* R-2: where the SSID, once the star is off, is the one byte '0'. A Mic-E record has no destination; a refusal leaves none. */
+static void check_marks(void) {
+    tusselgro_read read = LINE("N0CALL-0>APRS-0,WIDE1-0,WIDE2-0*,K1A-0:!4903.50N/07201.75W-Test");
+    tusselgro_header h = read.record.header;
+    HOLDS(has_marks(read, "11111"));
+    HOLDS(is_call(h.from, "N0CALL", "") && is_call(h.to, "APRS", "") && is_call(h.path.hops[0].call, "WIDE1", ""));
+    HOLDS(is_call(h.path.hops[1].call, "WIDE2", "") && is_call(h.path.hops[2].call, "K1A", ""));
+    HOLDS(h.path.hops[0].heard && h.path.hops[1].heard && !h.path.hops[2].heard);
+    HOLDS(has_marks(LINE("A-0>B,C,D:"), "1000"));
+    HOLDS(has_marks(LINE("A>B-0,C,D:"), "0100"));
+    HOLDS(has_marks(LINE("A>B,C-0,D*:"), "0010"));
+    HOLDS(has_marks(LINE("A>B,C,D-0*:"), "0001"));
+    HOLDS(has_marks(LINE("A>B,1,2-0,3,4,5,6,7,8-0:=0000.00N/00000.00E-"), "0001000001"));
+    HOLDS(has_marks(LINE("A-0*>B-0*:"), "11"));
+    HOLDS(has_marks(LINE("0-0>ABCDEFGHIJKLMN-0:"), "11"));
+    HOLDS(has_marks(LINE("A-00>B-0-0,C-+0,D-01,E-10,F0,0:"), "0000000"));
+    HOLDS(has_marks(LINE("A-0>S32U6T-0,B-0:`(_fn\"Oj/"), "101"));
+    HOLDS(has_marks(LINE("A>S32U6T-0,B:'(_fn\"Oj/"), "000"));
+    REFUSED(LINE("A-0>B-0,C-0,D-:"), 3);
+    REFUSED(LINE("A-0>-0:"), 3);
+    REFUSED(LINE("A-0>B-0,ABCDEFGHIJKLMNO-0:"), 4);
+    REFUSED(LINE("A-0>B-0,1-0,2,3,4,5,6,7,8-0,9-0:"), 5);
+    REFUSED(LINE("A-0>B-0,C-0,qAC:"), 6);
+    REFUSED(LINE("A-0>B-0,C-0:>hi"), 7);
+    REFUSED(LINE("A-0>B-0,C-0:!9000.01N/00000.00E-"), 8);
+    REFUSED(LINE("A-0>LLLLLL-0,C-0:`(_fn\"Oj/"), 11);
+    REFUSED(LINE("A-0>S32U6T-0,C-0:`(_fn\"Oj"), 12);
+}
+
 /* P11 and P12. */
 static void check_values(void) {
     tusselgro_path path = LINE("X>Y,A,B*,C:").record.header.path;
@@ -130,6 +168,9 @@ static void check_line_refusals(void) {
 #define LAST_FROM "\x9c\x60\x86\x82\x98\x98\x63"
 #define HOP "\xae\x92\x88\x8a\x62\x40\xe2"
 #define LAST_HOP "\x9c\x60\x86\x82\x98\x98\xe3"
+#define ZERO_FROM "\x9c\x6e\x98\x8a\x9a\x40\x60"
+#define ZERO_HOP "\x9c\x94\x6e\xa0\x40\x40\xe0"
+#define LAST_ZERO_HOP "\x9c\x6e\x9e\x9e\x40\x40\x61"
 #define PAIR "\x03\xf0"
 
 static void check_frames(void) {
@@ -142,6 +183,9 @@ static void check_frames(void) {
     HOLDS(is_call(h.from, "N0CALL", "1") && is_call(h.to, "APRS", "") && h.path.count == 1);
     HOLDS(is_call(h.path.hops[0].call, "N0CALL", "1") && h.path.hops[0].heard && read.record.body.comment.at == 43);
     REFUSED(FRAME(MIC_E_TO LAST_FROM PAIR "`(_fn\"Oj/"), 0);
+    HOLDS(has_marks(FRAME(TO ZERO_FROM ZERO_HOP LAST_ZERO_HOP PAIR "!4903.50N/07201.75W-"), "0000"));
+    HOLDS(has_marks(FRAME(MIC_E_TO ZERO_FROM LAST_ZERO_HOP PAIR "`(_fn\"Oj/"), "000"));
+    HOLDS(has_marks(FRAME(TO ZERO_FROM LAST_ZERO_HOP PAIR), "000"));
     REFUSED(tusselgro_read_frame(NULL, 0), 2);
     REFUSED(FRAME("\x82\xa0\xa4\xa6@@"), 2);
     REFUSED(FRAME("\x82\xa0\xa4\xa6@@\xe1" LAST_FROM PAIR), 2);
@@ -164,6 +208,7 @@ void check_reading(void) {
     check_position();
     check_mic_e();
     check_letters();
+    check_marks();
     check_values();
     check_line_refusals();
     check_frames();

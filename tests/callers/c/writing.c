@@ -1,4 +1,4 @@
-/* Records written: document 01's values, document 02's letters, every refusal of a writer, and wild records. */
+/* Records written: document 01's values, document 02's letters and marks, every refusal of a writer, and wild records. */
 #include "check.h"
 
 #include <string.h>
@@ -41,6 +41,59 @@ static void check_zeros(void) {
         r.body.place.south = letters & 1;
         r.body.place.west = letters & 2;
         HOLDS(wrote(TEXT(r, "", 18), BYTES("A>000PP0:`vX\x1cn\"Oj/")));
+    }
+}
+
+static tusselgro_record marked(tusselgro_record record) {
+    for (size_t place = 0; place < MARKS; place++) *mark_of(&record, place) = true;
+    return record;
+}
+
+/* The bytes are those without marks. The position has calls with and without an SSID and five spare hops, the report a
+   source alone. */
+static void writes_unmarked(tusselgro_record position, tusselgro_record mic_e) {
+    HOLDS(wrote(TEXT(position, "Test", 60), BYTES("N0CALL-01>APRS,WIDE1-1,WIDE2-2*,K1A:!4903.50N/07201.75W-Test")));
+    HOLDS(wrote(FRAME(position, "", 57),
+                BYTES("\x82\xa0\xa4\xa6@@\xe0\x9c\x60\x86\x82\x98\x98\x62\xae\x92\x88\x8a\x62@\xe2\xae\x92\x88\x8a\x64@\xe4"
+                      "\x96\x62\x82@@@\x61\x03\xf0!4903.50N/07201.75W-")));
+    HOLDS(wrote(TEXT(mic_e, "", 18), BYTES("A>S32U6T:`(_fn\"Oj/")));
+    HOLDS(wrote(FRAME(mic_e, "", 25), BYTES("\xa6\x66\x64\xaa\x6c\xa8\xe0\x82@@@@@\x61\x03\xf0`(_fn\"Oj/")));
+}
+
+/* R-2: writers ignore the mark, wherever it is. */
+static void check_marks(void) {
+    tusselgro_record position = read_record(position_line), mic_e = read_record(mic_e_line);
+    writes_unmarked(position, mic_e);
+    for (size_t place = 0; place < MARKS; place++) {
+        tusselgro_record p = position, m = mic_e;
+        *mark_of(&p, place) = *mark_of(&m, place) = true;
+        writes_unmarked(p, m);
+    }
+    writes_unmarked(marked(position), marked(mic_e));
+    HOLDS(wrote(TEXT(READ("A-0>B-0,C-0,D-0*:!0000.00N/00000.00E-"), "", 512), BYTES("A>B,C,D*:!0000.00N/00000.00E-")));
+    HOLDS(wrote(TEXT(READ("A-0>S32U6T-0,B-0:`(_fn\"Oj/"), "", 512), BYTES("A>S32U6T,B:`(_fn\"Oj/")));
+}
+
+static void check_marked_refusals(void) {
+    static const tusselgro_record zeros;
+    tusselgro_record r = marked(read_record(position_line));
+    tusselgro_answer answer = TEXT(r, "Test", 59);
+    REFUSED(answer, 16);
+    HOLDS(answer.needed == 60);
+    answer = FRAME(r, "", 56);
+    REFUSED(answer, 16);
+    HOLDS(answer.needed == 57);
+    uint8_t comment[512];
+    memset(comment, 'x', sizeof comment);
+    REFUSED(write_lent(tusselgro_write_text, r, comment, 512 - 56, 512), 0);
+    REFUSED(write_lent(tusselgro_write_text, r, comment, 512 - 55, 512), 1);
+    REFUSED(FRAME(marked(READ("ABCDEFG>B:!0000.00N/00000.00E-")), "", 512), 13);
+    REFUSED(TEXT(READ("A-0>B-0,C-0:hello"), "", 512), 14);
+    for (size_t place = 0; place < MARKS; place++) {
+        tusselgro_record blank = zeros;
+        *mark_of(&blank, place) = true;
+        REFUSED(TEXT(blank, "", 0), 14);
+        REFUSED(FRAME(blank, "", 0), 14);
     }
 }
 
@@ -119,13 +172,18 @@ static void check_range(void) {
     SPOILT(position_line, r.header.path.count = (size_t)-1);
     SPOILT(position_line, r.header.path.count = 2);
     SPOILT(position_line, r.header.path.hops[7].heard = true);
-    SPOILT(position_line, r.header.from.call_len = (size_t)-1);
-    SPOILT(position_line, r.header.from.ssid_len = (size_t)-1);
+    SPOILT(position_line, r.header.path.hops[7].call.ssid_len = 255; r = marked(r));
+    SPOILT(position_line, r.header.from.call_len = 255);
+    SPOILT(position_line, r.header.from.ssid_len = 255);
+    SPOILT(position_line, r.header.from.call_len = 255; r.header.from.ssid_len = 255);
+    SPOILT(position_line, r.header.from.call_len = 253); /* 253 + 1 + 2 is 0 in a byte, and so is 6 + 1 + 249 */
+    SPOILT(position_line, r.header.from.ssid_len = 249);
     SPOILT(position_line, r.header.from.call_len = 17);
     SPOILT(position_line, r.header.from.text[0] = 0xff);
     SPOILT(position_line, r.header.from.text[15] = 'x');
-    static const tusselgro_callsign zero_ssid = {"A-0", 1, 1};
+    static const tusselgro_callsign zero_ssid = {"A-0", 1, 1, false}, marked_zero_ssid = {"A-0", 1, 1, true};
     SPOILT(position_line, r.header.to = zero_ssid);
+    SPOILT(position_line, r.header.to = marked_zero_ssid);
     SPOILT(mic_e_line, r.body.report.message = 16);
     SPOILT(mic_e_line, r.body.report.message = 255);
     SPOILT(mic_e_line, r.body.place.longitude = 1080000; r.body.place.west = false);
@@ -138,6 +196,7 @@ static void check_range(void) {
     SPOILT(mic_e_line, r.body.report.course = 361);
     SPOILT(mic_e_line, r.body.messaging = true);
     SPOILT(mic_e_line, r.header.to = r.header.from);
+    SPOILT(mic_e_line, r.header.to.call_len = 255; r = marked(r));
     SPOILT("A>B:", r.body.place.latitude = 1);
     SPOILT("A>B:", r.body.place.south = true);
     SPOILT("A>B:", r.body.place.west = true);
@@ -159,8 +218,10 @@ static void check_messages(void) {
 void check_writing(void) {
     check_round();
     check_zeros();
+    check_marks();
     check_values();
     check_refusals();
+    check_marked_refusals();
     check_range();
     check_messages();
 }

@@ -1,6 +1,7 @@
 // Compares the answers of the port with the oracle's, line by line, and prints tables: by kind of request, by the
-// port's number, by mark. Fails on a difference that is on no list, on unequal counts, and on a kind that compared nothing.
-// Of two refusals only the fact counts; pairs of unequal numbers are told at the end and fail nothing.
+// port's number, by mark, by the place of a dropped zero. Fails on a difference that is on no list, on unequal counts,
+// and on a kind that compared nothing. Of two refusals only the fact counts; pairs of unequal numbers are told at the end
+// and fail nothing.
 
 mod judge;
 
@@ -13,6 +14,7 @@ use protocol::{from_decimal, next_line, words};
 
 const MOST_SHOWN: u64 = 20;
 const COLUMNS: [&str; 6] = ["accepted", "refused", "on shim", "outside", "listed", "different"];
+const ZERO_AT: [&str; 4] = ["anywhere", "source", "destination", "a hop"];
 const WAYS: [(&str, &[u8]); 3] = [("reading", b"TF"), ("writing", b"W"), ("bounds", b"B")];
 
 struct Kind {
@@ -27,6 +29,7 @@ struct Tally {
     by_number: BTreeMap<u32, [u64; 3]>,
     by_mark: BTreeMap<&'static str, [u64; 2]>,
     rewritten: BTreeMap<&'static str, u64>,
+    zeros: [[u64; 2]; 4],
     unequal_refusals: BTreeMap<(i64, i64), u64>,
     faults: Vec<String>,
     differences: u64,
@@ -34,6 +37,11 @@ struct Tally {
 
 fn first_number(answer: &[u8]) -> Option<i64> {
     words(answer).first().and_then(|word| from_decimal(word))
+}
+
+/// The digits of the word `zeros=` in a request or an answer.
+fn zeros_of(line: &[u8]) -> Option<&[u8]> {
+    words(line).into_iter().find_map(|word| word.strip_prefix(b"zeros="))
 }
 
 fn column(verdict: &Verdict) -> usize {
@@ -72,6 +80,22 @@ impl Tally {
                 Rewritten::Marked(mark) => mark.name(),
             };
             *self.rewritten.entry(name).or_default() += 1;
+        }
+    }
+
+    /// Counts the places of dropped zeros in an answer that was read, or in a record to be written, once it is judged.
+    fn note_zeros(&mut self, request: &[u8], ours: &[u8]) {
+        let (way, line) = match request[0] {
+            b'T' | b'F' => (0, ours),
+            b'W' => (1, request),
+            _ => return,
+        };
+        if let Some([source, destination, hops @ ..]) = zeros_of(line) {
+            let found = [*source == b'1', *destination == b'1', hops.contains(&b'1')];
+            let anywhere = found.contains(&true);
+            for (row, found) in self.zeros.iter_mut().zip([anywhere].into_iter().chain(found)) {
+                row[way] += u64::from(found);
+            }
         }
     }
 
@@ -136,8 +160,9 @@ fn compare(requests: &str, index: &str, oracle: &str, ours: &str) -> io::Result<
             let [request, oracle, ours] = &lines;
             let judgement = judge(request, oracle, ours);
             tally.note(kind, [request, oracle, ours], &judgement);
-            if let Verdict::Different(what) = judgement.verdict {
-                tally.show_difference(kind, line, what, [request, oracle, ours]);
+            match judgement.verdict {
+                Verdict::Different(what) => tally.show_difference(kind, line, what, [request, oracle, ours]),
+                _ => tally.note_zeros(request, ours),
             }
         }
     }
@@ -177,6 +202,13 @@ fn print_numbers(by_number: &BTreeMap<u32, [u64; 3]>) {
     }
 }
 
+fn print_zeros(zeros: &[[u64; 2]; 4]) {
+    println!("\n{:<24}{:>10}{:>10}", "dropped zero at", "reading", "writing");
+    for (place, [read, written]) in ZERO_AT.iter().zip(zeros) {
+        println!("{:<24}{:>10}{:>10}", place, read, written);
+    }
+}
+
 fn print_marks(tally: &Tally) {
     println!("\n{:<24}{:>10}{:>10}", "mark", "outside", "listed");
     for (mark, [outside, listed]) in &tally.by_mark {
@@ -210,6 +242,7 @@ fn main() {
     print_kinds(&tally.kinds);
     print_numbers(&tally.by_number);
     print_marks(&tally);
+    print_zeros(&tally.zeros);
     println!();
     tally.faults.iter().for_each(|fault| println!("compare: {}", fault));
     if tally.differences > 0 || !tally.faults.is_empty() {

@@ -2,7 +2,7 @@
 
 use crate::packets::*;
 use crate::random::Random;
-use crate::records::{Record, LATITUDE_SIDES, LONGITUDE_SIDES};
+use crate::records::{Name, Record, LATITUDE_SIDES, LONGITUDE_SIDES};
 use crate::Request;
 use protocol::rules::Limit;
 use protocol::{Form, LATITUDE_LIMIT, LONGITUDE_LIMIT};
@@ -114,6 +114,28 @@ pub fn damaged_frame(random: &mut Random) -> Request {
     Request::Frame(damaged(random, good))
 }
 
+/// SSID `0` half the time, else another, nearly `0`, or none; a star one time in four.
+fn with_zero_or_nearly(random: &mut Random, call: &[u8]) -> Vec<u8> {
+    let ssid = match random.below(16) {
+        0..=7 => "-0",
+        8..=11 => "",
+        12 | 13 => *random.pick(&["-1", "-7", "-10", "-15"]),
+        _ => *random.pick(&["-00", "-0-0", "-+0", "--0", "-0-", "-0 ", "-O", "-0*", "0", "-"]),
+    };
+    let star = if random.one_in(4) { "*" } else { "" };
+    [call, ssid.as_bytes(), star.as_bytes()].concat()
+}
+
+/// Lines of every kind with SSID `0` at source, destination and hops; one in eight damaged.
+pub fn text_zeros(random: &mut Random) -> Request {
+    let made = any_packet(random);
+    let from = with_zero_or_nearly(random, &made.from.call);
+    let to = with_zero_or_nearly(random, &made.to.call);
+    let hops: Vec<Vec<u8>> = made.hops.iter().map(|hop| with_zero_or_nearly(random, &hop.call)).collect();
+    let good = line(&from, &to, &hops, &made.body);
+    Request::Text(if random.one_in(8) { damaged(random, good) } else { good })
+}
+
 fn angle(random: &mut Random, limit: i64) -> i64 {
     let angle = match random.below(4) {
         0 => random.below(limit as usize / 6000 + 1) as i64 * 6000 + random.between(0, 4) as i64 - 2,
@@ -157,6 +179,7 @@ fn record(random: &mut Random, kind: &'static str) -> Record {
         record.code = random.below(256);
     }
     record.letters = letters(random, &record);
+    record.zeros = zeros(random, &record);
     record
 }
 
@@ -178,6 +201,23 @@ fn letters(random: &mut Random, record: &Record) -> Option<[u8; 2]> {
             agreeing_letter(random, Limit::Longitude, record.longitude),
         ]),
         _ => Some([*random.pick(b"NS-"), *random.pick(b"EW-")]),
+    }
+}
+
+/// Left out, none, all, the destination's alone (which Mic-E leaves blank), those beside an SSID, or any.
+fn zeros(random: &mut Random, record: &Record) -> Option<Vec<bool>> {
+    let choice = random.below(8);
+    let zero_at = |(place, (_, ssid)): (usize, &Name)| match choice {
+        1 => false,
+        2 => true,
+        3 => place == 1,
+        4 => !ssid.is_empty(),
+        _ => random.one_in(2),
+    };
+    if choice == 0 {
+        None
+    } else {
+        Some(record.names().into_iter().enumerate().map(zero_at).collect())
     }
 }
 

@@ -28,10 +28,11 @@ enum Maker {
 
 use Maker::{Drawn, Whole};
 
-const KINDS: [(&str, Maker); 43] = [
+const KINDS: [(&str, Maker); 46] = [
     ("text-unknown", Drawn(drawn::text_unknown)),
     ("text-position", Drawn(drawn::text_position)),
     ("text-mic-e", Drawn(drawn::text_mic_e)),
+    ("text-zeros", Drawn(drawn::text_zeros)),
     ("frame-unknown", Drawn(drawn::frame_unknown)),
     ("frame-position", Drawn(drawn::frame_position)),
     ("frame-mic-e", Drawn(drawn::frame_mic_e)),
@@ -57,6 +58,7 @@ const KINDS: [(&str, Maker); 43] = [
     ("frame-shapes", Whole(whole::frame_shapes)),
     ("callsigns", Whole(whole::callsigns)),
     ("callsign-lengths", Whole(whole::callsign_lengths)),
+    ("zeros", Whole(whole::zeros)),
     ("utf8", Whole(whole::utf8)),
     ("random-bytes", Drawn(drawn::random_bytes)),
     ("shaped-text", Drawn(drawn::shaped_text)),
@@ -69,6 +71,7 @@ const KINDS: [(&str, Maker); 43] = [
     ("written-lengths", Whole(whole::written_lengths)),
     ("written-limits", Whole(whole::written_limits)),
     ("written-letters", Whole(whole::written_letters)),
+    ("written-zeros", Whole(whole::written_zeros)),
     ("written-callsigns", Whole(whole::written_callsigns)),
     ("bounds", Drawn(drawn::bounds)),
     ("bounds-limits", Whole(whole::bounds_limits)),

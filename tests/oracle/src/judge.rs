@@ -1,6 +1,6 @@
 // Judges one request: are the oracle's answer and the port's equal on document 01's domain of equality?
 // Of two refusals only the fact counts; where the oracle marks its answer, document 01's own number is demanded. What the Rust does
-// not have, the letters and the page box, is held to document 02's rules.
+// not have, the letters, the dropped zeros and the page box, is held to document 02's rules.
 
 use protocol::rules::{self, Limit};
 use protocol::{from_decimal, from_hex, words, Form, Mark};
@@ -79,26 +79,44 @@ fn judge_rewritten(oracle: &[u8], ours: &[u8]) -> Result<Rewritten, &'static str
     }
 }
 
-/// The word `letters=XY` that stands behind the Rust's fields.
-fn letters_word(request: &[u8], kind: &[u8]) -> Option<Vec<u8>> {
+/// The words `letters=XY` and `zeros=BITS` that stand behind the Rust's fields.
+fn words_by_rule(request: &[u8], kind: &[u8]) -> Option<[Vec<u8>; 2]> {
     let (form, input) = match words(request).as_slice() {
         [b"T", input] => (Form::Text, from_hex(input)?),
         [b"F", input] => (Form::Frame, from_hex(input)?),
         _ => return None,
     };
-    Some([&b"letters="[..], &rules::letters(kind, &input, form)?].concat())
+    rules::record_words(kind, &input, form)
+}
+
+/// What is wrong with the words behind the Rust's fields.
+fn fault_by_rule(request: &[u8], kind: &[u8], ours: &[&[u8]]) -> Option<&'static str> {
+    let [letters, zeros] = match words_by_rule(request, kind) {
+        Some(words) => words,
+        None => return Some("a request without what document 02 asks for"),
+    };
+    if ours.first().copied() != Some(&letters[..]) {
+        Some("the letters")
+    } else if ours.get(1).copied() != Some(&zeros[..]) {
+        Some("the zeros")
+    } else if ours.len() > 2 {
+        Some("a word too many")
+    } else {
+        None
+    }
 }
 
 fn judge_record(request: &[u8], oracle: &[u8], ours: &[u8]) -> Judgement {
-    let (oracle, mut ours) = (words(oracle), words(ours));
-    if ours.len() != oracle.len() + 1 {
+    let (oracle, ours) = (words(oracle), words(ours));
+    if ours.len() < oracle.len() {
         return Different("accepted by the Rust").into();
     }
-    if letters_word(request, oracle[1]).as_deref() != ours.pop() {
-        return Different("the letters").into();
+    let (ours, behind) = ours.split_at(oracle.len());
+    if let Some(fault) = fault_by_rule(request, oracle[1], behind) {
+        return Different(fault).into();
     }
     let mut rewritten = Vec::new();
-    for (oracle, ours) in oracle.iter().zip(&ours) {
+    for (oracle, ours) in oracle.iter().zip(ours) {
         let name = WRITTEN_FIELDS.iter().find(|name| oracle.starts_with(name) && ours.starts_with(name));
         match name {
             None if oracle == ours => {}

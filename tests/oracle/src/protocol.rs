@@ -70,6 +70,20 @@ pub fn words(line: &[u8]) -> Vec<&[u8]> {
     line.split(|byte| *byte == b' ').collect()
 }
 
+/// The texts of a line's callsigns, stars and all: source, destination, hops.
+pub fn callsigns_of(line: &[u8]) -> Option<Vec<&[u8]>> {
+    let header = line.split(|byte| *byte == b':').next()?;
+    let source_end = header.iter().position(|byte| *byte == b'>')?;
+    let behind = header[source_end + 1..].split(|byte| *byte == b',');
+    Some(std::iter::once(&header[..source_end]).chain(behind).collect())
+}
+
+/// How many addresses a frame has: up to the first that says it is the last.
+pub fn number_of_addresses(frame: &[u8]) -> Option<usize> {
+    let last = frame.chunks(ADDRESS).position(|address| address.get(6).map_or(true, |end| end & 1 == 1))?;
+    Some(last + 1)
+}
+
 /// What stands behind a line's first colon, or behind a frame's addresses and control pair.
 pub fn body_of(input: &[u8], form: Form) -> Option<&[u8]> {
     match form {
@@ -77,10 +91,7 @@ pub fn body_of(input: &[u8], form: Form) -> Option<&[u8]> {
             let colon = input.iter().position(|byte| *byte == b':')?;
             input.get(colon + 1..)
         }
-        Form::Frame => {
-            let last = input.chunks(ADDRESS).position(|address| address.get(6).map_or(true, |end| end & 1 == 1))?;
-            input.get((last + 1) * ADDRESS + 2..)
-        }
+        Form::Frame => input.get(number_of_addresses(input)? * ADDRESS + 2..),
     }
 }
 

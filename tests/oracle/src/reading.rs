@@ -4,7 +4,7 @@ use aprs_parser::{AprsCst, AprsData, AprsPacket, DecodeError};
 use watch::Seen;
 use crate::record::push_record;
 use crate::{caught, Style};
-use protocol::{body_of, from_hex, Form, Mark, LONGEST, LONGEST_CALLSIGN, MOST_HOPS};
+use protocol::{body_of, callsigns_of, from_hex, Form, Mark, LONGEST, LONGEST_CALLSIGN, MOST_HOPS};
 
 /// Document 01's number for the crate's error, as far as the error tells it.
 fn number_of(error: &DecodeError) -> u32 {
@@ -30,13 +30,12 @@ fn is_overlong(callsign: &[u8]) -> bool {
 
 /// The first limit of the port, from the left, that a line's header breaks.
 fn mark_of_text_header(line: &[u8]) -> Option<Mark> {
-    let header = line.split(|byte| *byte == b':').next()?;
-    let source_end = header.iter().position(|byte| *byte == b'>')?;
-    let mut fields = header[source_end + 1..].split(|byte| *byte == b',');
-    if is_overlong(&header[..source_end]) || is_overlong(fields.next()?) {
+    let callsigns = callsigns_of(line)?;
+    let (ends, hops) = callsigns.split_at(2);
+    if ends.iter().any(|callsign| is_overlong(callsign)) {
         return Some(Mark::CallsignLength);
     }
-    fields.enumerate().find_map(|(place, hop)| {
+    hops.iter().enumerate().find_map(|(place, hop)| {
         if place >= MOST_HOPS {
             Some(Mark::Hops)
         } else if hop.len() == 3 && hop.starts_with(b"qA") {

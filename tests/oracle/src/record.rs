@@ -244,8 +244,10 @@ pub fn push_record(out: &mut Vec<u8>, packet: &AprsPacket, input: &[u8], form: F
     out.extend_from_slice(b" frame=");
     push_written(out, packet, Form::Frame, style);
     if style == Style::Plain {
-        out.extend_from_slice(b" letters=");
-        out.extend_from_slice(&rules::letters(fields.kind.as_bytes(), input, form)?);
+        for word in rules::record_words(fields.kind.as_bytes(), input, form)? {
+            out.push(b' ');
+            out.extend_from_slice(&word);
+        }
     }
     Some(())
 }

@@ -31,6 +31,8 @@ pub struct Record {
     pub speed: i64,
     pub course: i64,
     pub letters: Option<[u8; 2]>,
+    /// Source, destination, hops.
+    pub zeros: Option<Vec<bool>>,
 }
 
 pub fn name(call: &[u8], ssid: &[u8]) -> Name {
@@ -57,6 +59,7 @@ impl Record {
             speed: 0,
             course: 0,
             letters: None,
+            zeros: None,
         };
         let placed = Record {
             flag: 1,
@@ -78,9 +81,15 @@ impl Record {
         }
     }
 
+    /// Source, destination, hops.
+    pub fn names(&self) -> Vec<&Name> {
+        let hops = self.hops.iter().map(|(name, _)| name);
+        [&self.from, &self.to].into_iter().chain(hops).collect()
+    }
+
     pub fn request(&self) -> String {
         format!(
-            "W {} {} {} {} {} {} {} {} {} {} {} {} {} {} {} {}{}",
+            "W {} {} {} {} {} {} {} {} {} {} {} {} {} {} {} {}{}{}",
             match self.form {
                 Form::Text => "text",
                 Form::Frame => "frame",
@@ -100,7 +109,8 @@ impl Record {
             self.message,
             self.speed,
             self.course,
-            letters_word(self.letters)
+            letters_word(self.letters),
+            zeros_word(self.zeros.as_deref())
         )
     }
 }
@@ -114,6 +124,13 @@ fn hex(bytes: &[u8]) -> String {
 fn letters_word(letters: Option<[u8; 2]>) -> String {
     letters.map_or(String::new(), |[latitude, longitude]| {
         format!(" letters={}{}", char::from(latitude), char::from(longitude))
+    })
+}
+
+fn zeros_word(zeros: Option<&[bool]>) -> String {
+    zeros.map_or(String::new(), |zeros| {
+        let digits: String = zeros.iter().map(|zero| if *zero { '1' } else { '0' }).collect();
+        format!(" zeros={}", digits)
     })
 }
 

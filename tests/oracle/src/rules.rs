@@ -1,6 +1,7 @@
-// What document 02 asks that the Rust does not have, computed from a request alone: the letters of both angles and the page box.
+// What document 02 asks that the Rust does not have, computed from a request alone: the letters of both angles and the page box,
+// and which callsigns had SSID `0`.
 
-use crate::{body_of, Form, LATITUDE_LIMIT, LONGITUDE_LIMIT};
+use crate::{body_of, callsigns_of, number_of_addresses, Form, LATITUDE_LIMIT, LONGITUDE_LIMIT};
 
 /// Hundredths of a minute that an angle with 0 to 5 blanks leaves open.
 const WIDTHS: [i64; 6] = [1, 10, 100, 1000, 6000, 60_000];
@@ -48,10 +49,7 @@ impl Limit {
 
 fn six_characters(input: &[u8], form: Form) -> Option<Vec<u8>> {
     match form {
-        Form::Text => {
-            let destination = input.iter().position(|byte| *byte == b'>')? + 1;
-            input.get(destination..destination + 6).map(<[u8]>::to_vec)
-        }
+        Form::Text => callsigns_of(input)?[1].get(..6).map(<[u8]>::to_vec),
         Form::Frame => {
             let address = input.get(..6)?;
             Some(address.iter().map(|byte| (byte >> 1).to_ascii_uppercase()).collect())
@@ -61,7 +59,7 @@ fn six_characters(input: &[u8], form: Form) -> Option<Vec<u8>> {
 
 /// The letters of an accepted packet: those that stand in a position; in Mic-E N and W where the fourth and the sixth character of the
 /// destination are P to Z; none in another kind.
-pub fn letters(kind: &[u8], input: &[u8], form: Form) -> Option<[u8; 2]> {
+fn letters(kind: &[u8], input: &[u8], form: Form) -> Option<[u8; 2]> {
     match kind {
         b"position" => {
             let body = body_of(input, form)?;
@@ -76,6 +74,32 @@ pub fn letters(kind: &[u8], input: &[u8], form: Form) -> Option<[u8; 2]> {
         b"unknown" => Some(*b"--"),
         _ => None,
     }
+}
+
+/// True of a callsign's text whose SSID, once the star is off, is the one byte `0`; the first dash splits.
+fn has_zero_ssid(text: &[u8]) -> bool {
+    let call = text.strip_suffix(b"*").unwrap_or(text).strip_suffix(b"-0");
+    call.map_or(false, |call| !call.contains(&b'-'))
+}
+
+/// A digit for each callsign of an accepted packet, 1 where the text had SSID `0`: source, destination, hops. A frame has none, nor has
+/// the destination of a Mic-E record, since there is no such destination.
+fn zeros(kind: &[u8], input: &[u8], form: Form) -> Option<Vec<u8>> {
+    let mut digits: Vec<u8> = match form {
+        Form::Text => callsigns_of(input)?.into_iter().map(|text| b'0' + u8::from(has_zero_ssid(text))).collect(),
+        Form::Frame => vec![b'0'; number_of_addresses(input)?],
+    };
+    if kind == b"mic-e" {
+        *digits.get_mut(1)? = b'0';
+    }
+    Some(digits)
+}
+
+/// The words that stand behind the Rust's fields in the answer to an accepted packet.
+pub fn record_words(kind: &[u8], input: &[u8], form: Form) -> Option<[Vec<u8>; 2]> {
+    let letters = letters(kind, input, form)?;
+    let zeros = zeros(kind, input, form)?;
+    Some([[&b"letters="[..], &letters].concat(), [&b"zeros="[..], &zeros].concat()])
 }
 
 /// The side that the words behind a limit name: one of its two letters, or, left out, the angle's own.

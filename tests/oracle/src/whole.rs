@@ -3,7 +3,7 @@
 use crate::packets::*;
 use crate::records::{name, Record, LATITUDE_SIDES, LONGITUDE_SIDES};
 use crate::Request;
-use protocol::{Form, LATITUDE_LIMIT, LONGEST, LONGITUDE_LIMIT};
+use protocol::{Form, LATITUDE_LIMIT, LONGEST, LONGITUDE_LIMIT, MOST_HOPS};
 
 type Give<'a> = &'a mut dyn FnMut(Request);
 
@@ -389,6 +389,44 @@ pub fn callsign_lengths(give: Give) {
     }
 }
 
+/// SSID `0` in every set of places of a header of 0 to 8 hops, with stars here and there.
+fn sets_of_zeros(give: Give, destination: &[u8], body: &[u8]) {
+    for hops in 0..=MOST_HOPS {
+        for set in 0..1usize << (2 + hops) {
+            let text = |place: usize, call: &[u8]| {
+                let ssid: &[u8] = if set >> place & 1 == 1 { b"-0" } else { b"" };
+                let star: &[u8] = if (set + place) % 5 == 0 { b"*" } else { b"" };
+                [call, ssid, star].concat()
+            };
+            let path: Vec<Vec<u8>> = (0..hops).map(|hop| text(2 + hop, b"HOP")).collect();
+            give(Request::Text(line(&text(0, b"A"), &text(1, destination), &path, body)));
+        }
+    }
+}
+
+/// Every set of zeros in a line of each kind; and in each place alone SSIDs that are `0` or nearly so, behind calls with room for
+/// them and without, with 0 to 2 stars.
+pub fn zeros(give: Give) {
+    const CALLS: [&[u8]; 9] =
+        [b"", b"0", b"A0", b"A,C", b"\xc3\xa9", b"A\xc3", MIC_E_DESTINATION, b"ABCDEFGHIJKLMN", b"ABCDEFGHIJKLMNO"];
+    const SSIDS: [&[u8]; 16] = [
+        b"", b"0", b"-", b"-0", b"-00", b"-000", b"-0-0", b"-0-", b"--0", b"-+0", b"-0 ", b"- 0", b"-O", b"-1", b"-10", b"-0\0",
+    ];
+    for (destination, body) in [(&b"B"[..], &b"x"[..]), (b"B", POSITION), (MIC_E_DESTINATION, MIC_E)] {
+        sets_of_zeros(give, destination, body);
+        for call in CALLS {
+            for ssid in SSIDS {
+                for star in [&b""[..], b"*", b"**"] {
+                    let text = [call, ssid, star].concat();
+                    give(Request::Text(line(&text, destination, &[], body)));
+                    give(Request::Text(line(b"A", &text, &[], body)));
+                    give(Request::Text(line(b"A", destination, &[b"X".to_vec(), text], body)));
+                }
+            }
+        }
+    }
+}
+
 /// Every two bytes as a hop, and three and four bytes at the edges of RFC 3629's table.
 pub fn utf8(give: Give) {
     let mut give_hop = |hop: Vec<u8>| give(Request::Text(line(b"A", b"B", &[hop], POSITION)));
@@ -508,6 +546,46 @@ pub fn written_letters(give: Give) {
                     }
                 }
             }
+        }
+    }
+}
+
+fn give_every_set_of_zeros(give: Give, record: &Record) {
+    let places = record.names().len();
+    for set in 0..1usize << places {
+        let zeros = (0..places).map(|place| set >> place & 1 == 1).collect();
+        give_written(give, &Record { zeros: Some(zeros), ..record.clone() });
+    }
+}
+
+/// Every set of zeros in records of each kind, good ones and ones refused for many reasons; and all zeros at every number of hops.
+pub fn written_zeros(give: Give) {
+    const CHANGES: [fn(&mut Record); 14] = [
+        |_| {},
+        |record| record.letters = Some(*b"NW"),
+        |record| record.letters = Some(*b"SE"),
+        |record| record.letters = Some(*b"--"),
+        |record| record.room = 0,
+        |record| record.comment = vec![b'c'; LONGEST],
+        |record| record.latitude = LATITUDE_LIMIT + 1,
+        |record| record.longitude = -LONGITUDE_LIMIT,
+        |record| record.table = 128,
+        |record| record.from = name(b"N0CALL", b"0"),
+        |record| record.from = name(b"ABCDEFGHIJKLMNOP", b""),
+        |record| record.to = name(b"", b""),
+        |record| record.to = name(b"APRS", b"1"),
+        |record| record.hops[1].0 = name(b"", b""),
+    ];
+    for kind in ["unknown", "position", "mic-e"] {
+        for change in CHANGES {
+            let mut record = Record::good(kind);
+            change(&mut record);
+            give_every_set_of_zeros(give, &record);
+        }
+        for hops in 0..=MOST_HOPS {
+            let hops = vec![(name(b"HOP", b""), false); hops];
+            let zeros = Some(vec![true; 2 + hops.len()]);
+            give_written(give, &Record { hops, zeros, ..Record::good(kind) });
         }
     }
 }

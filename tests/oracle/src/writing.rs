@@ -93,21 +93,31 @@ fn message(word: &[u8]) -> Option<Option<Message>> {
     Some(Some(*message))
 }
 
-/// Both letters by the word behind the sixteen, a dash for none; left out, those of the angles' own sides for a kind with a position.
-fn letters(words: &[&[u8]], kind: Kind, latitude: i64, longitude: i64) -> Option<[u8; 2]> {
-    match words {
-        [] if kind == Kind::Unknown => Some(*b"--"),
-        [] => Some([Limit::Latitude.own_letter(latitude), Limit::Longitude.own_letter(longitude)]),
-        [word] => match word.strip_prefix(b"letters=")? {
-            [first @ (b'N' | b'S' | b'-'), second @ (b'E' | b'W' | b'-')] => Some([*first, *second]),
-            _ => None,
-        },
-        _ => None,
+/// The value of the word of this name, which is taken off, if it is the next of those behind the sixteen.
+fn next_value<'a>(later: &mut &[&'a [u8]], name: &[u8]) -> Option<&'a [u8]> {
+    let (first, rest) = later.split_first()?;
+    let value = first.strip_prefix(name)?;
+    *later = rest;
+    Some(value)
+}
+
+/// Both letters, a dash for none; left out, those of the angles' own sides for a kind with a position.
+fn letters(value: Option<&[u8]>, kind: Kind, latitude: i64, longitude: i64) -> Option<[u8; 2]> {
+    match value {
+        None if kind == Kind::Unknown => Some(*b"--"),
+        None => Some([Limit::Latitude.own_letter(latitude), Limit::Longitude.own_letter(longitude)]),
+        Some([first @ (b'N' | b'S' | b'-'), second @ (b'E' | b'W' | b'-')]) => Some([*first, *second]),
+        Some(_) => None,
     }
 }
 
+/// True of a 0 or 1 for each callsign. No more is asked of them: "Writers ignore it" (document 02, R-2).
+fn are_zeros(value: &[u8], hops: usize) -> bool {
+    value.len() == 2 + hops && value.iter().all(|digit| matches!(digit, b'0' | b'1'))
+}
+
 fn parse(words: &[&[u8]]) -> Option<Request> {
-    let (words, later) = words.split_at(words.len().min(16));
+    let (words, mut later) = words.split_at(words.len().min(16));
     let [form, room, comment, kind, flag, from, to, path, latitude, longitude, blanks, table, code, word, speed, course]: [&[u8]; 16] =
         words.try_into().ok()?;
     let kind = match kind {
@@ -138,12 +148,17 @@ fn parse(words: &[&[u8]]) -> Option<Request> {
         message: message(word)?,
         speed: number(speed)?,
         course: number(course)?,
-        letters: letters(later, kind, latitude, longitude)?,
+        letters: letters(next_value(&mut later, b"letters="), kind, latitude, longitude)?,
     };
-    if request.kind == Kind::MicE && request.message.is_none() {
-        return None;
+    let zeros = next_value(&mut later, b"zeros=");
+    let is_well_formed = later.is_empty()
+        && zeros.map_or(true, |zeros| are_zeros(zeros, request.hops.len()))
+        && (request.kind != Kind::MicE || request.message.is_some());
+    if is_well_formed {
+        Some(request)
+    } else {
+        None
     }
-    Some(request)
 }
 
 fn mark_of_name(name: &Name) -> Option<Mark> {

@@ -7,10 +7,10 @@ use Rattle.ask.proofs.path_word.Statement.{statement}
 use Rattle.ask.proofs.path_word.Tie as tie
 
 abbrev Inv-loop : tie.InvT-loop
-Inv-loop from to s hops₀ t₀ i₀ hops t i = i ≤ 8
+Inv-loop from to bits s hops₀ t₀ i₀ hops t i = i ≤ 8
 
 abbrev μ-loop : tie.MeasureT-loop
-μ-loop from to s hops₀ t₀ i₀ hops t i = 8 - i
+μ-loop from to bits s hops₀ t₀ i₀ hops t i = 8 - i
 
 blank-requires : tie.Need-blank-requires Inv-loop μ-loop
 blank-requires c κs = search needs
@@ -44,6 +44,12 @@ no-header-requires c κs = search needs
 
 returns-2 : tie.Need-returns-2 Inv-loop μ-loop
 returns-2 c = search needs
+
+add-marked : tie.Need-add-marked Inv-loop μ-loop
+add-marked c = omega arith
+
+marked-requires : tie.Need-marked-requires Inv-loop μ-loop
+marked-requires c κs = search needs
 
 find-requires-2 : tie.Need-find-requires-2 Inv-loop μ-loop
 find-requires-2 c κs = search needs
@@ -98,6 +104,8 @@ path-word-spec =
     hop-word-requires
     no-header-requires
     returns-2
+    add-marked
+    marked-requires
     find-requires-2
     mul-hops
     array-set-from-hops

@@ -4,6 +4,12 @@ use borrow.Author.Needs.{needs, length-unmapped}
 use Rattle.callsign.proofs.in_range.Statement.{statement}
 use Rattle.callsign.proofs.in_range.Tie as tie
 
+cast-n : tie.Need-cast-n
+cast-n c = search needs
+
+cast-k : tie.Need-cast-k
+cast-k c = search needs
+
 returns : tie.Need-returns
 returns c = search range-long
 
@@ -59,6 +65,8 @@ pub in-range-spec : {M : Type 1} → statement M
 in-range-spec =
     tie.close
     (tie.spec
+    cast-n
+    cast-k
     returns
     is-sound-requires
     returns-2

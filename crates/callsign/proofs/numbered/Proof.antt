@@ -16,6 +16,9 @@ slice-aggregate-pad c = search prefix-length
 pad-requires : tie.Need-pad-requires
 pad-requires c κs = rw length-take (omega arith)
 
+call-as-requires : tie.Need-call-as-requires
+call-as-requires c κs = search needs
+
 returns : tie.Need-returns
 returns c = search no-number
 
@@ -30,6 +33,9 @@ add-text-2 c = search needs
 
 array-write-text-2 : tie.Need-array-write-text-2
 array-write-text-2 c = search needs
+
+call-as-requires-2 : tie.Need-call-as-requires-2
+call-as-requires-2 c κs = search needs
 
 returns-2 : tie.Need-returns-2
 returns-2 c = search one-digit
@@ -49,6 +55,9 @@ add-text-5 c = search needs
 array-write-text-4 : tie.Need-array-write-text-4
 array-write-text-4 c = search needs
 
+call-as-requires-3 : tie.Need-call-as-requires-3
+call-as-requires-3 c κs = search needs
+
 returns-3 : tie.Need-returns-3
 returns-3 c = search two-digits
 
@@ -59,15 +68,18 @@ numbered-spec =
     array-share-prefix-call
     slice-aggregate-pad
     pad-requires
+    call-as-requires
     returns
     array-write-text
     add-text
     add-text-2
     array-write-text-2
+    call-as-requires-2
     returns-2
     add-text-3
     array-write-text-3
     add-text-4
     add-text-5
     array-write-text-4
+    call-as-requires-3
     returns-3)

@@ -5,6 +5,12 @@ use borrow.Author.Needs.{needs}
 use Rattle.callsign.proofs.text_len.Statement.{statement}
 use Rattle.callsign.proofs.text_len.Tie as tie
 
+cast-n : tie.Need-cast-n
+cast-n c = search needs
+
+cast-k : tie.Need-cast-k
+cast-k c = search needs
+
 returns : tie.Need-returns
 returns c = search len-over
 
@@ -24,4 +30,4 @@ returns-4 : tie.Need-returns-4
 returns-4 c = search len-full
 
 pub text-len-spec : {M : Type 1} → statement M
-text-len-spec = tie.close (tie.spec returns returns-2 returns-3 add-result add-result-2 returns-4)
+text-len-spec = tie.close (tie.spec cast-n cast-k returns returns-2 returns-3 add-result add-result-2 returns-4)

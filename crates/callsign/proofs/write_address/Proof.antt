@@ -19,6 +19,12 @@ unwritten-requires c κs = search needs
 returns : tie.Need-returns
 returns c = search range-refuses
 
+cast-n : tie.Need-cast-n
+cast-n c = search needs
+
+cast-k : tie.Need-cast-k
+cast-k c = search needs
+
 seventh-requires : tie.Need-seventh-requires
 seventh-requires c κs = search needs
 
@@ -36,13 +42,13 @@ returns-2 c = search (bare-sent, length-unmapped)
 
 add-from : tie.Need-add-from
 add-from c =
-    let a = c .before .before .before .before .args .c in
+    let a = c .before .before .before .before .before .before .args .c in
     let h : a .«call_len» + 1 + a .«ssid_len» ≤ 16 = search room-full in
     omega arith
 
 add-to : tie.Need-add-to
 add-to c =
-    let a = c .before .before .before .before .args .c in
+    let a = c .before .before .before .before .before .before .args .c in
     let h : a .«call_len» + 1 + a .«ssid_len» ≤ 16 = search room-full in
     omega arith
 
@@ -54,7 +60,7 @@ part-ssid-number-start c = search needs
 
 part-ssid-number-end : tie.Need-part-ssid-number-end
 part-ssid-number-end c =
-    let a = c .before .before .before .before .before .args .c in
+    let a = c .before .before .before .before .before .before .before .args .c in
     let h : a .«call_len» + 1 + a .«ssid_len» ≤ 16 = search room-full in
     let w : length (a .text) ≡ 16 = search length-unmapped in
     omega arith
@@ -108,6 +114,8 @@ write-address-spec =
     in-range-requires
     unwritten-requires
     returns
+    cast-n
+    cast-k
     seventh-requires
     array-share-prefix-text
     slice-aggregate-packed
