@@ -2,7 +2,7 @@
 -- Assumes nothing.
 use mathlib.Core.Path.{_≡_, refl, sym, ap, _∙_}
 use mathlib.Core.Bool.{Bool, true, false, not, _&&_, _||_, and-false, false≢true}
-use mathlib.Core.List.{List, [], _∷_, _++_, map, append-assoc}
+use mathlib.Core.List.{List, [], _∷_, _++_, map, map-append, append-assoc}
 use Prim.Native.Nat.{ℕ, suc, _+_, _-_, _*_, _%_, _<_, _≤_}
 use native.Mathlib.Omega.{arith}
 use native.Mathlib.Numerals.{add-one}
@@ -75,10 +75,6 @@ shifted d u e q = let n = raises d e .ascii in omega arith
 
 -- ---- a loop's state: i characters are sent, and spaces stand behind them
 
-map-append : (xs ys : List ℕ) → map sent (xs ++ ys) ≡ map sent xs ++ map sent ys
-map-append [] ys = refl
-map-append (x ∷ xs) ys = ap (λ (l : List ℕ). sent x ∷ l) (map-append xs ys)
-
 -- the characters of a call and the spaces behind them are six bytes
 pub six-sent : (cs : List ℕ) → length cs ≤ 6 → length (map sent cs ++ replicate (6 - length cs) 64) ≡ 6
 six-sent cs h = rw (length-append, length-map, length-replicate) (omega arith)
@@ -113,7 +109,7 @@ module _ (cs bytes : List ℕ) (i : ℕ) (so : Sent cs bytes i) where
           seven = length-set bytes i v ∙ so .seven;
           good = ap (every isLetterOrDigit) n ∙ every-snoc isLetterOrDigit (take i cs) d (so .good) e;
           is = ap (λ (l : List ℕ). set l i v) b ∙ set-at p 64 rest v i front ∙ ap (λ (w : ℕ). p ++ w ∷ rest) ev
-              ∙ sym (append-snoc p (sent d) rest) ∙ ap (λ (l : List ℕ). l ++ rest) (sym (ap (map sent) n ∙ map-append (take i cs) (d ∷ [])));
+              ∙ sym (append-snoc p (sent d) rest) ∙ ap (λ (l : List ℕ). l ++ rest) (sym (ap (map sent) n ∙ map-append sent (take i cs) (d ∷ [])));
         }
 
     bad : isLetterOrDigit (getD cs i 0) ≡ false → every isLetterOrDigit cs ≡ false

@@ -33,7 +33,7 @@ unfolding carried
 length-carried [] = refl
 length-carried (h ∷ l) = ap suc (length-carried l)
 
-padded-front : (l : List Hop) → take (length l) (padTo 8 blankHop l) ≡ l
+pub padded-front : (l : List Hop) → take (length l) (padTo 8 blankHop l) ≡ l
 unfolding padTo
 padded-front l = take-at l (replicate (8 - length l) blankHop) (length l) refl
 

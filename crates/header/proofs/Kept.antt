@@ -4,14 +4,14 @@
 use mathlib.Core.Path.{_≡_, refl, sym, ap, _∙_}
 use mathlib.Core.Bool.{Bool, true, false, cond}
 use mathlib.Core.List.{List, [], _∷_, _++_}
-use Prim.Native.Nat.{ℕ, zero, suc, _+_, _-_, _/_, _%_, _<_}
+use Prim.Native.Nat.{ℕ, zero, suc, _+_, _/_, _%_, _<_}
 use native.Mathlib.Omega.{arith}
 use lib.Dec.{eqb, ltb}
 use borrow.Author.Tests.{eqb-true, eqb-false}
-use lib.ListN.{length, take, drop, replicate, length-append}
+use lib.ListN.{length, take, drop, length-append}
 use lib.Seq.{take-at, append-snoc, length-take-le}
 use Rattle.laws.specs.Bytes.{comma, colon, greater}
-use Rattle.laws.specs.Lists.{indexOf, padTo}
+use Rattle.laws.specs.Lists.{indexOf}
 use Rattle.laws.proofs.Places.{index-split, index-le}
 use Rattle.callsign.specs.declared.Callsign.{Callsign}
 use Rattle.callsign.specs.declared.CallRead.{CallRead}
@@ -22,9 +22,11 @@ use Rattle.callsign.proofs.Theorems.{text-is-kept}
 use Rattle.header.specs.declared.Hop.{Hop}
 use Rattle.header.specs.declared.Header.{Header}
 use Rattle.header.specs.declared.HeaderRead.{HeaderRead}
-use Rattle.header.specs.Header.{mostBytes, Hops, refused, these, before, blankHop, pathOf, hopsOf, headerOf, headerRefused, headerAccepted, unlessRefused, withHops}
+use Rattle.header.specs.Header.{mostBytes, Hops, refused, these, before, pathOf, hopsOf, headerOf, headerRefused, headerAccepted, unlessRefused, withHops}
 use Rattle.header.specs.Text.{onFirst, fields, firstOf, othersOf, isQ, hopRefused, hopOf, readHop, hopThen, textHops, starsOf, carried, readRoute, readBefore, readHeaderText, readTextHeader}
 use Rattle.header.proofs.Typed.{lowest, others}
+use Rattle.header.proofs.Stars.{eachText}
+use Rattle.header.proofs.Going.{padded-front}
 use Rattle.header.proofs.TextHops.{fields-some}
 
 -- ---- a header as it was typed
@@ -34,15 +36,10 @@ unfoldable pub starredBy : ℕ → List Hop → List Hop
 starredBy stars [] = []
 starredBy stars (h ∷ l) = record { call = h .call; heard = eqb (stars % 2) 1 } ∷ starredBy (stars / 2) l
 
--- each hop after a comma, with its `-0` and its star
-unfoldable pub hopsTyped : List Hop → List ℕ
-hopsTyped [] = []
-hopsTyped (h ∷ l) = comma ∷ (withStar (typedText (h .call)) (h .heard) ++ hopsTyped l)
-
--- all but the colon
+-- all but the colon: each callsign with its `-0`, each hop with its star
 unfoldable pub routeTyped : Bool → Bool → ℕ → Header → List ℕ
 routeTyped source destination stars h =
-    withStar (typedText (h .from)) source ++ greater ∷ (withStar (typedText (h .to)) destination ++ hopsTyped (starredBy stars (hopsOf (h .path))))
+    withStar (typedText (h .from)) source ++ greater ∷ (withStar (typedText (h .to)) destination ++ eachText typedText (starredBy stars (hopsOf (h .path))))
 
 -- with the colon
 unfoldable pub headerTyped : Bool → Bool → ℕ → Header → List ℕ
@@ -56,8 +53,8 @@ stars-back [] = refl
 stars-back (h ∷ l) = rw (lowest (h .heard) (starsOf l), others (h .heard) (starsOf l), stars-back l)
 
 hops-back : (l : List Hop) → hopsOf (pathOf l) ≡ l
-unfolding hopsOf pathOf padTo
-hops-back l = take-at l (replicate (8 - length l) blankHop) (length l) refl
+unfolding hopsOf pathOf
+hops-back l = padded-front l
 
 -- ---- the parts between commas
 
@@ -93,10 +90,10 @@ hop-typed t = go (isQ t)
 -- refused, or hops that are typed as the parts are
 data Typed (fs : List (List ℕ)) : Hops → Type 0 where
   none : (n : ℕ) → (n ≡ 0 → ⊥) → Typed fs (refused n)
-  some : (l : List Hop) → afterCommas fs ≡ hopsTyped l → Typed fs (these l)
+  some : (l : List Hop) → afterCommas fs ≡ eachText typedText l → Typed fs (these l)
 
 hops-typed : (k : ℕ) (fs : List (List ℕ)) → Typed fs (textHops k fs)
-unfolding textHops hopThen before afterCommas hopsTyped
+unfolding textHops hopThen before afterCommas eachText
 hops-typed zero [] = some [] refl
 hops-typed (suc k) [] = some [] refl
 hops-typed zero (t ∷ ts) = none 5 (λ e. omega arith)

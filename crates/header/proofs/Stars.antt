@@ -15,6 +15,7 @@ use lib.ListN.{length, take, drop, getD, set, take-append-drop}
 use lib.Seq.{length-take-le, set-at, getD-at, append-snoc, take-suc, slice, slice-cons, slice-empty, length-slice}
 use Rattle.laws.specs.Bytes.{comma}
 use Rattle.laws.proofs.Tests.{or-neither}
+use Rattle.callsign.specs.declared.Callsign.{Callsign}
 use Rattle.callsign.specs.Range.{textOf, withStar}
 use Rattle.callsign.specs.Packed.{bit}
 use Rattle.header.specs.declared.Hop.{Hop}
@@ -206,12 +207,12 @@ unfoldable pub starredLast : List Hop → List Hop
 starredLast [] = []
 starredLast (h ∷ l) = record { call = h .call; heard = h .heard && not (anyHeard l) } ∷ starredLast l
 
--- each hop after a comma, with a star where it is heard
-unfoldable pub eachText : List Hop → List ℕ
-eachText [] = []
-eachText (h ∷ l) = comma ∷ (withStar (textOf (h .call)) (h .heard) ++ eachText l)
+-- each hop after a comma, its callsign as the text of one is given, with a star where it is heard
+unfoldable pub eachText : (Callsign → List ℕ) → List Hop → List ℕ
+eachText text [] = []
+eachText text (h ∷ l) = comma ∷ (withStar (text (h .call)) (h .heard) ++ eachText text l)
 
-pub written-stars : (l : List Hop) → hopsText l ≡ eachText (starredLast l)
+pub written-stars : (l : List Hop) → hopsText l ≡ eachText textOf (starredLast l)
 unfolding hopsText eachText starredLast
 written-stars [] = refl
 written-stars (h ∷ l) = ap (λ (r : List ℕ). comma ∷ (withStar (textOf (h .call)) (h .heard && not (anyHeard l)) ++ r)) (written-stars l)

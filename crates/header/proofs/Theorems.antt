@@ -107,7 +107,7 @@ pub frame-has-no-stars : (s : List ℕ) → readFrameHeader s .stars ≡ 0
 frame-has-no-stars s = answered-starless InFrame s (frame-answered s)
 
 -- a text's hops are written with one star, and carrying it back gives the same hops heard
-pub stars-are-kept : (l : List Hop) → (hopsText (carried l) ≡ eachText (starredLast (carried l))) × (carried (starredLast (carried l)) ≡ carried l)
+pub stars-are-kept : (l : List Hop) → (hopsText (carried l) ≡ eachText textOf (starredLast (carried l))) × (carried (starredLast (carried l)) ≡ carried l)
 stars-are-kept l = (written-stars (carried l), carried-starred (carried l) ∙ carried-twice l)
 
 -- ---- document 02, R-2: "say when a zero SSID was dropped"
