@@ -1,4 +1,5 @@
--- What the definitions of a callsign amount to: read and written they agree, and what is read is in range.
+-- What the definitions of a callsign amount to: read and written they agree, what is read is in range, and what the mark of a dropped
+-- zero says.
 -- Assumes nothing.
 use mathlib.Core.Path.{_≡_, refl}
 use mathlib.Core.Logic.{_⊎_}

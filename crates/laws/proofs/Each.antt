@@ -1,4 +1,4 @@
--- Laws of `every`: of parts of a list, of a loop over what is left of it, and of a loop over a part of an array.
+-- Laws of `every`: of parts of a list, of a list that is mapped, of a loop over what is left of it, and of a loop over a part of an array.
 -- Assumes nothing.
 use mathlib.Core.Path.{_≡_, refl, sym, ap, _∙_}
 use mathlib.Core.Bool.{Bool, true, false, not, _&&_, and-false}

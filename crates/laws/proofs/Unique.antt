@@ -1,4 +1,4 @@
--- What a promise fixes: two results that meet one promise are equal; and values that differ in a part that nothing looks at.
+-- What a promise fixes: two results that meet one promise are equal. And what does not look at a part of a value is alike without it.
 -- Assumes nothing.
 use mathlib.Core.Path.{_≡_, sym, ap, _∙_}
 use mathlib.Core.List.{List}
