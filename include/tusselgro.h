@@ -47,7 +47,8 @@ enum {
     TUSSELGRO_NOT_AX25 = 13,
     TUSSELGRO_UNKNOWN_KIND = 14,
     TUSSELGRO_OUT_OF_RANGE = 15,
-    TUSSELGRO_NO_ROOM = 16
+    TUSSELGRO_NO_ROOM = 16,
+    TUSSELGRO_TIME = 17
 };
 
 /* What a refusal means. The text is never freed. */
@@ -61,16 +62,17 @@ static inline const char *tusselgro_meaning(uint8_t refusal) {
         "callsign text over 16 bytes",
         "a ninth hop",
         "a Q element: a textual hop of three bytes that starts qA",
-        "not carried: body starts ':' '>' '/' '@', or '!' '=' with a compressed position",
+        "not carried: body starts ':' '>', or '!' '=' '/' '@' with a compressed position",
         "latitude cannot be read",
         "longitude cannot be read",
-        "position under 19 bytes after its type byte",
+        "position under 19 bytes after its type byte or time; time under 7 bytes",
         "Mic-E destination cannot be read",
         "Mic-E information cannot be read",
         "callsign cannot go into AX.25",
         "record of Unknown kind to be written",
-        "record, angle, blanks or list target out of range",
+        "record, angle, time, blanks or list target out of range",
         "output buffer too short; the bytes needed are returned",
+        "time cannot be read",
     };
     return refusal < sizeof meanings / sizeof meanings[0] ? meanings[refusal] : "no such refusal";
 }
@@ -98,6 +100,9 @@ enum {
     TUSSELGRO_EMERGENCY = 14,
     TUSSELGRO_MESSAGE_UNKNOWN = 15
 };
+
+/* The forms of a time, by the letter behind its digits. A writer refuses any other with 15. */
+enum { TUSSELGRO_NO_TIME = 0, TUSSELGRO_DHM_UTC = 'z', TUSSELGRO_DHM_LOCAL = '/', TUSSELGRO_HMS_UTC = 'h' };
 
 enum { TUSSELGRO_MOST_BYTES = 512, TUSSELGRO_MOST_HOPS = 8, TUSSELGRO_MOST_CALLSIGN = 16 };
 
@@ -175,12 +180,35 @@ typedef struct {
     size_t len;
 } tusselgro_comment;
 
-/* What a packet says. 56 bytes. */
+/*
+ * The time of a position that starts '/' or '@': seven bytes behind its type byte, two digits a number, zeros kept, and
+ * the letter of the form. 092345z is day 9, 23:45 UTC; 092345/ is the same in local time; 234517h is 23:45:17 UTC.
+ *
+ * A number that the form lacks is 0. Where there is no time all is 0; the form tells that from 000000h, which is one.
+ * A writer refuses with 15 a number that is out of range, that the form lacks or that has no form, and any time in
+ * another kind than a position. No month is known, so day 31 is always in range. 5 bytes.
+ */
+typedef struct {
+    uint8_t day;    /* of the month, 1 to 31; .._HMS_UTC lacks it */
+    uint8_t hour;   /* 0 to 23 */
+    uint8_t minute; /* 0 to 59 */
+    uint8_t second; /* 0 to 59; .._DHM_UTC and .._DHM_LOCAL lack it */
+    uint8_t form;   /* TUSSELGRO_NO_TIME, .._DHM_UTC, .._DHM_LOCAL or .._HMS_UTC */
+} tusselgro_time;
+
+/*
+ * What a packet says. A writer gives a position the type byte '!', with messaging '=', with a time '/', with both '@'.
+ * 56 bytes.
+ *
+ * Before the time was here, messaging and kind stood in its place. The sizes are as they were; what was compiled with
+ * that header must be compiled again all the same.
+ */
 typedef struct {
     tusselgro_place place;
     tusselgro_report report;
     tusselgro_comment comment;
-    bool messaging; /* a position that starts '=' */
+    tusselgro_time time;
+    bool messaging; /* a position that starts '=' or '@' */
     uint8_t kind;   /* TUSSELGRO_UNKNOWN, .._POSITION or .._MIC_E */
 } tusselgro_body;
 
@@ -210,11 +238,12 @@ typedef struct {
 
 /* ---- packets */
 
-/* Reads a line of text, without its line end. Refusals: 1 to 12. */
+/* Reads a line of text, without its line end. Refusals: 1 to 12, and 17. Of a position with a time, and in this order:
+   10 for under seven bytes behind the type byte, 17, then 7, 10, 8 and 9 of what follows the time. */
 tusselgro_read tusselgro_read_text(const uint8_t *line, size_t line_len);
 
 /* Reads an AX.25 frame, from the destination's address to the last byte of the body, without flags and checksum.
-   Refusals: 1, 2, 3, 5, 7 to 12. */
+   Refusals: 1, 2, 3, 5, 7 to 12, and 17; those of a position with a time in the same order. */
 tusselgro_read tusselgro_read_frame(const uint8_t *frame, size_t frame_len);
 
 /* Writes a record as a line of text, with the comment's bytes at its end and no line end. Refusals: 15, 14, 1, 16. */
@@ -299,6 +328,18 @@ tusselgro_answer tusselgro_write_latitude(int32_t latitude, uint8_t blanks, uint
 /* Writes those nine bytes, in full, 0 as E. Refusals: 15, 16. */
 tusselgro_answer tusselgro_write_longitude(int32_t longitude, uint8_t *out, size_t out_len);
 
+/* A time as it was read. 6 bytes. */
+typedef struct {
+    tusselgro_time time;
+    uint8_t refusal;
+} tusselgro_time_read;
+
+/* Reads the seven bytes of a time, no more and no fewer; Z and H are no letters of a form. Refusal: 17. */
+tusselgro_time_read tusselgro_read_time(const uint8_t *text, size_t text_len);
+
+/* Writes those seven bytes, or none where there is no time. Refusals: 15, 16. */
+tusselgro_answer tusselgro_write_time(tusselgro_time time, uint8_t *out, size_t out_len);
+
 /* A place with its letters; whether the minutes of its angles are 60 or more, as above. 20 bytes. */
 typedef struct {
     tusselgro_place place;
@@ -307,8 +348,8 @@ typedef struct {
     uint8_t refusal;
 } tusselgro_position_read;
 
-/* Reads a position, from the byte behind its type byte on: 19 bytes, and what follows them is the comment. Refusals: 7,
-   10, 8, 9. */
+/* Reads a position, from the byte behind its type byte, or behind its time, on: 19 bytes, and what follows them is the
+   comment. Refusals: 7, 10, 8, 9. */
 tusselgro_position_read tusselgro_read_position(const uint8_t *text, size_t text_len);
 
 /* Writes those 19 bytes, 0 as N and E. Refusals: 15, also for a letter that contradicts its angle; 16. */

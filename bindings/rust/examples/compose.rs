@@ -1,7 +1,8 @@
-// Builds two packets, a position and a Mic-E report, and writes each as a line of text and as an AX.25 frame.
+// Builds three packets, a position, one with a time and a Mic-E report, and writes each as a line of text and as an
+// AX.25 frame.
 
 use tusselgro::mic_e::{Course, Message, Speed};
-use tusselgro::{AprsPacket, Latitude, Longitude, Refusal};
+use tusselgro::{AprsPacket, Latitude, Longitude, Refusal, Timestamp};
 
 fn print(packet: &AprsPacket<'_>) -> Result<(), Refusal> {
     let mut line = Vec::new();
@@ -26,6 +27,13 @@ fn main() -> Result<(), Refusal> {
         .comment(b"Test 001234")
         .build()?;
     print(&position)?;
+
+    let timed = AprsPacket::position("N7LEM", "NJ7P", latitude, longitude)
+        .timestamp(Timestamp::new_dhm(9, 23, 45)?)
+        .messaging(true)
+        .symbol(b'/', b'>')
+        .build()?;
+    print(&timed)?;
 
     let latitude = Latitude::from_dmh(33, 25, 64, true)?;
     let longitude = Longitude::from_dmh(112, 7, 74, false)?;

@@ -1,15 +1,22 @@
-// Sets the callsigns and positions of a capture as a table, callsigns as they were typed, with the page's box of each
-// position in half hundredths of a minute. The capture has a line a packet; it is the file that the first argument names.
-// A line that is refused is told on standard error, and the status is then 1; it is 2 where no table was set.
+// Sets the callsigns, times and positions of a capture as a table, callsigns as they were typed, with the page's box of
+// each position in half hundredths of a minute. The capture has a line a packet; it is the file that the first argument
+// names. A line that is refused is told on standard error, and the status is then 1; it is 2 where no table was set.
 
 use std::error::Error;
 use std::process::ExitCode;
-use tusselgro::{AprsData, AprsPacket, Callsign, Latitude, Longitude, Precision, Via};
+use tusselgro::{AprsData, AprsPacket, Callsign, Latitude, Longitude, Precision, Timestamp, Via};
 
 fn place(data: &AprsData<'_>) -> Option<(Latitude, Longitude, Precision)> {
     match data {
         AprsData::Position(at) => Some((at.latitude, at.longitude, at.precision)),
         AprsData::MicE(at) => Some((at.latitude, at.longitude, at.precision)),
+        _ => None,
+    }
+}
+
+fn time(data: &AprsData<'_>) -> Option<Timestamp> {
+    match data {
+        AprsData::Position(at) => at.timestamp,
         _ => None,
     }
 }
@@ -26,7 +33,8 @@ fn row(packet: &AprsPacket<'_>) -> String {
     let heard = format!("{}/{}", heard.count(), packet.via.len());
     let mut row = format!("{from:<10} {to:<10} {heard:<5}");
     if let Some((latitude, longitude, precision)) = place(&packet.data) {
-        row += &format!(" {latitude} {longitude}");
+        let time = time(&packet.data).map_or_else(|| "-".to_string(), |time| time.to_string());
+        row += &format!(" {time:<7} {latitude} {longitude}");
         row += &format!(" {:9.5} {:10.5}", latitude.degrees(), longitude.degrees());
         for page in [latitude.page_box(precision), longitude.page_box(precision)] {
             row += &format!(" {}..{}", page.start(), page.end());
@@ -47,7 +55,9 @@ fn table() -> Result<ExitCode, Box<dyn Error>> {
     let name = std::env::args().nth(1).ok_or("usage: table CAPTURE")?;
     let capture = std::fs::read(&name).map_err(|error| format!("{name}: {error}"))?;
     let mut status = ExitCode::SUCCESS;
-    println!("from       to         heard latitude longitude   degrees            page box");
+    println!(
+        "from       to         heard time    latitude longitude   degrees            page box"
+    );
     for (number, line) in (1..).zip(lines(&capture)) {
         match AprsPacket::decode_textual(line) {
             Ok(packet) => println!("{}", row(&packet)),

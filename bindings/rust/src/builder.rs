@@ -8,6 +8,7 @@ use crate::packet::AprsPacket;
 use crate::position::AprsPosition;
 use crate::precision::Precision;
 use crate::refusal::Refusal;
+use crate::timestamp::Timestamp;
 use crate::via::{Path, Via};
 
 /// Builds a packet. A callsign may be given as one or as its text; the first refusal among them is that of
@@ -138,6 +139,12 @@ shared!(AprsPosition);
 shared!(AprsMicE);
 
 impl PacketBuilder<AprsPosition<'_>> {
+    /// The time.
+    pub fn timestamp(mut self, timestamp: Timestamp) -> Self {
+        self.body.timestamp = Some(timestamp);
+        self
+    }
+
     /// Whether the station takes messages.
     pub fn messaging(mut self, supported: bool) -> Self {
         self.body.messaging_supported = supported;
@@ -189,12 +196,13 @@ mod tests {
             .hop(&to)
             .precision(Precision::OneMinute)
             .symbol(b'\\', b'j')
+            .timestamp(Timestamp::DDHHMMLocal(9, 23, 45))
             .messaging(true)
             .comment(b"Hi")
             .build();
         assert_eq!(
             line(&packet.unwrap()),
-            b"A-01>APRS,B*,APRS:=3325.  N\\11207.74WjHi"
+            b"A-01>APRS,B*,APRS:@092345/3325.  N\\11207.74WjHi"
         );
     }
 

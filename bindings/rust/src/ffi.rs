@@ -11,6 +11,15 @@ pub const POSITION: u8 = 1;
 /// The kind of a Mic-E report.
 pub const MIC_E: u8 = 2;
 
+/// The form of a time: there is none.
+pub const NO_TIME: u8 = 0;
+/// The form of a time: day, hour and minute in UTC.
+pub const DHM_UTC: u8 = b'z';
+/// The form of a time: day, hour and minute in local time.
+pub const DHM_LOCAL: u8 = b'/';
+/// The form of a time: hour, minute and second in UTC.
+pub const HMS_UTC: u8 = b'h';
+
 /// The field of an address: where a frame goes to.
 pub const DESTINATION: u8 = 0;
 /// The field of an address: where a frame comes from.
@@ -151,6 +160,22 @@ pub struct Comment {
     pub len: usize,
 }
 
+/// The time of a position; all 0 where there is none.
+#[repr(C)]
+#[derive(Clone, Copy, Debug, Default, PartialEq, Eq)]
+pub struct Time {
+    /// 1 to 31; [`HMS_UTC`] lacks it: 0.
+    pub day: u8,
+    /// 0 to 23.
+    pub hour: u8,
+    /// 0 to 59.
+    pub minute: u8,
+    /// 0 to 59; [`DHM_UTC`] and [`DHM_LOCAL`] lack it: 0.
+    pub second: u8,
+    /// [`NO_TIME`], [`DHM_UTC`], [`DHM_LOCAL`] or [`HMS_UTC`].
+    pub form: u8,
+}
+
 /// What a packet says.
 #[repr(C)]
 #[derive(Clone, Copy, Debug, Default, PartialEq, Eq)]
@@ -161,7 +186,9 @@ pub struct Body {
     pub report: Report,
     /// Of a position and of a Mic-E report.
     pub comment: Comment,
-    /// Of a position: that it starts `=`.
+    /// Of a position that starts `/` or `@`.
+    pub time: Time,
+    /// Of a position: that it starts `=` or `@`.
     pub messaging: bool,
     /// [`UNKNOWN`], [`POSITION`] or [`MIC_E`].
     pub kind: u8,
@@ -261,6 +288,16 @@ pub struct LongitudeRead {
     pub west: bool,
     /// Whether the minutes are 60 or more.
     pub sixty: bool,
+    /// The refusal's number, or 0.
+    pub refusal: u8,
+}
+
+/// A time as it was read.
+#[repr(C)]
+#[derive(Clone, Copy, Debug, PartialEq, Eq)]
+pub struct TimeRead {
+    /// The time; 0 at a refusal.
+    pub time: Time,
     /// The refusal's number, or 0.
     pub refusal: u8,
 }
@@ -409,7 +446,11 @@ extern "C" {
     ) -> Answer;
     /// Writes a longitude as text.
     pub fn tusselgro_write_longitude(longitude: i32, out: *mut u8, out_len: usize) -> Answer;
-    /// Reads a position behind its type byte.
+    /// Reads the seven bytes of a time.
+    pub fn tusselgro_read_time(text: *const u8, text_len: usize) -> TimeRead;
+    /// Writes the seven bytes of a time, or none.
+    pub fn tusselgro_write_time(time: Time, out: *mut u8, out_len: usize) -> Answer;
+    /// Reads a position behind its type byte or its time.
     pub fn tusselgro_read_position(text: *const u8, text_len: usize) -> PositionRead;
     /// Writes a position's 19 bytes.
     pub fn tusselgro_write_position(place: Place, out: *mut u8, out_len: usize) -> Answer;
@@ -468,6 +509,7 @@ mod tests {
         assert_eq!((size_of::<Path>(), size_of::<Header>()), (168, 208));
         assert_eq!((size_of::<Place>(), size_of::<Report>()), (16, 12));
         assert_eq!((size_of::<Comment>(), size_of::<Body>()), (16, 56));
+        assert_eq!((size_of::<Time>(), size_of::<TimeRead>()), (5, 6));
         assert_eq!((size_of::<Record>(), size_of::<Read>()), (264, 272));
         assert_eq!((size_of::<Answer>(), size_of::<CallsignRead>()), (24, 21));
         assert_eq!((size_of::<AddressRead>(), size_of::<Address>()), (22, 8));
@@ -488,6 +530,15 @@ mod tests {
             (20, 24)
         );
         assert_eq!(size_of::<PageBox>(), 12);
+    }
+
+    #[test]
+    fn a_body_has_its_time_flag_and_kind_where_the_header_has_them() {
+        let body = Body::default();
+        let at = |part: *const u8| part as usize - &body as *const Body as usize;
+        assert_eq!((at(&body.time.day), at(&body.time.form)), (48, 52));
+        let messaging: *const bool = &body.messaging;
+        assert_eq!((at(messaging.cast()), at(&body.kind)), (53, 54));
     }
 
     #[test]

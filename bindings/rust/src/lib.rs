@@ -22,6 +22,7 @@ mod record;
 mod refusal;
 #[cfg(test)]
 mod tests;
+mod timestamp;
 mod via;
 
 pub use address::CallsignField;
@@ -38,4 +39,5 @@ pub use packet::{AprsData, AprsPacket};
 pub use position::AprsPosition;
 pub use precision::Precision;
 pub use refusal::Refusal;
+pub use timestamp::{Time, Timestamp};
 pub use via::{Path, Via};

@@ -8,6 +8,7 @@ use crate::place::{angles_of, place_of};
 use crate::position::AprsPosition;
 use crate::precision::Precision;
 use crate::refusal::Refusal;
+use crate::timestamp::Timestamp;
 use crate::via::{Path, Via};
 
 /// The packet of a record that was read from `bytes`.
@@ -19,7 +20,7 @@ pub fn packet_of<'a>(record: &ffi::Record, bytes: &'a [u8]) -> Result<AprsPacket
     let comment = comment.ok_or(Refusal::OutOfRange)?;
     let to = Callsign::of(header.to);
     let data = match body.kind {
-        ffi::POSITION => AprsPosition::of(body.place, to, body.messaging, comment)?.into(),
+        ffi::POSITION => position_of(body, to, comment)?.into(),
         ffi::MIC_E => mic_e_of(&body.place, &body.report, comment)?.into(),
         _ => AprsData::Unknown(to),
     };
@@ -36,6 +37,18 @@ fn path_of(path: &ffi::Path) -> Result<Path, Refusal> {
         via.push(Via::Callsign(Callsign::of(hop.call), hop.heard))?;
     }
     Ok(via)
+}
+
+fn position_of<'a>(
+    body: &ffi::Body,
+    to: Callsign,
+    comment: &'a [u8],
+) -> Result<AprsPosition<'a>, Refusal> {
+    let mut found = AprsPosition::of(&body.place, to)?;
+    found.timestamp = Timestamp::of(body.time)?;
+    found.messaging_supported = body.messaging;
+    found.comment = comment;
+    Ok(found)
 }
 
 fn mic_e_of<'a>(
@@ -90,6 +103,7 @@ fn path_record(via: &Path) -> ffi::Path {
 fn position_body(position: &AprsPosition<'_>) -> ffi::Body {
     ffi::Body {
         place: position.place(),
+        time: position.timestamp.map(Timestamp::raw).unwrap_or_default(),
         messaging: position.messaging_supported,
         kind: ffi::POSITION,
         ..Default::default()
@@ -139,6 +153,9 @@ mod tests {
             b"A>S32UVT:'(_fn\"Oj/",
             b"A>B:!0000.00S/00000.00W-",
             b"A>B:!0000.00N/00000.00W-",
+            b"A>B:/092345z4903.50N/07201.75W>Test1234",
+            b"A>B:@092345/4903.50N/07201.75W>Test1234",
+            b"A>B:@000000h4903.50N/07201.75W>",
             b"A>0LLLLL:`vX\x1cn\"Oj/",
             b"A>B-7:hi",
             b"A-0>B-0,C,D-0*:!0000.00N/00000.00E-",
@@ -180,6 +197,10 @@ mod tests {
             spoil(&mut record);
             assert_eq!(packet_of(&record, line), Err(Refusal::OutOfRange));
         }
+        let line = b"A>B:/092345z4903.50N/07201.75W>";
+        let mut record = read(line);
+        record.body.time.second = 1;
+        assert_eq!(packet_of(&record, line), Err(Refusal::OutOfRange));
         let mut record = read(line);
         record.header.path.count = usize::MAX;
         record.header.from.call_len = u8::MAX;

@@ -75,15 +75,16 @@ refusals! {
     4 CallsignTooLong "callsign text over 16 bytes"
     5 TooManyHops "a ninth hop"
     6 QElement "a Q element: a textual hop of three bytes that starts qA"
-    7 NotCarried "not carried: body starts ':' '>' '/' '@', or '!' '=' with a compressed position"
+    7 NotCarried "not carried: body starts ':' '>', or '!' '=' '/' '@' with a compressed position"
     8 Latitude "latitude cannot be read"
     9 Longitude "longitude cannot be read"
-    10 PositionTooShort "position under 19 bytes after its type byte"
+    10 PositionTooShort "position under 19 bytes after its type byte or time; time under 7 bytes"
     11 MicEDestination "Mic-E destination cannot be read"
     12 MicEInformation "Mic-E information cannot be read"
     13 NotAx25 "callsign cannot go into AX.25"
     14 UnknownKind "record of Unknown kind to be written"
-    15 OutOfRange "record, angle, blanks or list target out of range"
+    15 OutOfRange "record, angle, time, blanks or list target out of range"
+    17 Time "time cannot be read"
 }
 
 impl Refusal {
@@ -128,12 +129,12 @@ mod tests {
     fn each_means_what_the_source_says() {
         let mut lines = SOURCE.lines();
         assert_eq!(lines.next(), Some("0\tno refusal"));
-        for number in 1..=16 {
+        for number in 1..=17 {
             let meaning = Refusal::of(number, 7).map_or("", Refusal::meaning);
             assert_eq!(lines.next(), Some(&*format!("{number}\t{meaning}")));
         }
         assert_eq!(lines.next(), None);
-        assert_eq!(Refusal::of(17, 0), Some(Refusal::Other(17)));
+        assert_eq!(Refusal::of(18, 0), Some(Refusal::Other(18)));
     }
 
     #[test]
@@ -144,8 +145,8 @@ mod tests {
             "16: output buffer too short; the bytes needed are returned: 40"
         );
         assert_eq!(
-            Refusal::Other(17).to_string(),
-            "17: a refusal without a name"
+            Refusal::Other(18).to_string(),
+            "18: a refusal without a name"
         );
     }
 }

@@ -5,6 +5,7 @@ use crate::*;
 
 const LINE: &[u8] = b"N0CALL-01>APRS,WIDE1-1,WIDE2-2*,K1A:!4903.50N/07201.75W-Test";
 const MIC_E: &[u8] = b"A>S32U6T:`(_fn\"Oj/Comment";
+const TIMED: &[u8] = b"A>B:@092345z4903.50N/07201.75W>Test1234";
 
 fn read(line: &[u8]) -> AprsPacket<'_> {
     AprsPacket::decode_textual(line).unwrap()
@@ -145,6 +146,95 @@ fn a_zero_is_read_with_its_letter_and_written_north_or_east() {
     }
 }
 
+/// Document 02's R-3, with the examples of the Protocol Reference, chapter 8.
+#[test]
+fn a_timed_position_is_read_and_written_as_a_line_and_as_a_frame() {
+    let cases: [(&[u8], Timestamp, bool); 4] = [
+        (
+            b"A>B:/092345z4903.50N/07201.75W>Test1234",
+            Timestamp::DDHHMM(9, 23, 45),
+            false,
+        ),
+        (
+            b"A>B:@092345/4903.50N/07201.75W>Test1234",
+            Timestamp::DDHHMMLocal(9, 23, 45),
+            true,
+        ),
+        (
+            b"A>B:/234517h4903.50N/07201.75W>Test1234",
+            Timestamp::HHMMSS(23, 45, 17),
+            false,
+        ),
+        (
+            b"A>B:@000000h4903.50N/07201.75W>Test1234",
+            Timestamp::HHMMSS(0, 0, 0),
+            true,
+        ),
+    ];
+    for (line, timestamp, messaging) in cases {
+        let packet = read(line);
+        let position = position_of(&packet);
+        assert_eq!(position.timestamp, Some(timestamp));
+        assert_eq!(position.messaging_supported, messaging);
+        assert_eq!(position.latitude.hundredths(), 294350);
+        assert_eq!(position.longitude.hundredths(), -432175);
+        assert_eq!(position.comment, b"Test1234");
+        assert_eq!(written(&packet), Ok(line.to_vec()));
+        let mut frame = Vec::new();
+        packet.encode_ax25(&mut frame).unwrap();
+        assert_eq!(frame[16..], line[4..]);
+        assert_eq!(AprsPacket::decode_ax25(&frame), Ok(packet));
+    }
+    assert_eq!(position_of(&read(LINE)).timestamp, None);
+}
+
+/// In a line and in a frame, behind either type byte.
+#[test]
+fn refusals_of_a_timed_position_in_their_order() {
+    let cases: [(&[u8], u8); 10] = [
+        (b"", 10),
+        (b"xxxxxx", 10),
+        (b"xxxxxxx", 17),
+        (b"000000z/5L!!<*e7>7P[", 17),
+        (b"010000z", 7),
+        (b"010000z/5L!!<*e7>7P[", 7),
+        (b"010000z0", 10),
+        (b"010000z9000.01N/18000.01E-", 8),
+        (b"010000z9000.00N/18000.01E-", 9),
+        (b"010000z9000.00N/18000.00E-", 0),
+    ];
+    let mut header = Vec::new();
+    let untimed = read(b"A>B:!0000.00N/00000.00E-");
+    untimed.encode_ax25(&mut header).unwrap();
+    header.truncate(16);
+    for (first, (behind, expected)) in cases.iter().flat_map(|case| [(b'/', case), (b'@', case)]) {
+        let body = [&[first], *behind].concat();
+        assert_eq!(refusal(&[b"A>B:", &body[..]].concat()), *expected);
+        let frame = [&header, &body[..]].concat();
+        let found = AprsPacket::decode_ax25(&frame).map_or_else(Refusal::number, |_| 0);
+        assert_eq!(found, *expected);
+    }
+}
+
+#[test]
+fn a_packet_with_a_time_out_of_range_is_not_written() {
+    let mut out = [0xaa; MOST_BYTES];
+    for wrong in [
+        Timestamp::DDHHMM(32, 0, 0),
+        Timestamp::DDHHMMLocal(1, 24, 0),
+        Timestamp::HHMMSS(0, 0, 60),
+    ] {
+        let mut packet = read(LINE);
+        if let AprsData::Position(position) = &mut packet.data {
+            position.timestamp = Some(wrong);
+        }
+        let refused = Err(Refusal::OutOfRange);
+        assert_eq!(packet.encode_textual_to_slice(&mut out), refused);
+        assert_eq!(packet.encode_ax25_to_slice(&mut out), refused);
+    }
+    assert!(out.iter().all(|byte| *byte == 0xaa));
+}
+
 /// A digit for the source, one for the destination, one for each hop: 1 where it is marked; `-` for no destination.
 fn marks(packet: &AprsPacket<'_>) -> String {
     let hops = packet.via.iter().filter_map(Via::callsign);
@@ -239,10 +329,11 @@ fn a_packet_may_be_changed_by_its_fields() {
     packet.from = Callsign::new("K1A").unwrap();
     packet.via[2] = Via::Callsign(packet.from, true);
     if let AprsData::Position(position) = &mut packet.data {
+        position.timestamp = Some(Timestamp::DDHHMM(1, 2, 3));
         position.messaging_supported = true;
         position.comment = b"";
     }
-    let expected = b"K1A>APRS,WIDE1-1,WIDE2-2,K1A*:=4903.50N/07201.75W-";
+    let expected = b"K1A>APRS,WIDE1-1,WIDE2-2,K1A*:@010203z4903.50N/07201.75W-";
     assert_eq!(written(&packet), Ok(expected.to_vec()));
 }
 
@@ -265,6 +356,7 @@ fn every_refusal_of_a_line() {
         b"A>S32U6T:`(_fn\"Oj",
     ];
     assert!(lines.iter().map(|line| refusal(line)).eq(1..=12));
+    assert_eq!(refusal(b"A>B:/000000z4903.50N/07201.75W>"), 17);
     assert_eq!(refusal(&long[..512]), 0);
 }
 
@@ -316,12 +408,12 @@ fn spoilt_lines_do_no_harm() {
         state = state.wrapping_mul(1_664_525).wrapping_add(1_013_904_223);
         (state >> 8) as usize % below
     };
-    let (mut accepted, mut refused) = (0, 0);
+    let (mut accepted, mut refused, mut mistimed) = (0, 0, 0);
     for _ in 0..20_000 {
-        let mut line = [LINE, MIC_E][random(2)].to_vec();
+        let mut line = [LINE, MIC_E, TIMED][random(3)].to_vec();
         for _ in 0..1 + random(3) {
             let at = random(line.len());
-            line[at] = [random(256) as u8, b":>,*-! 09"[random(9)]][random(2)];
+            line[at] = [random(256) as u8, b":>,*-!/h 09"[random(11)]][random(2)];
         }
         line.truncate(1 + random(2 * line.len()));
         let mut room = [0; MOST_BYTES];
@@ -334,10 +426,12 @@ fn spoilt_lines_do_no_harm() {
                 accepted += 1;
             }
             Err(refusal) => {
-                assert!((1..=12).contains(&refusal.number()));
+                assert!(matches!(refusal.number(), 1..=12 | 17));
+                mistimed += usize::from(refusal == Refusal::Time);
                 refused += 1;
             }
         }
     }
     assert!(accepted > 1_000 && refused > 1_000, "{accepted} {refused}");
+    assert!(mistimed > 100, "{mistimed}");
 }

@@ -16,6 +16,7 @@ use mic_e::Speed;
 use numbers::Count;
 use numbers::Number;
 use position::Place;
+use time::Time;
 use words::Bytes;
 
 struct CallWord {
@@ -43,6 +44,11 @@ struct LettersWord {
     south: bool,
     west: bool,
     held: bool,
+    good: bool,
+}
+
+struct TimeWord {
+    time: Time,
     good: bool,
 }
 
@@ -338,9 +344,14 @@ fn report_word(mic_e: bool, current: bool, s: &[u8]) -> ReportWord {
 
 // ---- words of the change requests, behind `COURSE`: in their order, each at most once, any left out
 
+// What stands behind the letters and the marks.
+fn past_zeros(s: &[u8]) -> &[u8] {
+    words::past(words::past(s, b" letters="), b" zeros=")
+}
+
 // Whether nothing else stands there.
 fn is_known(s: &[u8]) -> bool {
-    words::past(words::past(s, b" letters="), b" zeros=").len() == 0
+    words::past(past_zeros(s), b" time=").len() == 0
 }
 
 fn has_position(k: Kind) -> bool {
@@ -380,6 +391,57 @@ fn letters_word(positioned: bool, p: Place, s: &[u8]) -> LettersWord {
     letters_made(false, 2, 2)
 }
 
+fn no_time(good: bool) -> TimeWord {
+    let time = time::blank();
+    TimeWord { time, good }
+}
+
+// The letter of a form: 0 is `z`, 1 `/`, else `h`.
+fn form_letter(form: usize) -> u8 {
+    if form == 0 {
+        return b'z';
+    }
+    if form == 1 {
+        return b'/';
+    }
+    b'h'
+}
+
+// `TIME`: a dash for none, or three numbers of two digits each, of any value, and the form.
+fn time_made(s: &[u8]) -> TimeWord {
+    if check::same(s, b"-") {
+        return no_time(true);
+    }
+    let first = words::byte(lines::cut(s, 2));
+    let second = words::byte(lines::cut(lines::tail(s, 2), 2));
+    let third = words::byte(lines::cut(lines::tail(s, 4), 2));
+    let form = words::place(lines::tail(s, 6), b"z / h");
+    if 255 < first {
+        return no_time(false);
+    }
+    if 255 < second {
+        return no_time(false);
+    }
+    if 255 < third {
+        return no_time(false);
+    }
+    if 2 < form {
+        return no_time(false);
+    }
+    let letter = form_letter(form);
+    let time = time::time_of(first as u8, second as u8, third as u8, letter);
+    TimeWord { time, good: true }
+}
+
+// `time=TIME`; left out, there is none.
+fn time_word(s: &[u8]) -> TimeWord {
+    let more = past_zeros(s);
+    if words::has(more, b" time=") {
+        return time_made(words::value(more, b" time="));
+    }
+    no_time(true)
+}
+
 // ---- the body's parts together
 
 fn no_body() -> BodyWord {
@@ -412,12 +474,18 @@ fn body_of(kind: Kind, mic_e: bool, flag: bool, s: &[u8]) -> BodyWord {
     }
     place.south = letters.south;
     place.west = letters.west;
+    let timed = time_word(more);
+    if !timed.good {
+        return no_body();
+    }
+    let time = timed.time;
     let report = told.report;
     let comment = Comment { at: 0, len: 0 };
     let body = Body {
         place,
         report,
         comment,
+        time,
         messaging: !mic_e & flag,
         kind,
     };

@@ -4,15 +4,20 @@
 use mathlib.Core.Path.{_≡_, refl}
 use mathlib.Core.Bool.{Bool, true, false, not, cond, and-true, Bool·not-not}
 use mathlib.Core.List.{List}
-use Prim.Native.Nat.{ℕ, _+_, _%_, _≤_}
+use Prim.Native.Nat.{ℕ, _+_, _-_, _%_, _≤_}
 use native.Mathlib.Omega.{arith}
-use borrow.Author.Tests.{le-leb, ltb-true, eqb-true}
+use borrow.Author.Tests.{le-leb, ltb-true, ltb-false, eqb-true}
 use lib.Dec.{eqb, ltb}
 use lib.IntN.{natAbs}
-use lib.ListN.{length, drop, getD, length-drop}
+use lib.ListN.{length, take, drop, getD, length-drop}
 use Rattle.callsign.specs.declared.Callsign.{Callsign}
 use Rattle.callsign.specs.Range.{callPart, isBlankCall}
 use Rattle.numbers.specs.Sign.{isOn}
+use Rattle.time.specs.declared.Time.{Time}
+use Rattle.time.specs.declared.TimeRead.{TimeRead}
+use Rattle.time.specs.declared.TimeRead.the-variants as time
+use Rattle.time.specs.Time.{noTime, isNoTime, timeBytes, readTime, timeInRange}
+use Rattle.time.proofs.Theorems.{read-in-range, no-time-in-range}
 use Rattle.lonlat.specs.Angle.{mostLatitude, mostLongitude, widthOf}
 use Rattle.position.specs.Reach.{inReach}
 use Rattle.position.specs.Position.{fixedBytes, readPosition, placeInRange, lettersAgree, symbolsInRange, positionFits}
@@ -30,9 +35,9 @@ use Rattle.mic_e.specs.Information.{readInformation}
 use Rattle.mic_e.proofs.Theorems.{read-destination-found, read-information-found, information-long}
 use Rattle.body.specs.declared.Kind.the-variants.{Position, MicE}
 use Rattle.body.specs.declared.Opening.{Opening}
-use Rattle.body.specs.declared.Opening.the-variants.{Unported, Untimed, Mic, Other}
+use Rattle.body.specs.declared.Opening.the-variants.{Unported, Positioned, Mic, Other}
 use Rattle.body.specs.declared.BodyRead.{BodyRead}
-use Rattle.body.specs.Body.{noReport, noComment, blankBody, bodyAccepted, bodyRefused, openingOf, commentFrom, positionBody, reportBody, micEBody, bodyAfter, readBody}
+use Rattle.body.specs.Body.{noReport, noComment, blankBody, bodyAccepted, bodyRefused, openingOf, commentFrom, positionBody, positionFrom, behindTime, timedFrom, positionedFrom, reportBody, micEBody, bodyAfter, readBody}
 use Rattle.body.specs.Range.{isNoLetter, isNoPlace, isNoReport, isShort, motionInRange, unknownInRange, positionInRange, micEInRange, inRangeAs, bodyInRange, exceptedAs, isExcepted}
 
 no-report : isNoReport noReport ≡ true
@@ -53,7 +58,7 @@ pub record Found (size : ℕ) (r : BodyRead) : Type 0 where
 blank-found : (n size : ℕ) → Found size (record { refusal = n; body = blankBody })
 unfolding
     blankBody noComment noReport bodyInRange inRangeAs isExcepted exceptedAs unknownInRange isNoPlace isNoLetter isNoReport messageNumber
-    placeInRange inReach lettersAgree isOn widthOf
+    noTime isNoTime placeInRange inReach lettersAgree isOn widthOf
 blank-found n size =
     record {
       blank = λ z. refl;
@@ -70,24 +75,24 @@ module _ (s : List ℕ) (at : ℕ) (start : at ≤ length s) where
   unfolding commentFrom
   comment-within n h = omega (arith, length-drop at s)
 
-  -- ---- a position
+  -- ---- a position, with a time in range or none
 
-  module _ (messaging : Bool) where
-    position-found : Found (length s) (positionBody (readPosition (drop at s)) messaging (commentFrom s (at + fixedBytes)))
-    unfolding positionBody bodyInRange inRangeAs isExcepted exceptedAs positionInRange positionFits
+  module _ (messaging : Bool) (t : Time) (fits : timeInRange t ≡ true) where
+    position-found : Found (length s) (positionFrom s at messaging t)
+    unfolding positionFrom positionBody bodyInRange inRangeAs isExcepted exceptedAs positionInRange positionFits
     position-found = go (eqb (readPosition (drop at s) .refusal) 0) refl
       where
-        go : (t : Bool) → eqb (readPosition (drop at s) .refusal) 0 ≡ t
+        go : (b : Bool) → eqb (readPosition (drop at s) .refusal) 0 ≡ b
             → Found (length s)
-            (cond t
-            (bodyAccepted (record { kind = Position; place = readPosition (drop at s) .place; messaging = messaging; report = noReport; comment = commentFrom s (at + fixedBytes) }))
+            (cond b
+            (bodyAccepted (record { kind = Position; place = readPosition (drop at s) .place; time = t; messaging = messaging; report = noReport; comment = commentFrom s (at + fixedBytes) }))
             (bodyRefused (readPosition (drop at s) .refusal)))
         go true e =
             let z = eqb-true (readPosition (drop at s) .refusal) 0 e in
             let a = read-position-answered (drop at s) in
             record {
               blank = λ n. absurd (n refl);
-              range = λ to h. rw (no-report, a .near z, a .agree, Bool·not-not (symbolsInRange (readPosition (drop at s) .place)));
+              range = λ to h. rw (no-report, fits, a .near z, a .agree, Bool·not-not (symbolsInRange (readPosition (drop at s) .place)));
               near = a .near z;
               agree = a .agree;
               latitude-whole = a .latitude-whole;
@@ -96,11 +101,28 @@ module _ (s : List ℕ) (at : ℕ) (start : at ≤ length s) where
             }
         go false e = blank-found _ (length s)
 
+-- ---- a time before it
+
+module _ (s : List ℕ) (at : ℕ) (messaging : Bool) where
+  behind-found : (x : TimeRead) → readTime (take timeBytes (drop at s)) ≡ x → at + timeBytes ≤ length s → Found (length s) (behindTime x s (at + timeBytes) messaging)
+  unfolding behindTime
+  behind-found (time.Read t) e h = position-found s (at + timeBytes) h messaging t (read-in-range (take timeBytes (drop at s)) t e)
+  behind-found time.Refused e h = blank-found _ (length s)
+
+  timed-found : at ≤ length s → Found (length s) (timedFrom s at messaging)
+  unfolding timedFrom
+  timed-found start = go (ltb (length s - at) timeBytes) refl
+    where
+      go : (b : Bool) → ltb (length s - at) timeBytes ≡ b → Found (length s) (cond b (bodyRefused 10) (behindTime (readTime (take timeBytes (drop at s))) s (at + timeBytes) messaging))
+      go true e = blank-found _ (length s)
+      go false e = behind-found (readTime (take timeBytes (drop at s))) refl (omega (arith, ltb-false (length s - at) timeBytes e))
+
+module _ (s : List ℕ) (at : ℕ) (start : at ≤ length s) where
   -- ---- a Mic-E report
 
   module _ (current : Bool) (call : List ℕ) (d : Destination) (q : readDestination call ≡ destination.Read d) where
     report-found : (x : InformationRead) → readInformation (drop at s) (d .hundred) (d .west) ≡ x → Found (length s) (reportBody d x current (commentFrom s (at + 8)))
-    unfolding reportBody bodyInRange inRangeAs isExcepted exceptedAs micEInRange lettersAgree placeInRange inReach motionInRange isShort
+    unfolding reportBody bodyInRange inRangeAs isExcepted exceptedAs micEInRange noTime isNoTime lettersAgree placeInRange inReach motionInRange isShort
     report-found (information.Read i) e =
         let a = read-destination-found call d q in
         let b = read-information-found (drop at s) (d .hundred) (d .west) i e in
@@ -122,7 +144,7 @@ module _ (s : List ℕ) (at : ℕ) (start : at ≤ length s) where
           agree = rw (a .angle .side, b .side);
           latitude-whole = a .angle .whole;
           longitude-whole = λ k. absurd (k refl);
-          within = comment-within 8 (information-long (drop at s) (d .hundred) (d .west) i e);
+          within = comment-within s at start 8 (information-long (drop at s) (d .hundred) (d .west) i e);
         }
     report-found information.Refused e = blank-found _ (length s)
 
@@ -134,9 +156,10 @@ module _ (s : List ℕ) (at : ℕ) (start : at ≤ length s) where
   -- ---- any body
 
   after-found : (o : Opening) (to : Callsign) → Found (length s) (bodyAfter o to s at)
-  unfolding bodyAfter
+  unfolding bodyAfter positionedFrom
   after-found Unported to = blank-found _ (length s)
-  after-found (Untimed messaging) to = position-found messaging
+  after-found (Positioned messaging false) to = position-found s at start messaging noTime no-time-in-range
+  after-found (Positioned messaging true) to = timed-found s at messaging start
   after-found (Mic current) to = mic-e-found current (callPart to) (readDestination (callPart to)) refl
   after-found Other to = blank-found _ (length s)
 

@@ -13,6 +13,8 @@ use Rattle.callsign.specs.declared.Callsign.{Callsign}
 use Rattle.callsign.specs.Range.{isBlankCall}
 use Rattle.lonlat.specs.Angle.{mostLatitude, mostLongitude}
 use Rattle.lonlat.specs.Latitude.{latitudeRefusal}
+use Rattle.time.specs.Time.{noTime, isNoTime}
+use Rattle.time.proofs.Theorems.{no-time-is}
 use Rattle.position.specs.declared.Place.{Place}
 use Rattle.position.specs.Reach.{inReach}
 use Rattle.position.specs.Position.{placeInRange, lettersAgree}
@@ -67,6 +69,7 @@ information-judges place report e =
 pub record Reported (b : Body) (to : Callsign) : Type 0 where
   pub no-call : isBlankCall to ≡ true
   pub no-messaging : b .messaging ≡ false
+  pub no-time : b .time ≡ noTime
   pub agree : lettersAgree (b .place) ≡ true
   pub near : placeInRange (b .place) ≡ true
   pub short : natAbs (b .place .longitude .0) < mostLongitude
@@ -77,22 +80,25 @@ pub mic-e-held : (b : Body) (to : Callsign) → micEInRange b to ≡ true → Re
 unfolding micEInRange isShort motionInRange
 mic-e-held b to e =
     let a₂ = not (b .messaging) in
-    let a₃ = lettersAgree (b .place) in
-    let a₄ = placeInRange (b .place) in
-    let a₅ = ltb (natAbs (b .place .longitude .0)) mostLongitude in
-    let a₆ = leb (b .report .speed .0) mostSpeed in
-    let a₇ = leb (b .report .course .0) mostCourse in
-    let e₂ = and-second (isBlankCall to) (a₂ && (a₃ && (a₄ && (a₅ && (a₆ && a₇))))) e in
-    let e₃ = and-second a₂ (a₃ && (a₄ && (a₅ && (a₆ && a₇)))) e₂ in
-    let e₄ = and-second a₃ (a₄ && (a₅ && (a₆ && a₇))) e₃ in
-    let e₅ = and-second a₄ (a₅ && (a₆ && a₇)) e₄ in
-    let e₆ = and-second a₅ (a₆ && a₇) e₅ in
+    let a₃ = isNoTime (b .time) in
+    let a₄ = lettersAgree (b .place) in
+    let a₅ = placeInRange (b .place) in
+    let a₆ = ltb (natAbs (b .place .longitude .0)) mostLongitude in
+    let a₇ = leb (b .report .speed .0) mostSpeed in
+    let a₈ = leb (b .report .course .0) mostCourse in
+    let e₂ = and-second (isBlankCall to) (a₂ && (a₃ && (a₄ && (a₅ && (a₆ && (a₇ && a₈)))))) e in
+    let e₃ = and-second a₂ (a₃ && (a₄ && (a₅ && (a₆ && (a₇ && a₈))))) e₂ in
+    let e₄ = and-second a₃ (a₄ && (a₅ && (a₆ && (a₇ && a₈)))) e₃ in
+    let e₅ = and-second a₄ (a₅ && (a₆ && (a₇ && a₈))) e₄ in
+    let e₆ = and-second a₅ (a₆ && (a₇ && a₈)) e₅ in
+    let e₇ = and-second a₆ (a₇ && a₈) e₆ in
     record {
-      no-call = and-first (isBlankCall to) (a₂ && (a₃ && (a₄ && (a₅ && (a₆ && a₇))))) e;
-      no-messaging = not-true (b .messaging) (and-first a₂ (a₃ && (a₄ && (a₅ && (a₆ && a₇)))) e₂);
-      agree = and-first a₃ (a₄ && (a₅ && (a₆ && a₇))) e₃;
-      near = and-first a₄ (a₅ && (a₆ && a₇)) e₄;
-      short = ltb-true (natAbs (b .place .longitude .0)) mostLongitude (and-first a₅ (a₆ && a₇) e₅);
-      slow = leb-true (b .report .speed .0) mostSpeed (and-first a₆ a₇ e₆);
-      turned = leb-true (b .report .course .0) mostCourse (and-second a₆ a₇ e₆);
+      no-call = and-first (isBlankCall to) (a₂ && (a₃ && (a₄ && (a₅ && (a₆ && (a₇ && a₈)))))) e;
+      no-messaging = not-true (b .messaging) (and-first a₂ (a₃ && (a₄ && (a₅ && (a₆ && (a₇ && a₈))))) e₂);
+      no-time = no-time-is (b .time) (and-first a₃ (a₄ && (a₅ && (a₆ && (a₇ && a₈)))) e₃);
+      agree = and-first a₄ (a₅ && (a₆ && (a₇ && a₈))) e₄;
+      near = and-first a₅ (a₆ && (a₇ && a₈)) e₅;
+      short = ltb-true (natAbs (b .place .longitude .0)) mostLongitude (and-first a₆ (a₇ && a₈) e₆);
+      slow = leb-true (b .report .speed .0) mostSpeed (and-first a₇ a₈ e₇);
+      turned = leb-true (b .report .course .0) mostCourse (and-second a₇ a₈ e₇);
     }

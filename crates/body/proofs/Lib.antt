@@ -4,6 +4,8 @@ pub mod Judged
 pub mod Writing
 pub mod Built
 pub mod Found
+pub mod Times
 pub mod ReadsBack
+pub mod PositionBack
 pub mod Theorems
 pub mod Unique

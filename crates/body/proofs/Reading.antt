@@ -1,17 +1,24 @@
 -- Laws of a body that is read, one for each answer of the code, by the facts that its tests leave.
 -- Assumes nothing.
-use mathlib.Core.Path.{_≡_, sym, ap, _∙_}
-use mathlib.Core.Bool.{Bool, false}
+use mathlib.Core.Path.{_≡_, refl, sym, ap, _∙_}
+use mathlib.Core.Bool.{Bool, true, false, not, cond}
 use mathlib.Core.List.{List}
-use Prim.Native.Nat.{ℕ, _+_, _-_, _<_, _≤_}
+use Prim.Native.Nat.{ℕ, _+_, _-_, _^_, _<_, _≤_}
+use mir.Val.{Fits}
+use mir.Syntax.{w64}
 use native.Mathlib.Omega.{arith}
-use borrow.Author.Tests.{eq-eqb, ne-eqb, lt-ltb, le-ltb}
+use lib.Dec.{eqb, ltb}
+use borrow.Author.Tests.{eq-eqb, ne-eqb, lt-ltb, le-ltb, ltb-false, not-true, not-false}
 use borrow.Rule.Slice.PartAt.{part-to-end}
 use lib.ListN.{length, take, drop, getD, length-take, length-drop}
 use Rattle.callsign.specs.declared.Callsign.{Callsign}
 use Rattle.callsign.specs.Range.{callPart}
+use Rattle.time.specs.declared.Time.{Time}
+use Rattle.time.specs.declared.TimeRead.{TimeRead}
+use Rattle.time.specs.declared.TimeRead.the-variants as time
+use Rattle.time.specs.Time.{noTime, timeBytes, readTime, timeNumber}
 use Rattle.position.specs.declared.PositionRead.{PositionRead}
-use Rattle.position.specs.Position.{fixedBytes, readPosition}
+use Rattle.position.specs.Position.{readPosition}
 use Rattle.position.proofs.Lengths.{position-long}
 use Rattle.mic_e.specs.declared.Destination.{Destination}
 use Rattle.mic_e.specs.declared.DestinationRead.{DestinationRead}
@@ -26,30 +33,109 @@ use Rattle.body.specs.declared.Kind.the-variants.{Position, MicE}
 use Rattle.body.specs.declared.Report.{Report}
 use Rattle.body.specs.declared.Comment.{Comment}
 use Rattle.body.specs.declared.Opening.{Opening}
-use Rattle.body.specs.declared.Opening.the-variants.{Unported, Untimed, Mic, Other}
+use Rattle.body.specs.declared.Opening.the-variants.{Unported, Positioned, Mic, Other}
 use Rattle.body.specs.declared.Body.{Body}
 use Rattle.body.specs.declared.BodyRead.{BodyRead}
-use Rattle.body.specs.Body.{noReport, blankBody, bodyAccepted, bodyRefused, openingOf, commentFrom, positionBody, reportBody, micEBody, bodyAfter, readBody}
+use Rattle.body.specs.declared.TimeAt.{TimeAt}
+use Rattle.body.specs.Private.{timeFound, timeRefused, timeBehind, timeAt}
+use Rattle.body.specs.Body.{noReport, blankBody, bodyAccepted, bodyRefused, openingOf, commentFrom, positionBody, positionFrom, behindTime, timedFrom, positionedFrom, reportBody, micEBody, bodyAfter, readBody}
 
--- ---- a position
+-- ---- the time of a position, if it is to have one
 
-module _ (s : List ℕ) (at : ℕ) (p : PositionRead) (q : p ≡ readPosition (take (length s - at) (drop at s))) where
-  position-is : p ≡ readPosition (drop at s)
-  position-is = q ∙ ap readPosition (part-to-end s at)
+module _ (s : List ℕ) (at : ℕ) (timed : Bool) (r : TimeAt) where
+  pub time-unasked : (t : Time) → not timed ≡ true → t ≡ noTime → r ≡ timeFound t at → r ≡ timeAt s at timed
+  unfolding timeAt
+  time-unasked t e f w = w ∙ rw (not-true timed e, f)
 
-  pub position-fits : at ≤ length s → p .refusal ≡ 0 → at + 19 ≤ length s
-  position-fits h z = omega (arith, length-drop at s, position-long (drop at s) (ap (λ (x : PositionRead). x .refusal) (sym position-is) ∙ z))
+  module _ (e : not timed ≡ false) where
+    pub time-missing : length s - at < 7 → r ≡ timeRefused 10 → r ≡ timeAt s at timed
+    unfolding timeAt
+    time-missing h w = w ∙ rw (not-false timed e, lt-ltb (length s - at) 7 h)
 
-  module _ (messaging : Bool) (r : BodyRead) where
-    pub position-refused : (comment : Comment) → (p .refusal ≡ 0 → ⊥) → r ≡ bodyRefused (p .refusal) → r ≡ positionBody (readPosition (drop at s)) messaging comment
-    unfolding positionBody
-    position-refused comment z w = rw (← position-is, ne-eqb (p .refusal) 0 z) w
+    module _ (h : 7 ≤ length s - at) (x : TimeRead) (q : x ≡ readTime (take (at + 7 - at) (drop at s))) where
+      seven : x ≡ readTime (take timeBytes (drop at s))
+      seven = let e : at + 7 - at ≡ 7 = omega arith in q ∙ ap (λ (n : ℕ). readTime (take n (drop at s))) e
 
-    pub position-read : (m : Report) → p .refusal ≡ 0 → m ≡ noReport
-        → r ≡ bodyAccepted (record { kind = Position; place = p .place; messaging = messaging; report = m; comment = record { at = at + 19; len = length s - (at + 19) } })
-        → r ≡ positionBody (readPosition (drop at s)) messaging (commentFrom s (at + fixedBytes))
-    unfolding positionBody commentFrom
-    position-read m z e w = w ∙ rw (← position-is, eq-eqb (p .refusal) 0 z, e)
+      goes-on : timeAt s at timed ≡ timeBehind x (at + 7)
+      unfolding timeAt
+      goes-on = rw (not-false timed e, le-ltb (length s - at) 7 h, seven)
+
+      pub time-refused : x ≡ time.Refused → r ≡ timeRefused 17 → r ≡ timeAt s at timed
+      unfolding timeBehind timeNumber
+      time-refused z w = w ∙ sym (goes-on ∙ rw z)
+
+      pub time-read : (t : Time) → x ≡ time.Read t → r ≡ timeFound t (at + 7) → r ≡ timeAt s at timed
+      unfolding timeBehind
+      time-read t z w = w ∙ sym (goes-on ∙ rw z)
+
+-- ---- a position, behind what was found of its time
+
+unfoldable behindFound : TimeAt → List ℕ → Bool → BodyRead
+behindFound x s messaging = cond (eqb (x .refusal) 0) (positionFrom s (x .behind) messaging (x .time)) (bodyRefused (x .refusal))
+
+module _ (s : List ℕ) (at : ℕ) (messaging : Bool) where
+  read-is : (x : TimeRead) → behindTime x s (at + timeBytes) messaging ≡ behindFound (timeBehind x (at + timeBytes)) s messaging
+  unfolding behindTime timeBehind behindFound timeNumber
+  read-is (time.Read t) = refl
+  read-is time.Refused = refl
+
+  positioned-is : (timed : Bool) → positionedFrom s at messaging timed ≡ behindFound (timeAt s at timed) s messaging
+  unfolding positionedFrom timedFrom timeAt behindFound
+  positioned-is false = refl
+  positioned-is true = go (ltb (length s - at) timeBytes)
+    where
+      go : (b : Bool)
+          → cond b (bodyRefused 10) (behindTime (readTime (take timeBytes (drop at s))) s (at + timeBytes) messaging)
+          ≡ behindFound (cond b (timeRefused 10) (timeBehind (readTime (take timeBytes (drop at s))) (at + timeBytes))) s messaging
+      go true = refl
+      go false = read-is (readTime (take timeBytes (drop at s)))
+
+-- a time that was found leaves a place in the input
+behind-within : (s : List ℕ) (at : ℕ) (timed : Bool) → at ≤ length s → timeAt s at timed .refusal ≡ 0 → timeAt s at timed .behind ≤ length s
+unfolding timeAt timeBehind timeNumber
+behind-within s at false h z = h
+behind-within s at true h z = go (ltb (length s - at) timeBytes) refl (readTime (take timeBytes (drop at s))) z
+  where
+    go : (b : Bool) → ltb (length s - at) timeBytes ≡ b → (x : TimeRead) → cond b (timeRefused 10) (timeBehind x (at + timeBytes)) .refusal ≡ 0
+        → cond b (timeRefused 10) (timeBehind x (at + timeBytes)) .behind ≤ length s
+    go true e x z = omega arith
+    go false e (time.Read t) z = omega (arith, ltb-false (length s - at) timeBytes e)
+    go false e time.Refused z = omega arith
+
+-- x is what was found of the time
+module _ (s : List ℕ) (at : ℕ) (messaging timed : Bool) (x : TimeAt) (q : x ≡ timeAt s at timed) where
+  pub time-unfit : (r : BodyRead) → (x .refusal ≡ 0 → ⊥) → r ≡ bodyRefused (x .refusal) → r ≡ positionedFrom s at messaging timed
+  unfolding behindFound
+  time-unfit r z w = w ∙ sym (positioned-is s at messaging timed ∙ rw (← q, ne-eqb (x .refusal) 0 z))
+
+  module _ (y : x .refusal ≡ 0) where
+    pub start-within : at ≤ length s → x .behind ≤ length s
+    start-within h = rw q (behind-within s at timed h (ap (λ (v : TimeAt). v .refusal) (sym q) ∙ y))
+
+    behind-is : positionedFrom s at messaging timed ≡ positionFrom s (x .behind) messaging (x .time)
+    unfolding behindFound
+    behind-is = positioned-is s at messaging timed ∙ rw (← q, eq-eqb (x .refusal) 0 y)
+
+    -- p is the place that stands behind it
+    module _ (p : PositionRead) (o : p ≡ readPosition (take (length s - x .behind) (drop (x .behind) s))) where
+      position-is : p ≡ readPosition (drop (x .behind) s)
+      position-is = o ∙ ap readPosition (part-to-end s (x .behind))
+
+      pub position-fits : at ≤ length s → p .refusal ≡ 0 → x .behind + 19 ≤ length s
+      position-fits h z = omega (arith, start-within h, length-drop (x .behind) s, position-long (drop (x .behind) s) (ap (λ (v : PositionRead). v .refusal) (sym position-is) ∙ z))
+
+      pub end-fits : at ≤ length s → p .refusal ≡ 0 → length s < 2 ^ 64 → Fits w64 (x .behind + 19)
+      end-fits h z m = record { fits = omega (arith, position-fits h z) }
+
+      pub position-refused : (r : BodyRead) → (p .refusal ≡ 0 → ⊥) → r ≡ bodyRefused (p .refusal) → r ≡ positionedFrom s at messaging timed
+      unfolding positionFrom positionBody
+      position-refused r z w = w ∙ sym (behind-is ∙ rw (← position-is, ne-eqb (p .refusal) 0 z))
+
+      pub position-read : (r : BodyRead) (m : Report) → p .refusal ≡ 0 → m ≡ noReport
+          → r ≡ bodyAccepted (record { kind = Position; place = p .place; time = x .time; messaging = messaging; report = m; comment = record { at = x .behind + 19; len = length s - (x .behind + 19) } })
+          → r ≡ positionedFrom s at messaging timed
+      unfolding positionFrom positionBody commentFrom
+      position-read r m z e w = w ∙ sym (behind-is ∙ rw (← position-is, eq-eqb (p .refusal) 0 z, e))
 
 -- ---- a Mic-E report
 
@@ -65,17 +151,18 @@ module _ (d : Destination) (s : List ℕ) (at : ℕ) (x : InformationRead) (q : 
     unfolding reportBody informationNumber
     information-refused comment z w = rw (← information-is, z) w
 
-    pub information-read : (i : Information) → x ≡ information.Read i
+    pub information-read : (i : Information) (t : Time) → x ≡ information.Read i → t ≡ noTime
         → r ≡ bodyAccepted (record {
           kind = MicE;
           place = record { latitude = d .latitude; longitude = i .longitude; blanks = d .blanks; table = i .table; code = i .code; south = d .south; west = d .west };
+          time = t;
           messaging = false;
           report = record { message = d .message; speed = i .speed; course = i .course; current = current };
           comment = record { at = at + 8; len = length s - (at + 8) };
         })
         → r ≡ reportBody d (readInformation (drop at s) (d .hundred) (d .west)) current (commentFrom s (at + 8))
     unfolding reportBody commentFrom
-    information-read i z w = w ∙ rw (← information-is, z)
+    information-read i t z e w = w ∙ rw (← information-is, z, e)
 
 module _ (to : Callsign) (info : List ℕ) (current : Bool) (comment : Comment) (x : DestinationRead) (r : BodyRead) (q : x ≡ readDestination (callPart to)) where
   pub destination-refused : x ≡ destination.Refused → r ≡ bodyRefused 11 → r ≡ micEBody (readDestination (callPart to)) info current comment
@@ -107,11 +194,9 @@ module _ (to : Callsign) (s : List ℕ) (from : ℕ) (o : Opening) (r : BodyRead
   unfolding bodyAfter
   body-other b e f w = w ∙ ap bodyAccepted f ∙ sym (opens Other e)
 
-  pub body-position : (messaging : Bool) → o ≡ Untimed messaging
-      → r ≡ positionBody (readPosition (drop (from + 1) s)) messaging (commentFrom s (from + 1 + fixedBytes))
-      → r ≡ readBody to s from
+  pub body-position : (messaging timed : Bool) → o ≡ Positioned messaging timed → r ≡ positionedFrom s (from + 1) messaging timed → r ≡ readBody to s from
   unfolding bodyAfter
-  body-position messaging e w = w ∙ sym (opens (Untimed messaging) e)
+  body-position messaging timed e w = w ∙ sym (opens (Positioned messaging timed) e)
 
   pub body-mic-e : (current : Bool) → o ≡ Mic current
       → r ≡ micEBody (readDestination (callPart to)) (drop (from + 1) s) current (commentFrom s (from + 1 + 8))

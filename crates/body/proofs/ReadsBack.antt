@@ -16,6 +16,7 @@ use Rattle.callsign.specs.declared.Callsign.{Callsign}
 use Rattle.callsign.specs.Range.{callPart}
 use Rattle.callsign.proofs.Made.{made-call}
 use Rattle.lonlat.specs.Angle.{mostLatitude, widthOf}
+use Rattle.time.specs.Time.{noTime}
 use Rattle.position.specs.Position.{asWritten}
 use Rattle.position.proofs.Reach.{latitude-near, reach-near, reach-few}
 use Rattle.mic_e.specs.declared.DestinationRead.the-variants as destination
@@ -35,7 +36,7 @@ use Rattle.body.proofs.Judged.{Reported, mic-e-held}
 
 -- a body as it comes back: with the letters that are written, and its comment at that place and of that length
 abbrev pub comesBack : Body → ℕ → ℕ → Body
-comesBack b at size = record { kind = b .kind; place = asWritten (b .place); messaging = b .messaging; report = b .report; comment = record { at = at; len = size } }
+comesBack b at size = record { kind = b .kind; place = asWritten (b .place); time = b .time; messaging = b .messaging; report = b .report; comment = record { at = at; len = size } }
 
 opens-again : (current : Bool) → openingOf (cond current backquote apostrophe) ≡ Mic current
 unfolding openingOf
@@ -89,7 +90,7 @@ module _ (b : Body) (to : Callsign) (h : Reported b to) (width : natAbs (b .plac
       rw (at, len)
 
   pub report-back : readBody (micECall (b .place) (b .report)) input (length before)
-      ≡ bodyAccepted (record { kind = MicE; place = asWritten (b .place); messaging = false; report = b .report; comment = record { at = length before + 9; len = length comment } })
+      ≡ bodyAccepted (record { kind = MicE; place = asWritten (b .place); time = noTime; messaging = false; report = b .report; comment = record { at = length before + 9; len = length comment } })
   unfolding readBody bodyAfter micEBody reportBody destinationFor informationOf asWritten
   report-back =
       rw (
@@ -123,7 +124,7 @@ module _ (b : Body) (to : Callsign) (k : b .kind ≡ MicE) (e : bodyInRange b to
 
   pub body-back : natAbs (b .place .latitude .0) % widthOf (b .place .blanks) ≡ 0 → (before comment : List ℕ)
       → readBody (writtenTo b to) (before ++ (bodyBytes b ++ comment)) (length before) ≡ bodyAccepted (comesBack b (length before + 9) (length comment))
-  body-back width before comment = rw (its-call, its-bytes) (report-back b to held width before comment ∙ rw (k, held .no-messaging))
+  body-back width before comment = rw (its-call, its-bytes) (report-back b to held width before comment ∙ rw (k, held .no-messaging, held .no-time))
 
   pub comment-back : (before comment : List ℕ) → drop (length before + 9) (before ++ (bodyBytes b ++ comment)) ≡ comment
   comment-back before comment =

@@ -1,26 +1,36 @@
 -- Laws of a body that is written, one for each answer of the code, by the facts that its tests leave.
 -- Assumes nothing.
-use mathlib.Core.Path.{_≡_, refl, sym, ap, _∙_}
+use mathlib.Core.Path.{_≡_, refl, sym, ap, ap₂, _∙_}
+use mathlib.Core.Logic.{⊎-elim}
 use mathlib.Core.Bool.{Bool, true, false, not, cond, _&&_}
-use mathlib.Core.List.{List, [], _∷_, _++_, append-nil}
-use Prim.Native.Nat.{ℕ, _≤_}
+use mathlib.Core.List.{List, [], _∷_, _++_, append-nil, append-assoc}
+use Prim.Native.Nat.{ℕ, _+_, _-_, _≤_}
+use native.Mathlib.Nat.{add-comm}
+use native.Mathlib.Numerals.{add-one}
 use native.Mathlib.Omega.{arith}
+use borrow.Rule.Slice.PartMut.{putMid}
+use mir.Val.{Fits}
+use mir.Syntax.{w64}
 use borrow.Author.Tests.{not-true, not-false, eq-eqb, ne-eqb}
 use lib.Dec.{eqb}
 use lib.IntN.{ℤ}
-use lib.ListN.{length, take, drop, replicate}
-use lib.Seq.{take-length}
-use Rattle.laws.specs.Bytes.{bang, equals, backquote, apostrophe}
+use lib.ListN.{length, take, drop, replicate, length-append, length-replicate, drop-of-length-le}
+use lib.Seq.{take-length, take-at, take-all, drop-at}
+use Rattle.laws.specs.Bytes.{bang, equals, slash, at-sign, backquote, apostrophe}
 use Rattle.laws.specs.Lists.{padTo}
 use Rattle.laws.proofs.Picks.{and-failed, and-held, flag-set, flag-unset}
-use Rattle.laws.proofs.Tests.{and-second}
+use Rattle.laws.proofs.Lists.{drop-replicate}
+use Rattle.laws.proofs.Tests.{and-first, and-second, or-either}
 use Rattle.buffer.specs.declared.Answer.{Answer}
 use Rattle.buffer.specs.Wrote.{ends, wrote}
-use Rattle.buffer.proofs.Answers.{refusal-is, bytes-are, filled}
+use Rattle.buffer.proofs.Answers.{refusal-is, bytes-are, reported-is}
 use Rattle.callsign.specs.declared.Callsign.{Callsign}
 use Rattle.callsign.specs.Text.{made}
 use Rattle.callsign.specs.Range.{isBlankCall}
 use Rattle.callsign.specs.Address.{ssidOf, ssidText}
+use Rattle.time.specs.declared.Time.{Time}
+use Rattle.time.specs.Time.{isNoTime, isTime, isPresent, timeText, timeInRange, timeRefusal}
+use Rattle.time.proofs.Theorems.{no-time-no-bytes, a-time-seven-bytes}
 use Rattle.position.specs.declared.Place.{Place}
 use Rattle.position.specs.Position.{placeInRange, lettersAgree, positionFits, positionText, positionRefusal}
 use Rattle.position.proofs.Lengths.{position-length}
@@ -36,7 +46,7 @@ use Rattle.body.specs.declared.Report.{Report}
 use Rattle.body.specs.declared.Body.{Body}
 use Rattle.body.specs.declared.BodyWritten.{BodyWritten}
 use Rattle.body.specs.Range.{isNoReport, isShort, motionInRange, unknownInRange, positionInRange, micEInRange, inRangeAs, bodyInRange}
-use Rattle.body.specs.Written.{micECall, toAs, writtenTo, informationOf, positionBytes, micEBytes, bytesAs, bodyBytes, kindRefusal, unwritten, writtenAs, writeBody}
+use Rattle.body.specs.Written.{micECall, toAs, writtenTo, informationOf, positionType, positionBytes, micEBytes, bytesAs, bodyBytes, kindRefusal, mostFixed, unwritten, writtenAs, writeBody}
 use Rattle.body.proofs.Judged.{destination-judges, information-judges}
 
 -- ---- in range or not, from a chain of tests
@@ -57,7 +67,7 @@ test-held u t e p = sym (not-false u p) ∙ e
 pub ruleset judged = (out-of-range, in-range, test-failed, test-held, and-failed, and-held, flag-set, flag-unset)
 
 -- no bytes
-pub nothing-written : (to : Callsign) → record { refusal = 14; to = to; bytes = replicate 20 0; len = 0 } ≡ writtenAs 14 to []
+pub nothing-written : (to : Callsign) → record { refusal = 14; to = to; bytes = replicate mostFixed 0; len = 0 } ≡ writtenAs 14 to []
 unfolding writtenAs padTo
 nothing-written to = refl
 
@@ -77,47 +87,153 @@ module _ (t : Bool) (k : ℕ) where
       go true e = refl
       go false e = absurd (omega arith)
 
--- ---- a position: its writer's refusal is the judgement
+-- ---- a position: the refusals of its time's and its place's writer are the judgement
 
-full : (l : List ℕ) → length l ≡ 20 → padTo 20 0 l ≡ l
-unfolding padTo
-full l e = rw e (append-nil l)
+module _ (messaging : Bool) (t : Time) (r : ℕ) where
+  pub type-untimed : t .form ≡ 0 → r ≡ cond messaging equals bang → r ≡ positionType messaging t
+  unfolding positionType isPresent
+  type-untimed h w = rw (eq-eqb (t .form) 0 h) w
 
-module _ (b : Body) (u : Bool) (e : u ≡ isNoReport (b .report)) (f : not u ≡ false) (p : Answer) (out last : List ℕ)
-    (w : ends p last ≡ wrote (positionRefusal (b .place)) (positionText (b .place)) out) (m : 19 ≡ length out) where
-  abbrev fine : Bool
-  fine = positionFits (b .place)
+  pub type-timed : (t .form ≡ 0 → ⊥) → r ≡ cond messaging at-sign slash → r ≡ positionType messaging t
+  unfolding positionType isPresent
+  type-timed h w = rw (ne-eqb (t .form) 0 h) w
 
-  says : p .refusal ≡ cond fine 0 15
-  unfolding positionRefusal
-  says = refusal-is p last (positionText (b .place)) out (positionRefusal (b .place)) w (λ z. omega (arith, position-length (b .place) z))
-
-  judged-by : (t : Bool) → fine ≡ t → positionInRange b ≡ t
-  unfolding positionInRange
-  judged-by t h = rw (← e, not-false u f) h
-
-  pub position-out : (r x : BodyWritten) → (p .refusal ≡ 0 → ⊥) → r ≡ unwritten → r ≡ cond (positionInRange b) x unwritten
-  position-out r x z q = out-of-range (positionInRange b) r x unwritten (sym (judged-by false (refused-is fine (p .refusal) says z))) q
-
-  module _ (z : p .refusal ≡ 0) where
-    accepts : positionRefusal (b .place) ≡ 0
-    unfolding positionRefusal
-    accepts = sym says ∙ z
-
-    behind : last ++ [] ≡ positionText (b .place)
-    behind = append-nil last ∙ filled p last (positionText (b .place)) out (positionRefusal (b .place)) w accepts (position-length (b .place) accepts ∙ m)
-
-    pub position-written : (to : Callsign) (k : ℕ) → k ≡ cond (b .messaging) equals bang
-        → record { refusal = 0; to = to; bytes = k ∷ (last ++ []); len = 20 } ≡ cond (positionInRange b) (writtenAs 0 to (positionBytes (b .place) (b .messaging))) unwritten
-    unfolding writtenAs positionBytes
-    position-written to k q =
-        let twenty : length (k ∷ positionText (b .place)) ≡ 20 = omega (arith, position-length (b .place) accepts) in
-        rw (judged-by true (accepted-is fine (p .refusal) says z), ← q, behind, full (k ∷ positionText (b .place)) twenty, twenty)
-
--- ---- a Mic-E report: so are the refusals of its destination's and its information's writer
+-- no bytes, or seven
+time-short : (t : Time) → timeInRange t ≡ true → length (timeText t) ≤ 7
+unfolding timeInRange
+time-short t e =
+    ⊎-elim
+    (λ n. omega (arith, ap length (no-time-no-bytes t n)))
+    (λ i. omega (arith, a-time-seven-bytes t i))
+    (or-either (isNoTime t) (isTime t) e)
 
 abbrev behind-type : List ℕ
-behind-type = replicate 19 0
+behind-type = replicate 26 0
+
+-- the zeros that are left behind the type byte and a time
+abbrev zerosBehind : List ℕ → List ℕ
+zerosBehind x = replicate (26 - length x) 0
+
+-- a type byte k, and behind it x of n bytes, at most seven
+module _ (k : ℕ) (x left : List ℕ) (n : ℕ) (sized : n ≡ length x) (seven : n ≤ 7) (starts : left ≡ x ++ zerosBehind x) where
+  in-front : take (1 + n) (k ∷ (left ++ [])) ≡ k ∷ x
+  in-front = rw (add-comm 1 n, add-one, append-nil left, starts) (ap {B = List ℕ} (λ l. k ∷ l) (take-at x (zerosBehind x) n (sym sized)))
+
+  rest-whole : drop (1 + n) (k ∷ (left ++ [])) ≡ zerosBehind x
+  rest-whole = rw (add-comm 1 n, add-one, append-nil left, starts) (drop-at x (zerosBehind x) n (sym sized))
+
+  rest-lent : take (27 - (1 + n)) (drop (1 + n) (k ∷ (left ++ []))) ≡ zerosBehind x
+  rest-lent = rw rest-whole (take-all (27 - (1 + n)) (zerosBehind x) (omega (arith, length-replicate {A = ℕ} (26 - length x) 0)))
+
+  rest-gone : drop (27 - (1 + n)) (drop (1 + n) (k ∷ (left ++ []))) ≡ []
+  rest-gone = rw rest-whole (drop-of-length-le (zerosBehind x) {i = 27 - (1 + n)} (omega (arith, length-replicate {A = ℕ} (26 - length x) 0)))
+
+-- and 19 bytes y behind that
+module _ (k : ℕ) (x y left last : List ℕ) (n : ℕ) (sized : n ≡ length x) (seven : n ≤ 7) (nineteen : length y ≡ 19)
+    (starts : left ≡ x ++ zerosBehind x) (goes-on : last ≡ y ++ drop 19 (zerosBehind x)) where
+  all-together : putMid (1 + n) (27 - (1 + n)) (k ∷ (left ++ [])) last ≡ padTo mostFixed 0 (k ∷ (x ++ y))
+  unfolding padTo
+  all-together =
+      let m : 26 - length x - 19 ≡ 27 - length (k ∷ (x ++ y)) = omega (arith, length-append x y) in
+      rw (in-front k x left n sized seven starts, rest-gone k x left n sized seven starts, append-nil, goes-on, drop-replicate {A = ℕ} (26 - length x) 19 0, m)
+      (sym (append-assoc (k ∷ x) y (replicate (27 - length (k ∷ (x ++ y))) 0)))
+
+-- k is the type byte, and t what the time's writer answers
+module _ (b : Body) (u : Bool) (e : u ≡ isNoReport (b .report)) (f : not u ≡ false) (k : ℕ) (t : Answer) (left : List ℕ)
+    (w : ends t left ≡ wrote (timeRefusal (b .time)) (timeText (b .time)) behind-type) where
+  time-says : t .refusal ≡ cond (timeInRange (b .time)) 0 15
+  unfolding timeRefusal
+  time-says = refusal-is t left (timeText (b .time)) behind-type (timeRefusal (b .time)) w (λ z. omega (arith, time-short (b .time) (accepted-is (timeInRange (b .time)) 0 (sym z) refl)))
+
+  pub time-out : (r x : BodyWritten) → (t .refusal ≡ 0 → ⊥) → r ≡ unwritten → r ≡ cond (positionInRange b) x unwritten
+  unfolding positionInRange
+  time-out r x z q = rw (← e, not-false u f, refused-is (timeInRange (b .time)) (t .refusal) time-says z) q
+
+  module _ (z : t .refusal ≡ 0) where
+    timed : timeInRange (b .time) ≡ true
+    timed = accepted-is (timeInRange (b .time)) (t .refusal) time-says z
+
+    taken : timeRefusal (b .time) ≡ 0
+    unfolding timeRefusal
+    taken = rw timed
+
+    time-room : length (timeText (b .time)) ≤ length behind-type
+    time-room = omega (arith, time-short (b .time) timed)
+
+    reported : t .reported ≡ length (timeText (b .time))
+    reported = reported-is t left (timeText (b .time)) behind-type (timeRefusal (b .time)) w taken time-room
+
+    pub few : t .reported ≤ 7
+    few = omega (arith, reported, time-short (b .time) timed)
+
+    pub behind-fits : Fits w64 (1 + t .reported)
+    behind-fits = record { fits = omega (arith, few) }
+
+    pub behind-within : 1 + t .reported ≤ 27
+    behind-within = omega (arith, few)
+
+    time-left : left ≡ timeText (b .time) ++ replicate (26 - length (timeText (b .time))) 0
+    time-left = bytes-are t left (timeText (b .time)) behind-type (timeRefusal (b .time)) w taken time-room ∙ ap (λ (l : List ℕ). timeText (b .time) ++ l) (drop-replicate 26 (length (timeText (b .time))) 0)
+
+    pub left-long : 27 ≤ length (k ∷ (left ++ []))
+    left-long =
+        rw (append-nil left, time-left)
+        (omega (arith, length-append (timeText (b .time)) (zerosBehind (timeText (b .time))), length-replicate {A = ℕ} (26 - length (timeText (b .time))) 0, time-short (b .time) timed))
+
+    pub end-fits : Fits w64 (1 + t .reported + 19)
+    end-fits = record { fits = omega (arith, few) }
+
+    -- p is what the place's writer answers, behind the time
+    module _ (p : Answer) (last : List ℕ)
+        (v : ends p last ≡ wrote (positionRefusal (b .place)) (positionText (b .place)) (take (27 - (1 + t .reported)) (drop (1 + t .reported) (k ∷ (left ++ []))))) where
+      abbrev fine : Bool
+      fine = positionFits (b .place)
+
+      lent : take (27 - (1 + t .reported)) (drop (1 + t .reported) (k ∷ (left ++ []))) ≡ zerosBehind (timeText (b .time))
+      lent = rest-lent k (timeText (b .time)) left (t .reported) reported few time-left
+
+      lent-long : length (take (27 - (1 + t .reported)) (drop (1 + t .reported) (k ∷ (left ++ [])))) ≡ 26 - length (timeText (b .time))
+      lent-long = ap length lent ∙ length-replicate {A = ℕ} (26 - length (timeText (b .time))) 0
+
+      position-room : positionRefusal (b .place) ≡ 0 → length (positionText (b .place)) ≤ length (take (27 - (1 + t .reported)) (drop (1 + t .reported) (k ∷ (left ++ []))))
+      position-room z = omega (arith, lent-long, position-length (b .place) z, time-short (b .time) timed)
+
+      position-says : p .refusal ≡ cond fine 0 15
+      unfolding positionRefusal
+      position-says = refusal-is p last (positionText (b .place)) _ (positionRefusal (b .place)) v position-room
+
+      judged-by : (x : Bool) → fine ≡ x → positionInRange b ≡ x
+      unfolding positionInRange
+      judged-by x h = rw (← e, not-false u f, timed) h
+
+      pub position-out : (r x : BodyWritten) → (p .refusal ≡ 0 → ⊥) → r ≡ unwritten → r ≡ cond (positionInRange b) x unwritten
+      position-out r x z q = out-of-range (positionInRange b) r x unwritten (sym (judged-by false (refused-is fine (p .refusal) position-says z))) q
+
+      module _ (y : p .refusal ≡ 0) where
+        accepts : positionRefusal (b .place) ≡ 0
+        unfolding positionRefusal
+        accepts = sym position-says ∙ y
+
+        position-last : last ≡ positionText (b .place) ++ drop 19 (zerosBehind (timeText (b .time)))
+        position-last =
+            bytes-are p last (positionText (b .place)) _ (positionRefusal (b .place)) v accepts (position-room accepts)
+            ∙ ap₂ (λ (n : ℕ) (l : List ℕ). positionText (b .place) ++ drop n l) (position-length (b .place) accepts) lent
+
+        pub position-written : (to : Callsign) → k ≡ positionType (b .messaging) (b .time)
+            → record { refusal = 0; to = to; bytes = putMid (1 + t .reported) (27 - (1 + t .reported)) (k ∷ (left ++ [])) last; len = 1 + t .reported + 19 }
+            ≡ cond (positionInRange b) (writtenAs 0 to (positionBytes (b .place) (b .messaging) (b .time))) unwritten
+        unfolding writtenAs positionBytes
+        position-written to q =
+            let long : length (k ∷ (timeText (b .time) ++ positionText (b .place))) ≡ 1 + t .reported + 19 =
+            omega (arith, reported, length-append (timeText (b .time)) (positionText (b .place)), position-length (b .place) accepts) in
+            rw (
+              judged-by true (accepted-is fine (p .refusal) position-says y),
+              ← q,
+              long,
+              all-together k (timeText (b .time)) (positionText (b .place)) left last (t .reported) reported few (position-length (b .place) accepts) time-left position-last,
+            )
+
+-- ---- a Mic-E report: so are the refusals of its destination's and its information's writer
 
 module _ (place : Place) (report : Report) (w : Answer) (last : List ℕ)
     (e : ends w last ≡ wrote (informationRefusal (informationOf place report)) (informationBytes (informationOf place report)) behind-type) where
@@ -149,7 +265,7 @@ module _ (place : Place) (report : Report) (w : Answer) (last : List ℕ)
     unfolding informationRefusal
     takes = rw inside
 
-    after : last ++ [] ≡ info ++ replicate 11 0
+    after : last ++ [] ≡ info ++ replicate 18 0
     after =
         append-nil last ∙ bytes-are w last info behind-type (informationRefusal (informationOf place report)) e takes room
         ∙ ap (λ (n : ℕ). info ++ drop n behind-type) (information-length (informationOf place report))
@@ -185,11 +301,11 @@ module _ (latitude : ℤ) (blanks : ℕ) (message : Message) (longitude : ℤ) (
   destination-is z = rw (q, sym destination-says ∙ eq-eqb (d .refusal) 0 z)
 
 module _ (b : Body) (to : Callsign) (u : Bool) (e : u ≡ isBlankCall to) (f : not u ≡ false) (g : b .messaging ≡ false)
-    (v : Bool) (i : v ≡ lettersAgree (b .place)) (j : not v ≡ false) (d : DestinationWritten)
+    (x : Bool) (k : x ≡ isNoTime (b .time)) (l : not x ≡ false) (v : Bool) (i : v ≡ lettersAgree (b .place)) (j : not v ≡ false) (d : DestinationWritten)
     (q : d ≡ writeDestination (b .place .latitude .0) (b .place .blanks) (b .report .message) (b .place .longitude .0)) where
   left : micEInRange b to ≡ ((placeInRange (b .place) && isShort (b .place)) && motionInRange (b .report))
   unfolding micEInRange
-  left = rw (← e, not-false u f, g, ← i, not-false v j) (apart (placeInRange (b .place)) (isShort (b .place)) (motionInRange (b .report)))
+  left = rw (← e, not-false u f, g, ← k, not-false x l, ← i, not-false v j) (apart (placeInRange (b .place)) (isShort (b .place)) (motionInRange (b .report)))
     where
       apart : (x y z : Bool) → (x && (y && z)) ≡ ((x && y) && z)
       apart true y z = refl
@@ -223,7 +339,7 @@ module _ (b : Body) (to : Callsign) where
     unfolding inRangeAs toAs bytesAs kindRefusal
     write-unknown k w = w ∙ sym (written-by Unknown k)
 
-    pub write-position : b .kind ≡ Position → r ≡ cond (positionInRange b) (writtenAs 0 to (positionBytes (b .place) (b .messaging))) unwritten → r ≡ writeBody b to
+    pub write-position : b .kind ≡ Position → r ≡ cond (positionInRange b) (writtenAs 0 to (positionBytes (b .place) (b .messaging) (b .time))) unwritten → r ≡ writeBody b to
     unfolding inRangeAs toAs bytesAs kindRefusal
     write-position k w = w ∙ sym (written-by Position k)
 
@@ -231,16 +347,20 @@ module _ (b : Body) (to : Callsign) where
     unfolding inRangeAs toAs bytesAs kindRefusal
     write-mic-e k w = w ∙ sym (written-by MicE k)
 
--- at most 20 bytes: a position's
+-- at most 27 bytes: those of a position with a time
 position-accepts : (b : Body) → positionInRange b ≡ true → positionRefusal (b .place) ≡ 0
 unfolding positionInRange positionRefusal
-position-accepts b e = rw (and-second (isNoReport (b .report)) (positionFits (b .place)) e)
+position-accepts b e = rw (and-second (timeInRange (b .time)) (positionFits (b .place)) (and-second (isNoReport (b .report)) (timeInRange (b .time) && positionFits (b .place)) e))
 
-pub fixed-short : (b : Body) (to : Callsign) → bodyInRange b to ≡ true → length (bodyBytes b) ≤ 20
+position-timed : (b : Body) → positionInRange b ≡ true → timeInRange (b .time) ≡ true
+unfolding positionInRange
+position-timed b e = and-first (timeInRange (b .time)) (positionFits (b .place)) (and-second (isNoReport (b .report)) (timeInRange (b .time) && positionFits (b .place)) e)
+
+pub fixed-short : (b : Body) (to : Callsign) → bodyInRange b to ≡ true → length (bodyBytes b) ≤ 27
 unfolding bodyInRange bodyBytes inRangeAs bytesAs positionBytes micEBytes
 fixed-short b to = go (b .kind)
   where
-    go : (k : Kind) → inRangeAs k b to ≡ true → length (bytesAs k b) ≤ 20
+    go : (k : Kind) → inRangeAs k b to ≡ true → length (bytesAs k b) ≤ 27
     go Unknown e = omega arith
-    go Position e = omega (arith, position-length (b .place) (position-accepts b e))
+    go Position e = omega (arith, length-append (timeText (b .time)) (positionText (b .place)), position-length (b .place) (position-accepts b e), time-short (b .time) (position-timed b e))
     go MicE e = omega (arith, information-length (informationOf (b .place) (b .report)))

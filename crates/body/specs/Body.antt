@@ -1,14 +1,18 @@
--- The body of a packet, by its first byte (document 01, 'Modules in port order', 5, and 'Numbers a refusal carries').
+-- The body of a packet, by its first byte (document 01, 'Modules in port order', 5, and 'Numbers a refusal carries'; document 02, R-3).
 -- It stands in the input from a place on, since its comment is a place in the whole input.
 -- Assumes nothing.
 use Prim.Native.Nat.{ℕ, _+_, _-_}
 use mathlib.Core.Bool.{Bool, true, false, cond, _||_}
 use mathlib.Core.List.{List}
 use lib.Dec.{eqb, ltb}
-use lib.ListN.{length, drop, getD}
+use lib.ListN.{length, take, drop, getD}
 use Rattle.laws.specs.Bytes.{colon, greater, slash, at-sign, bang, equals, backquote, apostrophe}
 use Rattle.callsign.specs.declared.Callsign.{Callsign}
 use Rattle.callsign.specs.Range.{callPart}
+use Rattle.time.specs.declared.Time.{Time}
+use Rattle.time.specs.declared.TimeRead.{TimeRead}
+use Rattle.time.specs.declared.TimeRead.the-variants as time
+use Rattle.time.specs.Time.{noTime, timeBytes, readTime, timeNumber}
 use Rattle.position.specs.declared.PositionRead.{PositionRead}
 use Rattle.position.specs.Position.{noPlace, fixedBytes, readPosition}
 use Rattle.mic_e.specs.declared.Destination.{Destination}
@@ -21,7 +25,7 @@ use Rattle.mic_e.specs.Destination.{readDestination, destinationNumber}
 use Rattle.mic_e.specs.Information.{readInformation, informationNumber}
 use Rattle.body.specs.declared.Kind.the-variants.{Unknown, Position, MicE}
 use Rattle.body.specs.declared.Opening.{Opening}
-use Rattle.body.specs.declared.Opening.the-variants.{Unported, Untimed, Mic, Other}
+use Rattle.body.specs.declared.Opening.the-variants.{Unported, Positioned, Mic, Other}
 use Rattle.body.specs.declared.Report.{Report}
 use Rattle.body.specs.declared.Comment.{Comment}
 use Rattle.body.specs.declared.Body.{Body}
@@ -39,7 +43,7 @@ noComment = record { at = 0; len = 0 }
 
 -- of Unknown kind nothing but the header is kept
 unfoldable pub blankBody : Body
-blankBody = record { kind = Unknown; place = noPlace; messaging = false; report = noReport; comment = noComment }
+blankBody = record { kind = Unknown; place = noPlace; time = noTime; messaging = false; report = noReport; comment = noComment }
 
 -- ---- what reading gives
 
@@ -61,16 +65,18 @@ fileSeparator = 0x1c
 abbrev pub groupSeparator : ℕ
 groupSeparator = 0x1d
 
--- "7: body starts `:` `>` `/` `@`"; "bodies starting `!` or `=`"; "Body 1c or backquote is current Mic-E, 1d or
--- apostrophe old"
+-- "7: body starts `:` `>` `/` `@`", of which R-3 takes the last two: "Bodies `/` and `@` carry seven bytes after the type byte";
+-- "bodies starting `!` or `=`"; "Body 1c or backquote is current Mic-E, 1d or apostrophe old"
 unfoldable pub openingOf : ℕ → Opening
 openingOf b =
-    cond (eqb b colon || (eqb b greater || (eqb b slash || eqb b at-sign))) Unported
-    (cond (eqb b bang) (Untimed false)
-    (cond (eqb b equals) (Untimed true)
+    cond (eqb b colon || eqb b greater) Unported
+    (cond (eqb b bang) (Positioned false false)
+    (cond (eqb b equals) (Positioned true false)
+    (cond (eqb b slash) (Positioned false true)
+    (cond (eqb b at-sign) (Positioned true true)
     (cond (eqb b fileSeparator || eqb b backquote) (Mic true)
     (cond (eqb b groupSeparator || eqb b apostrophe) (Mic false)
-    Other))))
+    Other))))))
 
 -- ---- what follows it
 
@@ -78,12 +84,32 @@ openingOf b =
 unfoldable pub commentFrom : List ℕ → ℕ → Comment
 commentFrom s at = record { at = at; len = length s - at }
 
--- a position that was read, and the comment behind it; "Parts a kind lacks are 0"
-unfoldable pub positionBody : PositionRead → Bool → Comment → BodyRead
-positionBody p messaging comment =
+-- a position that was read, with its time or none, and the comment behind it; "Parts a kind lacks are 0"
+unfoldable pub positionBody : PositionRead → Bool → Time → Comment → BodyRead
+positionBody p messaging time comment =
     cond (eqb (p .refusal) 0)
-    (bodyAccepted (record { kind = Position; place = p .place; messaging = messaging; report = noReport; comment = comment }))
+    (bodyAccepted (record { kind = Position; place = p .place; time = time; messaging = messaging; report = noReport; comment = comment }))
     (bodyRefused (p .refusal))
+
+-- a position from a place on, its 19 bytes and its comment
+unfoldable pub positionFrom : List ℕ → ℕ → Bool → Time → BodyRead
+positionFrom s at messaging time = positionBody (readPosition (drop at s)) messaging time (commentFrom s (at + fixedBytes))
+
+-- "17 for a bad time ..; 7, 10, 8, 9 follow": of a time that was read, the position from the place behind it on
+unfoldable pub behindTime : TimeRead → List ℕ → ℕ → Bool → BodyRead
+behindTime (time.Read t) s at messaging = positionFrom s at messaging t
+behindTime time.Refused s at messaging = bodyRefused (timeNumber time.Refused)
+
+-- a time from a place on, and the position behind it; "10 when the seven bytes are missing stands before" 17
+unfoldable pub timedFrom : List ℕ → ℕ → Bool → BodyRead
+timedFrom s at messaging =
+    cond (ltb (length s - at) timeBytes)
+    (bodyRefused 10)
+    (behindTime (readTime (take timeBytes (drop at s))) s (at + timeBytes) messaging)
+
+-- with a time, or without one
+unfoldable pub positionedFrom : List ℕ → ℕ → Bool → Bool → BodyRead
+positionedFrom s at messaging timed = cond timed (timedFrom s at messaging) (positionFrom s at messaging noTime)
 
 -- a Mic-E report, of a destination and of information that was read; its letters are those that the destination says
 unfoldable pub reportBody : Destination → InformationRead → Bool → Comment → BodyRead
@@ -91,6 +117,7 @@ reportBody d (information.Read i) current comment =
     bodyAccepted (record {
       kind = MicE;
       place = record { latitude = d .latitude; longitude = i .longitude; blanks = d .blanks; table = i .table; code = i .code; south = d .south; west = d .west };
+      time = noTime;
       messaging = false;
       report = record { message = d .message; speed = i .speed; course = i .course; current = current };
       comment = comment;
@@ -102,11 +129,11 @@ unfoldable pub micEBody : DestinationRead → List ℕ → Bool → Comment → 
 micEBody (destination.Read d) info current comment = reportBody d (readInformation info (d .hundred) (d .west)) current comment
 micEBody destination.Refused info current comment = bodyRefused (destinationNumber destination.Refused)
 
--- what the first byte makes of the input from the place behind it on: a position and its 19 bytes, a report and its 8; of a
+-- what the first byte makes of the input from the place behind it on: a position, timed or not, or a report and its 8 bytes; of a
 -- Mic-E destination "6 call characters, SSID ignored"
 unfoldable pub bodyAfter : Opening → Callsign → List ℕ → ℕ → BodyRead
 bodyAfter Unported to s at = bodyRefused 7
-bodyAfter (Untimed messaging) to s at = positionBody (readPosition (drop at s)) messaging (commentFrom s (at + fixedBytes))
+bodyAfter (Positioned messaging timed) to s at = positionedFrom s at messaging timed
 bodyAfter (Mic current) to s at = micEBody (readDestination (callPart to)) (drop at s) current (commentFrom s (at + 8))
 bodyAfter Other to s at = bodyAccepted blankBody
 

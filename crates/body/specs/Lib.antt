@@ -1,3 +1,4 @@
 pub mod Body
 pub mod Range
 pub mod Written
+pub mod Private

@@ -1,6 +1,7 @@
 -- Which bodies are in range, beside a destination. Document 01: "15 is given for: an angle, speed or course out of range;
 -- precision outside 0 to 5; .. parts its kind lacks not zero; a Mic-E angle of 180 degrees ..; a position symbol byte of 128
--- or more"; and document 02, R-1: "15 also for a record's letter that contradicts a nonzero angle". A comment's place and length are not judged.
+-- or more"; and document 02, R-1: "15 also for a record's letter that contradicts a nonzero angle", and R-3: 15 for a bad time in a
+-- record. A comment's place and length are not judged.
 -- Assumes nothing.
 use mathlib.Core.Bool.{Bool, false, not, _&&_}
 use lib.Dec.{eqb, leb, ltb}
@@ -8,6 +9,7 @@ use lib.IntN.{natAbs}
 use Rattle.lonlat.specs.Angle.{mostLongitude}
 use Rattle.callsign.specs.declared.Callsign.{Callsign}
 use Rattle.callsign.specs.Range.{isBlankCall}
+use Rattle.time.specs.Time.{isNoTime, timeInRange}
 use Rattle.position.specs.declared.Place.{Place}
 use Rattle.position.specs.Position.{placeInRange, lettersAgree, symbolsInRange, positionFits}
 use Rattle.mic_e.specs.Message.{messageNumber}
@@ -53,23 +55,24 @@ motionInRange m = leb (m .speed .0) mostSpeed && leb (m .course .0) mostCourse
 
 -- ---- by the kind
 
--- no place, no messaging, no report
+-- no place, no messaging, no report, no time
 unfoldable pub unknownInRange : Body → Bool
-unknownInRange b = isNoPlace (b .place) && (not (b .messaging) && isNoReport (b .report))
+unknownInRange b = isNoPlace (b .place) && (not (b .messaging) && (isNoReport (b .report) && isNoTime (b .time)))
 
--- no report; what a position may be
+-- no report; no time or one in range; what a position may be
 unfoldable pub positionInRange : Body → Bool
-positionInRange b = isNoReport (b .report) && positionFits (b .place)
+positionInRange b = isNoReport (b .report) && (timeInRange (b .time) && positionFits (b .place))
 
--- no destination, no messaging; letters, angles and precision, 180 degrees, speed and course
+-- no destination, no messaging, no time; letters, angles and precision, 180 degrees, speed and course
 unfoldable pub micEInRange : Body → Callsign → Bool
 micEInRange b to =
     isBlankCall to
     && (not (b .messaging)
+    && (isNoTime (b .time)
     && (lettersAgree (b .place)
     && (placeInRange (b .place)
     && (isShort (b .place)
-    && motionInRange (b .report)))))
+    && motionInRange (b .report))))))
 
 -- a body as one of that kind
 unfoldable pub inRangeAs : Kind → Body → Callsign → Bool

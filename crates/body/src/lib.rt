@@ -6,12 +6,12 @@ ghost use mathlib.Core.List.{[]};
 ghost use Prim.Native.Nat.{_+_, _≤_};
 ghost use lib.ListN.{length, drop};
 ghost use Rattle.callsign.specs.Range.{callPart};
-ghost use Rattle.position.specs.Position.{fixedBytes, readPosition};
 ghost use Rattle.mic_e.specs.Destination.{readDestination, destinationBytes};
 ghost use Rattle.mic_e.specs.Information.{readInformation, informationOut};
-ghost use Rattle.body.specs.Body.{noReport, blankBody, bodyAccepted, bodyRefused, openingOf, commentFrom, positionBody, reportBody, micEBody, readBody};
+ghost use Rattle.body.specs.Body.{noReport, blankBody, bodyAccepted, bodyRefused, openingOf, commentFrom, positionedFrom, reportBody, micEBody, readBody};
+ghost use Rattle.body.specs.Private.{timeFound, timeRefused, timeAt};
 ghost use Rattle.body.specs.Range.{isNoLetter, isNoPlace, isNoReport, unknownInRange, positionInRange, micEInRange};
-ghost use Rattle.body.specs.Written.{micECall, informationOf, positionBytes, micEBytes, unwritten, writtenAs, writeBody};
+ghost use Rattle.body.specs.Written.{micECall, informationOf, positionType, positionBytes, micEBytes, unwritten, writtenAs, writeBody};
 use callsign::Callsign;
 use mic_e::Course;
 use mic_e::Destination;
@@ -21,6 +21,8 @@ use mic_e::InformationRead;
 use mic_e::Message;
 use mic_e::Speed;
 use position::Place;
+use time::Time;
+use time::TimeRead;
 
 // What a body is.
 pub enum Kind {
@@ -44,11 +46,12 @@ pub struct Comment {
     pub len: usize,
 }
 
-// A body by its parts. A part that the kind lacks is zero.
+// A body by its parts. A part that the kind lacks is zero; a position may have a time.
 pub struct Body {
     pub place: Place,
     pub report: Report,
     pub comment: Comment,
+    pub time: Time,
     pub messaging: bool,
     pub kind: Kind,
 }
@@ -63,18 +66,25 @@ pub struct BodyRead {
 // bytes are zero. At 14 there are no bytes and the destination is kept, at 15 there is neither.
 pub struct BodyWritten {
     pub to: Callsign,
-    pub bytes: [u8; 20],
+    pub bytes: [u8; 27],
     pub len: usize,
     pub refusal: u8,
 }
 
-// What a body's first byte says: a type that is not read, a position (messaging or not), a Mic-E report (current or
-// old), or none of these.
+// What a body's first byte says: a type that is not read, a position (messaging or not) without a time or with one, a Mic-E
+// report (current or old), or none of these.
 enum Opening {
     Unported,
-    Untimed(bool),
+    Positioned { messaging: bool, timed: bool },
     Mic(bool),
     Other,
+}
+
+// The time of a position, or none, and the place behind it; or the refusal's number.
+struct TimeAt {
+    behind: usize,
+    time: Time,
+    refusal: u8,
 }
 
 // ---- nothing
@@ -97,10 +107,12 @@ pub fn blank() -> Body
     let place = position::blank();
     let report = no_report();
     let comment = Comment { at: 0, len: 0 };
+    let time = time::blank();
     Body {
         place,
         report,
         comment,
+        time,
         messaging: false,
         kind: Kind::Unknown,
     }
@@ -125,35 +137,96 @@ fn opening_of(b: u8) -> Opening
     ensures { λ r. ⌜ r ≡ openingOf b ⌝ }
 {
     match b {
-        b':' | b'>' | b'/' | b'@' => Opening::Unported,
-        b'!' => Opening::Untimed(false),
-        b'=' => Opening::Untimed(true),
+        b':' | b'>' => Opening::Unported,
+        b'!' => Opening::Positioned {
+            messaging: false,
+            timed: false,
+        },
+        b'=' => Opening::Positioned {
+            messaging: true,
+            timed: false,
+        },
+        b'/' => Opening::Positioned {
+            messaging: false,
+            timed: true,
+        },
+        b'@' => Opening::Positioned {
+            messaging: true,
+            timed: true,
+        },
         0x1c | b'`' => Opening::Mic(true),
         0x1d | b'\'' => Opening::Mic(false),
         _ => Opening::Other,
     }
 }
 
-// A position whose bytes behind the type byte start at the place `at`.
-fn read_position(s: &[u8], at: usize, messaging: bool) -> BodyRead
-    requires { ⌜ at ≤ length (now s) ⌝ }
-    ensures { λ r. ⌜ r ≡ positionBody (readPosition (drop at (now (s .entry)))) messaging (commentFrom (now (s .entry)) (at + fixedBytes)) ⌝ }
+fn time_found(time: Time, behind: usize) -> TimeAt
+    ensures { λ r. ⌜ r ≡ timeFound time behind ⌝ }
 {
-    let p = position::read_position(&s[at..]);
+    TimeAt {
+        behind,
+        time,
+        refusal: 0,
+    }
+}
+
+fn no_time(n: u8) -> TimeAt
+    ensures { λ r. ⌜ r ≡ timeRefused n ⌝ }
+{
+    let time = time::blank();
+    TimeAt {
+        behind: 0,
+        time,
+        refusal: n,
+    }
+}
+
+// The time that starts at the place `at`, if there is to be one, and the place behind it.
+fn time_at(s: &[u8], at: usize, timed: bool) -> TimeAt
+    requires { ⌜ at ≤ length (now s) ⌝ }
+    ensures { λ r. ⌜ r ≡ timeAt (now (s .entry)) at timed ⌝ }
+{
+    if !timed {
+        return time_found(time::blank(), at);
+    }
+    if s.len() - at < 7 {
+        return no_time(10);
+    }
+    let behind = at + 7;
+    let read = time::read_time(&s[at..behind]);
+    match read {
+        TimeRead::Refused => no_time(17),
+        TimeRead::Read(time) => time_found(time, behind),
+    }
+}
+
+// A position whose bytes behind the type byte start at the place `at`: its time, if it has one, and then its place.
+fn read_position(s: &[u8], at: usize, messaging: bool, timed: bool) -> BodyRead
+    requires { ⌜ at ≤ length (now s) ⌝ }
+    ensures { λ r. ⌜ r ≡ positionedFrom (now (s .entry)) at messaging timed ⌝ }
+{
+    let found = time_at(s, at, timed);
+    if found.refusal != 0 {
+        return refused(found.refusal);
+    }
+    let start = found.behind;
+    let p = position::read_position(&s[start..]);
     if p.refusal != 0 {
         return refused(p.refusal);
     }
     let place = p.place;
     let report = no_report();
-    let behind = at + 19;
+    let behind = start + 19;
     let comment = Comment {
         at: behind,
         len: s.len() - behind,
     };
+    let time = found.time;
     accepted(Body {
         place,
         report,
         comment,
+        time,
         messaging,
         kind: Kind::Position,
     })
@@ -205,10 +278,12 @@ fn read_report(d: Destination, s: &[u8], at: usize, current: bool) -> BodyRead
                 at: behind,
                 len: s.len() - behind,
             };
+            let time = time::blank();
             accepted(Body {
                 place,
                 report,
                 comment,
+                time,
                 messaging: false,
                 kind: Kind::MicE,
             })
@@ -239,7 +314,7 @@ pub fn read(to: Callsign, s: &[u8], from: usize) -> BodyRead
     let opening = opening_of(s[from]);
     match opening {
         Opening::Unported => refused(7),
-        Opening::Untimed(messaging) => read_position(s, from + 1, messaging),
+        Opening::Positioned { messaging, timed } => read_position(s, from + 1, messaging, timed),
         Opening::Mic(current) => read_mic_e(to, s, from + 1, current),
         Opening::Other => accepted(blank()),
     }
@@ -307,7 +382,7 @@ fn unwritten() -> BodyWritten
     let to = callsign::blank();
     BodyWritten {
         to,
-        bytes: [0; 20],
+        bytes: [0; 27],
         len: 0,
         refusal: 15,
     }
@@ -325,9 +400,12 @@ fn write_unknown(b: Body, to: Callsign) -> BodyWritten
     if !is_no_report(b.report) {
         return unwritten();
     }
+    if !time::is_blank(b.time) {
+        return unwritten();
+    }
     BodyWritten {
         to,
-        bytes: [0; 20],
+        bytes: [0; 27],
         len: 0,
         refusal: 14,
     }
@@ -343,21 +421,37 @@ fn type_byte(flag: bool, yes: u8, no: u8) -> u8
     no
 }
 
+// The type byte of a position that takes messages or not, with a time or without.
+fn position_type(messaging: bool, time: Time) -> u8
+    ensures { λ r. ⌜ r ≡ positionType messaging time ⌝ }
+{
+    if time.form == 0 {
+        return type_byte(messaging, b'=', b'!');
+    }
+    type_byte(messaging, b'@', b'/')
+}
+
 fn write_position(b: Body, to: Callsign) -> BodyWritten
-    ensures { λ r. ⌜ r ≡ cond (positionInRange b) (writtenAs 0 to (positionBytes (b .place) (b .messaging))) unwritten ⌝ }
+    ensures { λ r. ⌜ r ≡ cond (positionInRange b) (writtenAs 0 to (positionBytes (b .place) (b .messaging) (b .time))) unwritten ⌝ }
 {
     if !is_no_report(b.report) {
         return unwritten();
     }
-    let mut bytes = [type_byte(b.messaging, b'=', b'!'); 20];
-    let p = position::write_position(b.place, &mut bytes[1..]);
+    let mut bytes = [0u8; 27];
+    bytes[0] = position_type(b.messaging, b.time);
+    let t = time::write_time(b.time, &mut bytes[1..]);
+    if t.refusal != 0 {
+        return unwritten();
+    }
+    let behind = 1 + t.reported;
+    let p = position::write_position(b.place, &mut bytes[behind..]);
     if p.refusal != 0 {
         return unwritten();
     }
     BodyWritten {
         to,
         bytes,
-        len: 20,
+        len: behind + 19,
         refusal: 0,
     }
 }
@@ -377,7 +471,7 @@ fn write_report(place: Place, report: Report, call: [u8; 6]) -> BodyWritten
         code: place.code,
         table: place.table,
     };
-    let mut bytes = [0u8; 20];
+    let mut bytes = [0u8; 27];
     let w = mic_e::write_information(i, &mut bytes[1..]);
     if w.refusal != 0 {
         return unwritten();
@@ -399,6 +493,9 @@ fn write_mic_e(b: Body, to: Callsign) -> BodyWritten
         return unwritten();
     }
     if b.messaging {
+        return unwritten();
+    }
+    if !time::is_blank(b.time) {
         return unwritten();
     }
     let place = b.place;

@@ -30,6 +30,7 @@ bodyInC b =
       place = b .place;
       report = reportInC (b .report);
       comment = b .comment;
+      time = b .time;
       messaging = b .messaging;
       kind = kindNumber (b .kind);
     }
@@ -55,6 +56,7 @@ bodyMeant b =
       place = b .place;
       report = reportMeant (b .report);
       comment = b .comment;
+      time = b .time;
       messaging = b .messaging;
       kind = kindAt (b .kind);
     }

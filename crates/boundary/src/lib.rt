@@ -27,6 +27,7 @@ use packet::Record;
 use position::BoundsAnswer;
 use position::PageBox;
 use position::Place;
+use time::Time;
 
 // A report as C has it: its message is a number.
 #[repr(C)]
@@ -43,6 +44,7 @@ pub struct CBody {
     pub place: Place,
     pub report: CReport,
     pub comment: Comment,
+    pub time: Time,
     pub messaging: bool,
     pub kind: u8,
 }
@@ -108,12 +110,14 @@ fn body_in_c(b: Body) -> CBody
     let place = b.place;
     let report = report_in_c(b.report);
     let comment = b.comment;
+    let time = b.time;
     let k = b.kind;
     let kind = kind_number(k);
     CBody {
         place,
         report,
         comment,
+        time,
         messaging: b.messaging,
         kind,
     }
@@ -163,11 +167,13 @@ fn body_meant(b: CBody) -> Body
     let place = b.place;
     let report = report_meant(b.report);
     let comment = b.comment;
+    let time = b.time;
     let kind = kind_at(b.kind);
     Body {
         place,
         report,
         comment,
+        time,
         messaging: b.messaging,
         kind,
     }

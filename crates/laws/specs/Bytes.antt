@@ -102,6 +102,9 @@ backquote = 0x60
 abbrev pub smallA : ℕ
 smallA = 0x61
 
+abbrev pub smallH : ℕ
+smallH = 0x68
+
 abbrev pub smallQ : ℕ
 smallQ = 0x71
 

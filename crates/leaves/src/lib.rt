@@ -1,7 +1,9 @@
-// The leaves asked: angles, callsigns and lists of fields, each with its answer in words. Part of the programs inspect and bench.
+// The leaves asked: angles, callsigns, lists of fields and times, each with its answer in words. Part of the programs inspect and
+// bench.
 mod angles;
 mod callsigns;
 mod list;
+mod times;
 
 pub use angles::latitude;
 pub use angles::latitude_text;
@@ -16,3 +18,5 @@ pub use callsigns::to;
 pub use list::information;
 pub use list::longitudes;
 pub use list::motions;
+pub use times::time;
+pub use times::time_text;

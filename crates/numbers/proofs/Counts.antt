@@ -27,7 +27,7 @@ pub digit-below : (b : ℕ) → b < digit0 → isDigit b ≡ false
 unfolding within
 digit-below b h = rw (lt-leb digit0 b h)
 
-digit-above : (b : ℕ) → digit9 < b → isDigit b ≡ false
+pub digit-above : (b : ℕ) → digit9 < b → isDigit b ≡ false
 unfolding within
 digit-above b h = let l : digit0 ≤ b = omega arith in rw (le-leb digit0 b l, lt-leb b digit9 h)
 

@@ -46,7 +46,7 @@ head-short false h e = text-at-most-178 h (fine (headerInRange h) e)
 -- ---- what follows it
 
 abbrev pub scratch : List ℕ
-scratch = replicate 198 0
+scratch = replicate 205 0
 
 module _ (framed : Bool) (h : Header) (w : Answer) (head : List ℕ) (e : ends w head ≡ wrote (headRefusal framed h) (headBytes framed h) scratch) where
   room : headRefusal framed h ≡ 0 → length (headBytes framed h) ≤ length scratch
@@ -62,14 +62,14 @@ module _ (framed : Bool) (h : Header) (w : Answer) (head : List ℕ) (e : ends w
       passed-on a (w .refusal) (orElse (headRefusal framed h) (overBy mostBytes bytes)) bytes out f z
       (ap (λ (n : ℕ). orElse n (overBy mostBytes bytes)) (sym says) ∙ or-first (w .refusal) (overBy mostBytes bytes) z)
 
-  module _ (z : w .refusal ≡ 0) (body : List ℕ) (short : length body ≤ 20) (later : List ℕ) (m : ℕ) (p : filled later m ≡ added (filled head (w .reported)) body) where
+  module _ (z : w .refusal ≡ 0) (body : List ℕ) (short : length body ≤ 27) (later : List ℕ) (m : ℕ) (p : filled later m ≡ added (filled head (w .reported)) body) where
     none : headRefusal framed h ≡ 0
     none = sym says ∙ z
 
     reported : w .reported ≡ length (headBytes framed h)
     reported = reported-is w head (headBytes framed h) scratch (headRefusal framed h) e none (room none)
 
-    long : length head ≡ 198
+    long : length head ≡ 205
     long =
         ap length (bytes-are w head (headBytes framed h) scratch (headRefusal framed h) e none (room none))
         ∙ length-append (headBytes framed h) (drop (length (headBytes framed h)) scratch)
@@ -99,12 +99,12 @@ module _ (framed : Bool) (h : Header) (w : Answer) (head : List ℕ) (e : ends w
     unfolding wroteBehind
     behind-written comment out last a f = rw (or-none (headRefusal framed h) _ none, ← front) f
 
--- a body's bytes in use, of the 20
-module _ (bytes : List ℕ) (n : ℕ) (h : n ≤ 20) where
-  pub piece-within : length bytes ≡ 20 → n ≤ length bytes
+-- a body's bytes in use, of the 27
+module _ (bytes : List ℕ) (n : ℕ) (h : n ≤ 27) where
+  pub piece-within : length bytes ≡ 27 → n ≤ length bytes
   piece-within e = omega arith
 
-  pub piece-short : length (take n bytes) ≤ 20
+  pub piece-short : length (take n bytes) ≤ 27
   piece-short = omega (arith, length-take n bytes)
 
 -- ---- a body that is refused

@@ -20,10 +20,11 @@ use Rattle.lonlat.specs.Digits.{lastAs, degreesOf, minutesOf, hundredthsOf, val
 use Rattle.numbers.specs.Numbers.{numberAfter, numberOf, digitOf, digitsOf}
 use Rattle.lonlat.specs.Latitude.{blanksIn, restBlank, countedDigits, latitudeWith, latitudeIn, readLatitude, northOrSouth, blankedPlaces, latitudeText}
 use Rattle.lonlat.specs.Longitude.{longitudeWith, longitudeIn, readLongitude, eastOrWest, longitudeText}
+use Rattle.time.specs.Time.{noTime, isPresent, timeText}
 use Rattle.position.specs.Position.{isNumeric, isUncompressed, withLongitude, withLatitude, readPosition, positionText}
 use Rattle.body.specs.declared.Kind.the-variants.{Position}
-use Rattle.body.specs.Body.{noReport, openingOf, commentFrom, positionBody, bodyAfter, readBody}
-use Rattle.body.specs.Written.{toAs, writtenTo, positionBytes, bytesAs, bodyBytes}
+use Rattle.body.specs.Body.{noReport, openingOf, commentFrom, positionBody, positionFrom, positionedFrom, bodyAfter, readBody}
+use Rattle.body.specs.Written.{toAs, writtenTo, positionType, positionBytes, bytesAs, bodyBytes}
 use Rattle.packet.specs.declared.Record.{Record}
 use Rattle.packet.specs.Packet.{keptTo, recordOf, packetOf, packetAfter, readAnyText, readText}
 use Rattle.packet.specs.Written.{writtenHeader, bytesOf, textBytes}
@@ -42,6 +43,7 @@ P11-record =
       body = record {
         kind = Position;
         place = record { latitude = record { 0 = pos 0 }; longitude = record { 0 = pos 0 }; blanks = 0; table = slash; code = dash; south = false; west = false };
+        time = noTime;
         messaging = false;
         report = noReport;
         comment = record { at = 31; len = 0 };
@@ -50,7 +52,7 @@ P11-record =
 
 pub P11-read : readText P11-line ≡ record { refusal = 0; «record» = P11-record }
 unfolding
-    readText readAnyText packetAfter packetOf recordOf keptTo readBody openingOf bodyAfter positionBody commentFrom readHeaderText
+    readText readAnyText packetAfter packetOf recordOf keptTo readBody openingOf bodyAfter positionedFrom positionFrom positionBody commentFrom readHeaderText
     readBefore readRoute withHops starsOf pathOf headerOf unlessRefused headerAccepted firstOf othersOf fields onFirst textHops hopThen
     before readHop isQ hopOf readCall readUnstarred parted callAccepted indexOf utf8 characters after within isZero made
     joined padTo carried anyHeard readPosition isUncompressed isNumeric withLatitude withLongitude
@@ -60,7 +62,7 @@ P11-read = refl
 
 pub P11-written : textBytes P11-record [] ≡ P11-line
 unfolding
-    textBytes bytesOf bodyBytes bytesAs positionBytes writtenHeader writtenTo toAs positionText latitudeText longitudeText
+    textBytes bytesOf bodyBytes bytesAs positionType positionBytes noTime isPresent timeText writtenHeader writtenTo toAs positionText latitudeText longitudeText
     blankedPlaces northOrSouth eastOrWest isMinus textOf placesOf digitsOf digitOf lastAs headerText routeText hopsText
     hopsOf anyHeard callText callPart ssidPart withStar made joined padTo pathOf
 P11-written = refl

@@ -3,6 +3,7 @@ pub mod Order
 pub mod Behind
 pub mod Lines
 pub mod Given
+pub mod Times
 pub mod Marks
 pub mod Theorems
 pub mod Cases

@@ -14,7 +14,7 @@ use Rattle.header.specs.Frame.{headerFrame}
 use Rattle.header.specs.Range.{textRefusal as headerTextRefusal}
 use Rattle.body.specs.declared.BodyWritten.{BodyWritten}
 use Rattle.body.specs.Written.{bodyBytes, writeBody}
-use Rattle.body.proofs.Theorems.{fixed-at-most-20, fixed-bytes}
+use Rattle.body.proofs.Theorems.{fixed-at-most-27, fixed-bytes}
 use Rattle.packet.specs.declared.Record.{Record}
 use Rattle.packet.specs.Packet.{headerTo}
 use Rattle.header.specs.Header.{mostBytes}
@@ -27,8 +27,8 @@ abbrev written : Bool → Record → List ℕ → List ℕ → Wrote
 written framed r comment out =
     cond framed (wrote (frameRefusal r comment) (frameBytes r comment) out) (wrote (textRefusal r comment) (textBytes r comment) out)
 
-pub body-short : (r : Record) (b : BodyWritten) → b ≡ writeBody (r .body) (r .header .to) → b .len ≤ 20
-body-short r b q = rw q (fixed-at-most-20 (r .body) (r .header .to))
+pub body-short : (r : Record) (b : BodyWritten) → b ≡ writeBody (r .body) (r .header .to) → b .len ≤ 27
+body-short r b q = rw q (fixed-at-most-27 (r .body) (r .header .to))
 
 module _ (r : Record) (b : BodyWritten) (h : Header) (q : b ≡ writeBody (r .body) (r .header .to)) (f : h ≡ headerTo (r .header) (b .to)) where
   record-says : recordRefusal r ≡ orElse (headerTextRefusal h) (b .refusal)

@@ -1,4 +1,4 @@
--- The crate's theorems: what is read, the boxes of it, the marks of dropped zeros, and what of it is not written.
+-- The crate's theorems: what is read, the boxes of it, the marks of dropped zeros, its time, and what of it is not written.
 -- Assumes nothing.
 use mathlib.Core.Path.{_≡_, refl, ap, _∙_}
 use mathlib.Core.Bool.{Bool, true, false, not, cond}
@@ -22,6 +22,7 @@ use Rattle.header.specs.Header.{mostBytes}
 use Rattle.packet.specs.Written.{writtenHeader, textBytes, frameBytes, orElse, recordRefusal, textRefusal, frameRefusal}
 use Rattle.packet.proofs.Order.{or-or}
 use Rattle.packet.proofs.Given.{Given, after-blank, refused-first, any-text-given, text-given, frame-given}
+use Rattle.packet.proofs.Times.{TimeKept, any-text-time-kept, text-time-kept, frame-time-kept}
 use Rattle.packet.proofs.Marks.{unmarkedRecord, unmarked-text-bytes, unmarked-frame-bytes, unmarked-refusal-of-text, unmarked-refusal-of-frame, unmarked-blank-record, unmarked-frame-record, LineKept, any-text-line-kept, text-line-kept}
 
 -- ---- "A refused decode returns the blank record"
@@ -96,6 +97,18 @@ module _ (r r′ : Record) (e : unmarkedRecord r ≡ unmarkedRecord r′) (comme
 
   pub marks-move-no-frame : wrote (frameRefusal r comment) (frameBytes r comment) out ≡ wrote (frameRefusal r′ comment) (frameBytes r′ comment) out
   marks-move-no-frame = alike-without unmarkedRecord (λ x. wrote (frameRefusal x comment) (frameBytes x comment) out) (λ x. rw (unmarked-refusal-of-frame x comment, unmarked-frame-bytes x comment)) r r′ e
+
+-- ---- document 02, R-3: "two digits each, zeros kept"
+
+-- the seven bytes of a record's time stood behind the type byte of its body, as they are written
+pub any-text-time-is-kept : (s : List ℕ) → TimeKept s (readHeaderText s) (readAnyText s .«record»)
+any-text-time-is-kept = any-text-time-kept
+
+pub text-time-is-kept : (s : List ℕ) → TimeKept s (readTextHeader s) (readText s .«record»)
+text-time-is-kept = text-time-kept
+
+pub frame-time-is-kept : (s : List ℕ) → TimeKept s (readFrameHeader s) (readFrame s .«record»)
+frame-time-is-kept = frame-time-kept
 
 -- ---- which read records are not written: 15 for those two, 14 for Unknown, 1 over 512 bytes, and no other
 

@@ -155,7 +155,7 @@ fn refused_beside(h: Header, n: u8) -> buffer::Answer
     buffer::refused(n)
 }
 
-// Writes a header, at most 178 bytes, the body that was written, at most 20, and a comment.
+// Writes a header, at most 178 bytes, the body that was written, at most 27, and a comment.
 fn write_behind(
     h: Header,
     b: BodyWritten,
@@ -163,10 +163,10 @@ fn write_behind(
     comment: &[u8],
     out: &mut [u8],
 ) -> buffer::Answer
-    requires { ⌜ b .len ≤ 20 ⌝ }
+    requires { ⌜ b .len ≤ 27 ⌝ }
     ensures { λ a. ⌜ ends a (now (out .exit)) ≡ wroteBehind framed h (take (b .len) (b .bytes)) (now (comment .entry)) (now (out .entry)) ⌝ }
 {
-    let mut bytes = [0u8; 198];
+    let mut bytes = [0u8; 205];
     let w = write_header(h, framed, &mut bytes);
     if w.refusal != 0 {
         return buffer::refused(w.refusal);

@@ -20,6 +20,10 @@ use Rattle.lonlat.specs.Latitude.{latitudeNumber}
 use Rattle.lonlat.specs.Longitude.{longitudeNumber}
 use Rattle.mic_e.specs.declared.Message.{Message}
 use Rattle.mic_e.specs.declared.Destination.{Destination}
+use Rattle.time.specs.declared.Time.{Time}
+use Rattle.time.specs.declared.TimeRead.{TimeRead}
+use Rattle.time.specs.declared.TimeRead.the-variants as time
+use Rattle.time.specs.Time.{noTime, timeNumber}
 use Rattle.mic_e.specs.declared.DestinationRead.{DestinationRead}
 use Rattle.mic_e.specs.declared.DestinationRead.the-variants as destination
 use Rattle.mic_e.specs.declared.DestinationWritten.{DestinationWritten}
@@ -30,7 +34,7 @@ use Rattle.mic_e.specs.Message.{messageNumber, messageAt, mostMessage}
 use Rattle.mic_e.specs.Destination.{destinationNumber, writeDestination}
 use Rattle.mic_e.specs.Information.{informationNumber}
 use Rattle.parts.specs.declared.CLongitudeRead.{CLongitudeRead}
-use Rattle.parts.specs.Parts.{fieldAt, mostField, addressFor, latitudeInC, noLongitude, longitudeInC, destinationInC, destinationFor, informationInC}
+use Rattle.parts.specs.Parts.{fieldAt, mostField, addressFor, latitudeInC, noLongitude, longitudeInC, timeInC, destinationInC, destinationFor, informationInC}
 
 -- ---- callsigns and addresses
 
@@ -70,6 +74,17 @@ module _ (q a : LongitudeRead) (e : q ≡ a) where
   pub longitude-out : q ≡ longitude.OutOfRange → (r : CLongitudeRead) → r ≡ noLongitude 15 → r ≡ longitudeInC a
   unfolding longitudeInC longitudeNumber
   longitude-out f r g = rw (← e, f) g
+
+-- ---- times
+
+module _ (q a : TimeRead) (e : q ≡ a) where
+  pub time-read : (t : Time) → q ≡ time.Read t → record { time = t; refusal = 0 } ≡ timeInC a
+  unfolding timeInC timeNumber
+  time-read t f = rw (← e, f)
+
+  pub time-refused : (t : Time) → q ≡ time.Refused → t ≡ noTime → record { time = t; refusal = 17 } ≡ timeInC a
+  unfolding timeInC timeNumber
+  time-refused t f z = rw (← e, f, z)
 
 -- ---- Mic-E
 

@@ -18,6 +18,8 @@ use Rattle.callsign.specs.Range.{rangeRefusal, textOf, withStar}
 use Rattle.callsign.specs.Address.{readAddress}
 use Rattle.lonlat.specs.Latitude.{readLatitude, latitudeRefusal, latitudeText}
 use Rattle.lonlat.specs.Longitude.{readLongitude, longitudeRefusal, longitudeText}
+use Rattle.time.specs.declared.Time.{Time}
+use Rattle.time.specs.Time.{readTime, timeRefusal, timeText}
 use Rattle.position.specs.declared.Place.{Place}
 use Rattle.position.specs.declared.PositionRead.{PositionRead}
 use Rattle.position.specs.Position.{readPosition, positionRefusal, positionText}
@@ -27,9 +29,10 @@ use Rattle.mic_e.specs.Destination.{readDestination}
 use Rattle.mic_e.specs.Information.{readInformation, informationRefusal, informationBytes}
 use Rattle.parts.specs.declared.CLatitudeRead.{CLatitudeRead}
 use Rattle.parts.specs.declared.CLongitudeRead.{CLongitudeRead}
+use Rattle.parts.specs.declared.CTimeRead.{CTimeRead}
 use Rattle.parts.specs.declared.CDestinationRead.{CDestinationRead}
 use Rattle.parts.specs.declared.CInformationRead.{CInformationRead}
-use Rattle.parts.specs.Parts.{addressFor, latitudeInC, longitudeInC, destinationInC, destinationFor, informationInC}
+use Rattle.parts.specs.Parts.{addressFor, latitudeInC, longitudeInC, timeInC, destinationInC, destinationFor, informationInC}
 
 module _ (s : List ℕ) where
   pub unique-tusselgro-read-callsign : (r r′ : CallRead) → r ≡ readText s → r′ ≡ readText s → r ≡ r′
@@ -43,6 +46,9 @@ module _ (s : List ℕ) where
 
   pub unique-tusselgro-read-longitude : (blanks : ℕ) → (r r′ : CLongitudeRead) → r ≡ longitudeInC (readLongitude s blanks) → r′ ≡ longitudeInC (readLongitude s blanks) → r ≡ r′
   unique-tusselgro-read-longitude blanks r r′ = one-value r r′ (longitudeInC (readLongitude s blanks))
+
+  pub unique-tusselgro-read-time : (r r′ : CTimeRead) → r ≡ timeInC (readTime s) → r′ ≡ timeInC (readTime s) → r ≡ r′
+  unique-tusselgro-read-time r r′ = one-value r r′ (timeInC (readTime s))
 
   pub unique-tusselgro-read-position : (r r′ : PositionRead) → r ≡ readPosition s → r′ ≡ readPosition s → r ≡ r′
   unique-tusselgro-read-position r r′ = one-value r r′ (readPosition s)
@@ -62,6 +68,9 @@ module _ (out : List ℕ) (a a′ : Answer) (o o′ : List ℕ) where
 
   pub unique-tusselgro-write-longitude : (longitude : ℤ) → ends a o ≡ wrote (longitudeRefusal longitude) (longitudeText longitude) out → ends a′ o′ ≡ wrote (longitudeRefusal longitude) (longitudeText longitude) out → (a ≡ a′) × (o ≡ o′)
   unique-tusselgro-write-longitude longitude = one-end a a′ o o′ (wrote (longitudeRefusal longitude) (longitudeText longitude) out)
+
+  pub unique-tusselgro-write-time : (time : Time) → ends a o ≡ wrote (timeRefusal time) (timeText time) out → ends a′ o′ ≡ wrote (timeRefusal time) (timeText time) out → (a ≡ a′) × (o ≡ o′)
+  unique-tusselgro-write-time time = one-end a a′ o o′ (wrote (timeRefusal time) (timeText time) out)
 
   pub unique-tusselgro-write-position : (place : Place) → ends a o ≡ wrote (positionRefusal place) (positionText place) out → ends a′ o′ ≡ wrote (positionRefusal place) (positionText place) out → (a ≡ a′) × (o ≡ o′)
   unique-tusselgro-write-position place = one-end a a′ o o′ (wrote (positionRefusal place) (positionText place) out)

@@ -1,5 +1,5 @@
--- What the readers and writers of a packet's parts give, as C has it: of an enum the values of its case beside document 01's number
--- for it; "A refused decode returns" all else 0. A number that stands for no field or message is 15.
+-- What the readers and writers of a packet's parts give, as C has it: of an enum the values of its case beside its number in document 01
+-- or 02; "A refused decode returns" all else 0. A number that stands for no field or message is 15.
 -- Assumes nothing.
 use Prim.Native.Nat.{ℕ}
 use mathlib.Core.Bool.{Bool, false, cond}
@@ -17,6 +17,9 @@ use Rattle.lonlat.specs.declared.LongitudeRead.{LongitudeRead}
 use Rattle.lonlat.specs.declared.LongitudeRead.the-variants as longitude
 use Rattle.lonlat.specs.Latitude.{latitudeNumber}
 use Rattle.lonlat.specs.Longitude.{longitudeNumber}
+use Rattle.time.specs.declared.TimeRead.{TimeRead}
+use Rattle.time.specs.declared.TimeRead.the-variants as time
+use Rattle.time.specs.Time.{noTime, timeNumber}
 use Rattle.mic_e.specs.declared.DestinationRead.{DestinationRead}
 use Rattle.mic_e.specs.declared.DestinationRead.the-variants as destination
 use Rattle.mic_e.specs.declared.DestinationWritten.{DestinationWritten}
@@ -27,6 +30,7 @@ use Rattle.mic_e.specs.Destination.{destinationNumber, writeDestination}
 use Rattle.mic_e.specs.Information.{informationNumber}
 use Rattle.parts.specs.declared.CLatitudeRead.{CLatitudeRead}
 use Rattle.parts.specs.declared.CLongitudeRead.{CLongitudeRead}
+use Rattle.parts.specs.declared.CTimeRead.{CTimeRead}
 use Rattle.parts.specs.declared.CDestinationRead.{CDestinationRead}
 use Rattle.parts.specs.declared.CInformationRead.{CInformationRead}
 
@@ -63,6 +67,13 @@ longitudeInC (longitude.Read angle west sixty) =
     record { longitude = angle; west = west; sixty = sixty; refusal = longitudeNumber (longitude.Read angle west sixty) }
 longitudeInC longitude.Refused = noLongitude (longitudeNumber longitude.Refused)
 longitudeInC longitude.OutOfRange = noLongitude (longitudeNumber longitude.OutOfRange)
+
+-- ---- times
+
+-- the time that was read, or none
+unfoldable pub timeInC : TimeRead → CTimeRead
+timeInC (time.Read t) = record { time = t; refusal = timeNumber (time.Read t) }
+timeInC time.Refused = record { time = noTime; refusal = timeNumber time.Refused }
 
 -- ---- Mic-E
 

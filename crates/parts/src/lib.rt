@@ -1,4 +1,4 @@
-// The way in for C and Rust to the parts of a packet, for a plug-in that moves over one by one: callsigns, addresses, angles,
+// The way in for C and Rust to the parts of a packet, for a plug-in that moves over one by one: callsigns, addresses, angles, times,
 // positions and Mic-E fields read and written, as functions of the C ABI. It is a library of its own, since what two functions
 // share is compiled less well into each. No function asks more of its caller than its C type says.
 ghost use mathlib.Core.Path.{_≡_};
@@ -8,10 +8,11 @@ ghost use Rattle.callsign.specs.Range.{rangeRefusal, textOf, withStar};
 ghost use Rattle.callsign.specs.Address.{readAddress};
 ghost use Rattle.lonlat.specs.Latitude.{readLatitude, latitudeRefusal, latitudeText};
 ghost use Rattle.lonlat.specs.Longitude.{readLongitude, longitudeRefusal, longitudeText};
+ghost use Rattle.time.specs.Time.{readTime, timeRefusal, timeText};
 ghost use Rattle.position.specs.Position.{readPosition, positionRefusal, positionText};
 ghost use Rattle.mic_e.specs.Destination.{readDestination};
 ghost use Rattle.mic_e.specs.Information.{readInformation, informationRefusal, informationBytes};
-ghost use Rattle.parts.specs.Parts.{fieldAt, addressFor, latitudeInC, noLongitude, longitudeInC, destinationInC, destinationFor, informationInC};
+ghost use Rattle.parts.specs.Parts.{fieldAt, addressFor, latitudeInC, noLongitude, longitudeInC, timeInC, destinationInC, destinationFor, informationInC};
 use callsign::AddressRead;
 use callsign::AddressWritten;
 use callsign::CallRead;
@@ -29,6 +30,8 @@ use mic_e::InformationRead;
 use mic_e::Speed;
 use position::Place;
 use position::PositionRead;
+use time::Time;
+use time::TimeRead;
 
 // ---- callsigns and addresses
 
@@ -87,7 +90,7 @@ pub extern "C" fn tusselgro_write_address(call: Callsign, field: u8, last: bool)
     callsign::write_address(call, field_at(field), last)
 }
 
-// ---- angles and positions
+// ---- angles, times and positions
 
 // What reading a latitude gives: 0 and all that was seen, or the refusal's number and zeros.
 #[repr(C)]
@@ -188,7 +191,36 @@ pub extern "C" fn tusselgro_write_longitude(longitude: i32, out: &mut [u8]) -> b
     lonlat::write_longitude(Longitude(longitude), out)
 }
 
-// Reads a position from the byte behind its type byte on; refused with 7, 10, 8 or 9.
+// What reading a time gives: 0 and the time, or the refusal's number and zeros.
+#[repr(C)]
+pub struct CTimeRead {
+    pub time: Time,
+    pub refusal: u8,
+}
+
+// Reads the seven bytes of a time; refused with 17.
+#[no_mangle]
+pub extern "C" fn tusselgro_read_time(text: &[u8]) -> CTimeRead
+    ensures { λ r. ⌜ r ≡ timeInC (readTime (now (text .entry))) ⌝ }
+{
+    match time::read_time(text) {
+        TimeRead::Read(time) => CTimeRead { time, refusal: 0 },
+        TimeRead::Refused => {
+            let time = time::blank();
+            CTimeRead { time, refusal: 17 }
+        }
+    }
+}
+
+// Writes the seven bytes of a time, or none where there is no time; refused with 15 or 16.
+#[no_mangle]
+pub extern "C" fn tusselgro_write_time(time: Time, out: &mut [u8]) -> buffer::Answer
+    ensures { λ r. ⌜ ends r (now (out .exit)) ≡ wrote (timeRefusal time) (timeText time) (now (out .entry)) ⌝ }
+{
+    time::write_time(time, out)
+}
+
+// Reads a position from the byte behind its type byte, or behind its time, on; refused with 7, 10, 8 or 9.
 #[no_mangle]
 pub extern "C" fn tusselgro_read_position(text: &[u8]) -> PositionRead
     ensures { λ r. ⌜ r ≡ readPosition (now (text .entry)) ⌝ }

@@ -1,4 +1,4 @@
--- An untimed uncompressed position, after its type byte (document 01, module 3): "8 bytes of latitude, table byte, 9 of
+-- An uncompressed position, behind its type byte or its time (document 01, module 3): "8 bytes of latitude, table byte, 9 of
 -- longitude, code byte, comment." The comment is what follows those 19 bytes. Order of refusals: "Position: 7, 10, 8, 9."
 -- Assumes nothing.
 use Prim.Native.Nat.{ℕ}

@@ -1,5 +1,5 @@
-// An untimed uncompressed position after its type byte: read and written; and of its angles the bounds in degrees and
-// the box for the page.
+// An uncompressed position behind its type byte, or behind its time: read and written; and of its angles the bounds in degrees
+// and the box for the page.
 ghost use mathlib.Core.Path.{_≡_};
 ghost use Prim.Native.Nat.{_≤_};
 ghost use lib.IntN.{pos, natAbs};
@@ -149,7 +149,7 @@ fn with_longitude(
     }
 }
 
-// Reads what follows `!` or `=`: 8 bytes of latitude, the table byte, 9 of longitude, the code byte; the comment is the rest,
+// Reads what follows `!`, `=` or a time: 8 bytes of latitude, the table byte, 9 of longitude, the code byte; the comment is the rest,
 // from byte 19 on. Refuses 7, 10, 8, 9 in that order.
 pub fn read_position(s: &[u8]) -> PositionRead
     ensures { λ r. ⌜ r ≡ readPosition (now (s .entry)) ⌝ }

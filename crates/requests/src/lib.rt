@@ -17,10 +17,12 @@ use words::Bytes;
 //   callsign TEXT, address BYTES         read
 //   spelled CALL_LEN SSID_LEN BYTES      a callsign by its parts, written
 //   to, from, last-from, last-hop TEXT   the callsign's address as destination, source, last source, heard last hop
+//   time TEXT                            read
+//   time-text DAY HOUR MINUTE SECOND FORM   written; FORM is the byte behind the digits, %00 for no time
 fn question(word: &[u8]) -> usize {
     words::place(
         word,
-        b"T F M L B W text frame long row latitude longitude latitude-text longitude-text information motions longitudes callsign address spelled to from last-from last-hop",
+        b"T F M L B W text frame long row latitude longitude latitude-text longitude-text information motions longitudes callsign address spelled to from last-from last-hop time time-text",
     )
 }
 
@@ -64,7 +66,14 @@ fn of_callsigns(k: usize, s: &[u8], out: &mut [u8], at: usize) -> usize {
         20 => leaves::to(s, out, at),
         21 => leaves::from(s, false, out, at),
         22 => leaves::from(s, true, out, at),
-        23 => leaves::last_hop(s, out, at),
+        _ => leaves::last_hop(s, out, at),
+    }
+}
+
+fn of_times(k: usize, s: &[u8], out: &mut [u8], at: usize) -> usize {
+    match k {
+        24 => leaves::time(s, out, at),
+        25 => leaves::time_text(s, out, at),
         _ => at,
     }
 }
@@ -83,7 +92,10 @@ fn of_bench(k: usize, s: &[u8], out: &mut [u8], at: usize) -> usize {
     if k < 17 {
         return of_angles(k, s, out, at);
     }
-    of_callsigns(k, s, out, at)
+    if k < 24 {
+        return of_callsigns(k, s, out, at);
+    }
+    of_times(k, s, out, at)
 }
 
 // Puts the answer to a request behind the first `at` bytes of out, and answers the place after it; none, and so the place `at`

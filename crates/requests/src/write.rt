@@ -72,7 +72,8 @@ fn commented(framed: bool, room: usize, s: &[u8], out: &mut [u8], at: usize) -> 
     )
 }
 
-// `W WHERE ROOM COMMENT KIND FLAG FROM TO HOPS LAT LON BLANKS TABLE CODE MESSAGE SPEED COURSE`, and `[letters=XY] [zeros=BITS]`
+// `W WHERE ROOM COMMENT KIND FLAG FROM TO HOPS LAT LON BLANKS TABLE CODE MESSAGE SPEED COURSE`, and `[letters=XY] [zeros=BITS]
+// [time=TIME]`
 pub fn answer(s: &[u8], out: &mut [u8], at: usize) -> usize {
     let form = words::either(lines::first(s), b"text", b"frame");
     if 1 < form {

@@ -1,5 +1,5 @@
 // A record in words, and written again: `KIND from= to= hops= lat= lon= blanks= table= code= flag= message= speed= course= comment=
-// text= frame= letters= zeros=`. Part of the programs inspect and bench.
+// text= frame= letters= zeros= time=`. Part of the programs inspect and bench.
 use body::Body;
 use body::Comment;
 use body::Kind;
@@ -11,6 +11,7 @@ use header::Path;
 use mic_e::Message;
 use packet::Record;
 use position::Place;
+use time::Time;
 
 // The answer 0 and the kind.
 fn kind(k: Kind, out: &mut [u8], at: usize) -> usize {
@@ -191,6 +192,13 @@ fn zeros(h: Header, out: &mut [u8], at: usize) -> usize {
     hop_zeros(h.path, out, end)
 }
 
+// The time as a packet has it; a dash for none.
+fn time(t: Time, out: &mut [u8], at: usize) -> usize {
+    let mut text = [0u8; 7];
+    let w = time::write_time(t, &mut text);
+    words::labelled(b" time=", lines::cut(&text, w.reported), true, out, at)
+}
+
 // A record in words, from the answer 0 on. The words of a later request go behind them.
 pub fn record(r: Record, line: &[u8], plain: bool, out: &mut [u8], at: usize) -> usize {
     let h = r.header;
@@ -203,5 +211,6 @@ pub fn record(r: Record, line: &[u8], plain: bool, out: &mut [u8], at: usize) ->
     end = body(b, out, end);
     end = again(r, comment_in(c, line), plain, out, end);
     end = letters(k, p, out, end);
-    zeros(h, out, end)
+    end = zeros(h, out, end);
+    time(b.time, out, end)
 }

@@ -9,7 +9,7 @@
 enum { PAGE = 4096, GUARD = 0xaa };
 
 static unsigned facts, faults;
-static bool met[17];
+static bool met[REFUSALS];
 uint8_t written[1024];
 
 void holds(bool fact, const char *text, const char *file, int line) {
@@ -22,7 +22,7 @@ void holds(bool fact, const char *text, const char *file, int line) {
 
 void refused(int refusal, int expected, const char *file, int line) {
     facts++;
-    if (refusal >= 0 && refusal <= 16) met[refusal] = true;
+    if (refusal >= 0 && refusal < REFUSALS) met[refusal] = true;
     if (refusal != expected) {
         faults++;
         printf("%s:%d: refusal %d, expected %d\n", file, line, refusal, expected);
@@ -159,10 +159,14 @@ static bool same_report(const tusselgro_report *a, const tusselgro_report *b) {
     return a->speed == b->speed && a->course == b->course && a->message == b->message && a->current == b->current;
 }
 
+bool same_time(tusselgro_time a, tusselgro_time b) {
+    return a.day == b.day && a.hour == b.hour && a.minute == b.minute && a.second == b.second && a.form == b.form;
+}
+
 static bool same_body(const tusselgro_body *a, const tusselgro_body *b) {
     return same_place(&a->place, &b->place) && same_report(&a->report, &b->report) &&
-           a->comment.at == b->comment.at && a->comment.len == b->comment.len && a->messaging == b->messaging &&
-           a->kind == b->kind;
+           a->comment.at == b->comment.at && a->comment.len == b->comment.len && same_time(a->time, b->time) &&
+           a->messaging == b->messaging && a->kind == b->kind;
 }
 
 bool same_record(const tusselgro_record *a, const tusselgro_record *b) {
@@ -181,10 +185,11 @@ static void check_all(void) {
     check_reading();
     check_writing();
     check_parts();
+    check_times();
     check_listing();
     check_bounds();
     check_meanings();
-    for (int refusal = 0; refusal <= 16; refusal++) {
+    for (int refusal = 0; refusal < REFUSALS; refusal++) {
         if (!met[refusal]) printf("refusal %d was never met\n", refusal);
         HOLDS(met[refusal]);
     }

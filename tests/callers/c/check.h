@@ -8,6 +8,8 @@
 #define HOLDS(fact) holds((fact), #fact, __FILE__, __LINE__)
 void holds(bool fact, const char *text, const char *file, int line);
 
+enum { REFUSALS = TUSSELGRO_TIME + 1 };
+
 /* Counts a refusal as met, and whether it is the one expected. */
 #define REFUSED(answer, expected) refused((answer).refusal, (expected), __FILE__, __LINE__)
 void refused(int refusal, int expected, const char *file, int line);
@@ -43,14 +45,25 @@ bool wrote(tusselgro_answer answer, const uint8_t *bytes, size_t size);
 enum { MARKS = 2 + TUSSELGRO_MOST_HOPS };
 bool *mark_of(tusselgro_record *record, size_t place);
 
+/* What document 02 says of times: whether seven bytes are one, and whether the numbers of a record are one, or none. */
+bool is_time_text(const uint8_t *seven);
+bool is_time(tusselgro_time time);
+bool is_no_time(tusselgro_time time);
+
+/* The bytes of a record's time, whatever its numbers are, and how many: none where there is no time. */
+enum { TIME_TEXT = 16 };
+size_t time_text(tusselgro_time time, char text[TIME_TEXT]);
+
 bool same_answer(tusselgro_answer a, tusselgro_answer b);
 bool same_callsign(const tusselgro_callsign *a, const tusselgro_callsign *b);
+bool same_time(tusselgro_time a, tusselgro_time b);
 bool same_record(const tusselgro_record *a, const tusselgro_record *b);
 bool is_blank(const tusselgro_record *record);
 
 void check_reading(void);
 void check_writing(void);
 void check_parts(void);
+void check_times(void);
 void check_listing(void);
 void check_bounds(void);
 void check_meanings(void);

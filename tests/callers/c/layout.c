@@ -11,6 +11,7 @@ SIZE(header, 208);
 SIZE(place, 16);
 SIZE(report, 12);
 SIZE(comment, 16);
+SIZE(time, 5);
 SIZE(body, 56);
 SIZE(record, 264);
 SIZE(read, 272);
@@ -20,6 +21,7 @@ SIZE(address_read, 22);
 SIZE(address, 8);
 SIZE(latitude_read, 8);
 SIZE(longitude_read, 8);
+SIZE(time_read, 6);
 SIZE(position_read, 20);
 SIZE(destination_read, 12);
 SIZE(destination, 7);
@@ -59,11 +61,18 @@ STARTS(report, current, 9);
 STARTS(comment, at, 0);
 STARTS(comment, len, 8);
 
+STARTS(time, day, 0);
+STARTS(time, hour, 1);
+STARTS(time, minute, 2);
+STARTS(time, second, 3);
+STARTS(time, form, 4);
+
 STARTS(body, place, 0);
 STARTS(body, report, 16);
 STARTS(body, comment, 32);
-STARTS(body, messaging, 48);
-STARTS(body, kind, 49);
+STARTS(body, time, 48);
+STARTS(body, messaging, 53);
+STARTS(body, kind, 54);
 
 STARTS(record, header, 0);
 STARTS(record, body, 208);
@@ -97,6 +106,9 @@ STARTS(longitude_read, longitude, 0);
 STARTS(longitude_read, west, 4);
 STARTS(longitude_read, sixty, 5);
 STARTS(longitude_read, refusal, 6);
+
+STARTS(time_read, time, 0);
+STARTS(time_read, refusal, 5);
 
 STARTS(position_read, place, 0);
 STARTS(position_read, latitude_sixty, 16);

@@ -161,7 +161,7 @@ static void check_addresses_written(void) {
     IS(tusselgro_write_address((tusselgro_callsign){"A-1", 1, 254, false}, TUSSELGRO_HOP, true), zeros, 15);
 }
 
-/* ---- angles and positions */
+/* ---- angles, times and positions */
 
 static void latitude(const uint8_t *bytes, size_t size, unsigned setting, char *told) {
     tusselgro_latitude_read r = tusselgro_read_latitude(bytes, size);
@@ -251,6 +251,69 @@ static void check_angles_written(void) {
     answer = write_longitude(-1080000, 8);
     REFUSED(answer, 16);
     HOLDS(answer.needed == 9);
+}
+
+static void moment(const uint8_t *bytes, size_t size, unsigned setting, char *told) {
+    tusselgro_time_read r = tusselgro_read_time(bytes, size);
+    tusselgro_time t = r.time;
+    (void)setting;
+    sprintf(told, "%d %d %d %d %d %d", r.refusal, t.day, t.hour, t.minute, t.second, t.form);
+}
+
+static tusselgro_answer put_time(const void *what, uint8_t *out, size_t room) {
+    return tusselgro_write_time(*(const tusselgro_time *)what, out, room);
+}
+
+static tusselgro_answer write_time(tusselgro_time time, size_t room) { return fill_lent(put_time, &time, 1, room); }
+
+/* R-3, with the examples of APRS 1.0.1, chapter 6; 122 is the letter 'z', 47 '/', 104 'h'. */
+static void check_times_read(void) {
+    TELLS(moment, "092345z", 0, "0 9 23 45 0 122");
+    TELLS(moment, "092345/", 0, "0 9 23 45 0 47");
+    TELLS(moment, "234517h", 0, "0 0 23 45 17 104");
+    TELLS(moment, "010000z", 0, "0 1 0 0 0 122");
+    TELLS(moment, "312359/", 0, "0 31 23 59 0 47");
+    TELLS(moment, "000000h", 0, "0 0 0 0 0 104");
+    TELLS(moment, "235959h", 0, "0 0 23 59 59 104");
+    TELLS(moment, "000000z", 0, "17 0 0 0 0 0");
+    TELLS(moment, "320000z", 0, "17 0 0 0 0 0");
+    TELLS(moment, "012400/", 0, "17 0 0 0 0 0");
+    TELLS(moment, "010060/", 0, "17 0 0 0 0 0");
+    TELLS(moment, "240000h", 0, "17 0 0 0 0 0");
+    TELLS(moment, "006000h", 0, "17 0 0 0 0 0");
+    TELLS(moment, "000060h", 0, "17 0 0 0 0 0");
+    TELLS(moment, "010000Z", 0, "17 0 0 0 0 0");
+    TELLS(moment, "000000H", 0, "17 0 0 0 0 0");
+    TELLS(moment, "01 000z", 0, "17 0 0 0 0 0");
+    TELLS(moment, "+1+1+1z", 0, "17 0 0 0 0 0");
+    TELLS(moment, "092345", 0, "17 0 0 0 0 0");
+    TELLS(moment, "092345z4", 0, "17 0 0 0 0 0");
+    TELLS(moment, "", 0, "17 0 0 0 0 0");
+    REFUSED(tusselgro_read_time(NULL, 0), 17);
+}
+
+static void check_times_written(void) {
+    HOLDS(wrote(write_time((tusselgro_time){9, 23, 45, 0, TUSSELGRO_DHM_UTC}, 7), BYTES("092345z")));
+    HOLDS(wrote(write_time((tusselgro_time){9, 23, 45, 0, TUSSELGRO_DHM_LOCAL}, 100), BYTES("092345/")));
+    HOLDS(wrote(write_time((tusselgro_time){0, 23, 45, 17, TUSSELGRO_HMS_UTC}, 7), BYTES("234517h")));
+    HOLDS(wrote(write_time((tusselgro_time){0, 0, 0, 0, TUSSELGRO_HMS_UTC}, 7), BYTES("000000h")));
+    HOLDS(wrote(write_time((tusselgro_time){0, 0, 0, 0, TUSSELGRO_NO_TIME}, 0), BYTES("")));
+    HOLDS(wrote(write_time((tusselgro_time){0, 0, 0, 0, TUSSELGRO_NO_TIME}, 100), BYTES("")));
+    for (size_t room = 0; room < 7; room++) {
+        tusselgro_answer answer = write_time((tusselgro_time){31, 0, 0, 0, TUSSELGRO_DHM_UTC}, room);
+        REFUSED(answer, 16);
+        HOLDS(answer.needed == 7);
+    }
+    REFUSED(write_time((tusselgro_time){0, 23, 45, 0, TUSSELGRO_DHM_UTC}, 7), 15);
+    REFUSED(write_time((tusselgro_time){32, 23, 45, 0, TUSSELGRO_DHM_LOCAL}, 7), 15);
+    REFUSED(write_time((tusselgro_time){9, 24, 45, 0, TUSSELGRO_DHM_UTC}, 7), 15);
+    REFUSED(write_time((tusselgro_time){9, 23, 60, 0, TUSSELGRO_DHM_LOCAL}, 7), 15);
+    REFUSED(write_time((tusselgro_time){0, 23, 45, 60, TUSSELGRO_HMS_UTC}, 7), 15);
+    REFUSED(write_time((tusselgro_time){9, 23, 45, 17, TUSSELGRO_DHM_UTC}, 7), 15);
+    REFUSED(write_time((tusselgro_time){9, 23, 45, 17, TUSSELGRO_HMS_UTC}, 7), 15);
+    REFUSED(write_time((tusselgro_time){9, 23, 45, 0, 'Z'}, 7), 15);
+    REFUSED(write_time((tusselgro_time){9, 23, 45, 0, TUSSELGRO_NO_TIME}, 7), 15);
+    REFUSED(write_time((tusselgro_time){255, 255, 255, 255, 255}, 0), 15);
 }
 
 static void position(const uint8_t *bytes, size_t size, unsigned setting, char *told) {
@@ -410,6 +473,8 @@ void check_parts(void) {
     check_addresses_written();
     check_angles_read();
     check_angles_written();
+    check_times_read();
+    check_times_written();
     check_positions();
     check_letters();
     check_destinations();

@@ -33,6 +33,9 @@ static size_t any_bytes(uint8_t *bytes, size_t size) {
 
 enum { MOST = 640 };
 
+/* the bodies of the first of them go into frames too */
+enum { FRAMED = 11 };
+
 static const char *const lines[] = {
     "N0CALL-01>APRS,WIDE1-1,WIDE2-2*,K1A:!4903.50N/07201.75W-Test",
     "A>B,1,2*,3,4,5,6,7,8:=49  .  N/072  .  W-",
@@ -40,6 +43,11 @@ static const char *const lines[] = {
     "A>4LLLLL,WIDE2*:'(_fn\"Oj/",
     "A>B:!0000.  S/00000.00W-",
     "A>0000PP:`vX\x1cn\"Oj/",
+    "N0CALL>APRS,K1A*:/092345z4903.50N/07201.75W>Test1234",
+    "A>B:@312359/49  .  S/072  .  E-",
+    "A>B,C:@234517h0000.00N/00000.00W>",
+    "A>B:/010000z/5L!!<*e7>7P[",
+    "A>B:@010000z",
     "ABCDEFGHIJKLMN-0>B,qAC,*,:>hi",
     "\xc3\xa9-00>\xe2\x82\xac*:!9000.00S/18000.00W!",
     "N0CALL-0>APRS-0,WIDE1-0,WIDE2-0*,K1A-00:!4903.50N/07201.75W-",
@@ -57,7 +65,8 @@ static size_t damaged(uint8_t *bytes, size_t size) {
             memmove(bytes + at, bytes + at + 1, size - at - 1);
             size--;
         } else if (at < size) {
-            bytes[at] = one_in(2) ? (uint8_t)next() : (uint8_t)"*-,:>!=`' 09AKLPZq/."[below(20)];
+            static const char telling[] = "*-,:>!=`'@ 012356789AKLPZqhz/.";
+            bytes[at] = one_in(2) ? (uint8_t)next() : (uint8_t)telling[below(sizeof telling - 1)];
         }
     }
     return size;
@@ -83,7 +92,7 @@ static size_t any_frame(uint8_t *bytes) {
             bytes[size++] = (uint8_t)(2 * "ABCKLPZ0159 "[below(place < 3 ? 11 : 12)]);
         bytes[size++] = (uint8_t)((next() & 0xfe) | (at + 1 == addresses));
     }
-    const char *body = strchr(lines[below(6)], ':') + 1;
+    const char *body = strchr(lines[below(FRAMED)], ':') + 1;
     bytes[size++] = 0x03;
     bytes[size++] = 0xf0;
     memcpy(bytes + size, body, strlen(body));
@@ -137,17 +146,55 @@ static bool is_marked_by(tusselgro_record record, const uint8_t *line) {
     return same && ended;
 }
 
+/* none, or one, and that in a position */
+static bool timed_rightly(const tusselgro_body *b) {
+    return is_no_time(b->time) || (is_time(b->time) && b->kind == TUSSELGRO_POSITION);
+}
+
+/* Whether a position's type byte and its time, which end where its 19 bytes start, are those of its record. */
+static bool starts_rightly(const uint8_t *position, const tusselgro_body *b) {
+    char text[TIME_TEXT];
+    size_t size = time_text(b->time, text);
+    const char *types = size > 0 ? "/@" : "!=";
+    return memcmp(position - size, text, size) == 0 && position[-1 - (ptrdiff_t)size] == (uint8_t)types[b->messaging];
+}
+
+/* The refusal of a position behind its type byte, in document 02's order, by its parts. */
+static uint8_t position_refusal(bool timed, const uint8_t *text, size_t size) {
+    if (!timed) return tusselgro_read_position(text, size).refusal;
+    if (size < 7) return 10;
+    return is_time_text(text) ? tusselgro_read_position(text + 7, size - 7).refusal : 17;
+}
+
+static bool is_body_refusal(uint8_t refusal, const uint8_t *body, size_t size) {
+    const char *type = size > 0 && body[0] != 0 ? strchr("!=/@", body[0]) : NULL;
+    if (type == NULL) return refusal == 0 || refusal == 7 || refusal == 11 || refusal == 12;
+    return refusal == position_refusal(*type == '/' || *type == '@', body + 1, size - 1);
+}
+
+/* Where the body of a line or of a frame starts whose header was read. */
+static size_t body_at(const uint8_t *bytes, bool frame) {
+    size_t at = 0;
+    if (!frame) return before(bytes, ':', ':') + 1;
+    while ((bytes[at + 6] & 1) == 0) at += 7;
+    return at + 9;
+}
+
 static void any_read(void) {
     uint8_t bytes[MOST + 8];
     bool frame = one_in(2);
     size_t size = frame ? any_frame(bytes) : any_line(bytes);
     tusselgro_read read = read_lent(frame ? tusselgro_read_frame : tusselgro_read_text, bytes, size);
-    HOLDS(read.refusal <= 12);
+    if (read.refusal == 0 || read.refusal > 6) {
+        size_t at = body_at(bytes, frame);
+        HOLDS(is_body_refusal(read.refusal, bytes + at, size - at));
+    }
     tusselgro_comment comment = read.record.body.comment;
     HOLDS(comment.at <= size && comment.len <= size - comment.at);
     HOLDS(read.record.header.path.count <= TUSSELGRO_MOST_HOPS);
-    HOLDS(lettered(&read.record.body));
+    HOLDS(lettered(&read.record.body) && timed_rightly(&read.record.body));
     if (read.refusal != 0) return;
+    if (read.record.body.kind == TUSSELGRO_POSITION) HOLDS(starts_rightly(bytes + comment.at - 19, &read.record.body));
     HOLDS(frame ? is_unmarked(read.record) : is_marked_by(read.record, bytes));
     write_lent(tusselgro_write_text, read.record, bytes + comment.at, comment.len, below(MOST));
     write_lent(tusselgro_write_frame, read.record, bytes + comment.at, comment.len, below(MOST));
@@ -166,12 +213,21 @@ static tusselgro_record wild_record(void) {
     return record;
 }
 
+static uint8_t often_zero(size_t n) { return one_in(2) ? 0 : (uint8_t)below(n); }
+
+/* a time, most often near one that is in range */
+static tusselgro_time any_time(void) {
+    static const uint8_t forms[] = {TUSSELGRO_NO_TIME, TUSSELGRO_DHM_UTC, TUSSELGRO_DHM_LOCAL, TUSSELGRO_HMS_UTC};
+    uint8_t form = one_in(8) ? (uint8_t)next() : forms[below(4)];
+    return (tusselgro_time){often_zero(34), often_zero(26), often_zero(62), often_zero(62), form};
+}
+
 /* a record that was read, with some part of it changed */
 static tusselgro_record near_record(void) {
     uint8_t bytes[MOST + 8];
     tusselgro_record record = tusselgro_read_text(bytes, any_line(bytes)).record;
     tusselgro_place *place = &record.body.place;
-    switch (below(11)) {
+    switch (below(14)) {
         case 0: record.body.kind = (uint8_t)below(5); break;
         case 1: record.body.report.message = (uint8_t)below(20); break;
         case 2: place->blanks = (uint8_t)below(8); break;
@@ -188,6 +244,8 @@ static tusselgro_record near_record(void) {
         case 7: record.header.from.call_len = (uint8_t)(one_in(2) ? below(20) : next()); break;
         case 8: place->south = !place->south; break;
         case 9: place->west = !place->west; break;
+        case 10: case 11: record.body.time = any_time(); break;
+        case 12: record.body.messaging = !record.body.messaging; break;
         default: record.header.to.ssid_len = (uint8_t)(one_in(2) ? below(20) : next()); break;
     }
     return record;
@@ -204,7 +262,9 @@ static void any_write(void) {
     writer *function = one_in(2) ? tusselgro_write_frame : tusselgro_write_text;
     size_t room = below(MOST);
     tusselgro_answer answer = write_lent(function, record, comment, size, room);
-    HOLDS(lettered(&record.body) || answer.refusal == 15);
+    HOLDS((lettered(&record.body) && timed_rightly(&record.body)) || answer.refusal == 15);
+    if (answer.refusal == 0 && record.body.kind == TUSSELGRO_POSITION)
+        HOLDS(starts_rightly(written + answer.reported - size - 19, &record.body));
     HOLDS((fits(record.header.from) && fits(record.header.to)) || answer.refusal == 15);
     uint8_t unchanged[sizeof written];
     memcpy(unchanged, written, sizeof written);
@@ -216,7 +276,8 @@ static void any_write(void) {
 /* ---- the parts of a packet: what is read of one can be written, and reads as the same again */
 
 static const char *const parts[] = {
-    "N0CALL-01*", "\x9c\x60\x86\x82\x98\x98\xe3", "4903.50N", "07201.75W", "4903.50N/07201.75W-Test", "S32U6T", "(_fn\"Oj/",
+    "N0CALL-01*", "\x9c\x60\x86\x82\x98\x98\xe3", "4903.50N", "07201.75W", "092345z", "4903.50N/07201.75W-Test", "S32U6T",
+    "(_fn\"Oj/",
 };
 
 static void callsign_again(const uint8_t *bytes, size_t size) {
@@ -270,6 +331,20 @@ static void longitude_again(const uint8_t *bytes, size_t size) {
     HOLDS(!contradicts(r.west, r.longitude) && again.west == (r.longitude < 0));
 }
 
+static void time_again(const uint8_t *bytes, size_t size) {
+    tusselgro_time_read r = tusselgro_read_time(bytes, size);
+    uint8_t out[7];
+    HOLDS(r.refusal == (size == 7 && is_time_text(bytes) ? 0 : 17));
+    if (r.refusal != 0) {
+        HOLDS(is_no_time(r.time));
+        return;
+    }
+    HOLDS(tusselgro_write_time(r.time, out, 7).reported == 7 && memcmp(out, bytes, 7) == 0);
+    tusselgro_time other = any_time();
+    uint8_t expected = is_time(other) || is_no_time(other) ? 0 : 15;
+    HOLDS(tusselgro_write_time(other, out, 7).refusal == expected);
+}
+
 static void position_again(const uint8_t *bytes, size_t size) {
     tusselgro_position_read r = tusselgro_read_position(bytes, size);
     HOLDS(r.refusal == 0 || (r.refusal >= 7 && r.refusal <= 10));
@@ -320,7 +395,8 @@ static void information_again(const uint8_t *bytes, size_t size) {
 
 static void any_part(void) {
     static void (*const again[])(const uint8_t *, size_t) = {
-        callsign_again, address_again, latitude_again, longitude_again, position_again, destination_again, information_again,
+        callsign_again, address_again,  latitude_again,    longitude_again,
+        time_again,     position_again, destination_again, information_again,
     };
     uint8_t bytes[MOST + 8];
     size_t which = below(sizeof parts / sizeof *parts), size = strlen(parts[which]);

@@ -1,4 +1,4 @@
-/* Lines and frames read: document 01's values, document 02's letters and marks, every refusal that a reader can give. */
+/* Lines and frames read: document 01's values, document 02's letters, marks and times, every refusal that a reader can give. */
 #include "check.h"
 
 #include <string.h>
@@ -204,6 +204,107 @@ static void check_frames(void) {
     REFUSED(read_lent(tusselgro_read_frame, frame, 513), 1);
 }
 
+static bool has_time(tusselgro_read read, uint8_t day, uint8_t hour, uint8_t minute, uint8_t second, uint8_t form) {
+    tusselgro_body b = read.record.body;
+    return read.refusal == 0 && b.kind == TUSSELGRO_POSITION && b.place.latitude == 294350 && b.place.longitude == -432175 &&
+           same_time(b.time, (tusselgro_time){day, hour, minute, second, form});
+}
+
+/* R-3: '/' and '@' have a time, '@' says messaging, the comment starts 27 bytes behind the type byte. The examples are those
+   of APRS 1.0.1, chapter 8. */
+static void check_timed(void) {
+    tusselgro_read read = LINE("A>B:/092345z4903.50N/07201.75W>Test1234");
+    tusselgro_body b = read.record.body;
+    HOLDS(has_time(read, 9, 23, 45, 0, TUSSELGRO_DHM_UTC) && !b.messaging && has_letters(read, false, true));
+    HOLDS(b.place.table == '/' && b.place.code == '>' && b.place.blanks == 0 && b.comment.at == 31 && b.comment.len == 8);
+    HOLDS(b.report.speed == 0 && b.report.course == 0 && b.report.message == 0 && !b.report.current);
+    read = LINE("A>B:@092345/4903.50N/07201.75W>Test1234");
+    HOLDS(has_time(read, 9, 23, 45, 0, TUSSELGRO_DHM_LOCAL) && read.record.body.messaging);
+    read = LINE("A>B:/234517h4903.50N/07201.75W>");
+    HOLDS(has_time(read, 0, 23, 45, 17, TUSSELGRO_HMS_UTC) && !read.record.body.messaging);
+    HOLDS(read.record.body.comment.at == 31 && read.record.body.comment.len == 0);
+    HOLDS(has_time(LINE("A>B:@000000h4903.50N/07201.75W>"), 0, 0, 0, 0, TUSSELGRO_HMS_UTC));
+    HOLDS(has_time(LINE("A>B:@312359z4903.50N/07201.75W>"), 31, 23, 59, 0, TUSSELGRO_DHM_UTC));
+    read = FRAME(TO FROM LAST_HOP PAIR "@092345z4903.50N/07201.75W>Test1234");
+    HOLDS(has_time(read, 9, 23, 45, 0, TUSSELGRO_DHM_UTC) && read.record.body.messaging);
+    HOLDS(read.record.body.comment.at == 50 && read.record.body.comment.len == 8);
+    HOLDS(has_time(FRAME(TO LAST_FROM PAIR "/234517h4903.50N/07201.75W>"), 0, 23, 45, 17, TUSSELGRO_HMS_UTC));
+    read = LINE("A-0>B,C-0*:@010000/0000.  S/000  .  W-");
+    REFUSED(read, 9);
+    read = LINE("A-0>B,C-0*:@010000/0000.  S/00000.  W-");
+    b = read.record.body;
+    HOLDS(has_marks(read, "101") && has_letters(read, true, true) && b.place.blanks == 2);
+    HOLDS(same_time(b.time, (tusselgro_time){1, 0, 0, 0, TUSSELGRO_DHM_LOCAL}));
+    HOLDS(is_no_time(LINE("A>B:!4903.50N/07201.75W-092345z").record.body.time));
+    HOLDS(is_no_time(LINE("A>B:=4903.50N/07201.75W-/092345z").record.body.time));
+    HOLDS(is_no_time(LINE("A>S32U6T:`(_fn\"Oj/@092345z").record.body.time));
+    HOLDS(is_no_time(LINE("A>B:x092345z").record.body.time));
+}
+
+/* Reads these bytes behind either type byte, in a line and in a frame; 0 is to be accepted. */
+static void timed(const uint8_t *bytes, size_t size, int expected, const char *file, int line) {
+    for (const char *type = "/@"; *type; type++) {
+        uint8_t text[64] = "A>B:", frame[64] = TO LAST_FROM PAIR;
+        text[4] = frame[16] = (uint8_t)*type;
+        memcpy(text + 5, bytes, size);
+        memcpy(frame + 17, bytes, size);
+        refused(read_lent(tusselgro_read_text, text, 5 + size).refusal, expected, file, line);
+        refused(read_lent(tusselgro_read_frame, frame, 17 + size).refusal, expected, file, line);
+    }
+}
+
+#define TIMED(string, expected) timed(BYTES(string), expected, __FILE__, __LINE__)
+#define POSITION "4903.50N/07201.75W-"
+#define COMPRESSED "/5L!!<*e7>7P["
+
+/* "10 when the seven bytes are missing stands before" 17, "and 7, 10, 8, 9 follow". */
+static void check_time_refusals(void) {
+    TIMED("", 10);
+    TIMED("010000", 10);
+    TIMED("xxxxxx", 10);
+    TIMED("xxxxxxx", 17);
+    TIMED("000000z" COMPRESSED, 17);
+    TIMED("xxxxxxx" POSITION, 17);
+    TIMED("010000z", 7);
+    TIMED("010000z" COMPRESSED, 7);
+    TIMED("010000z" COMPRESSED "xxxxxxxx", 7);
+    TIMED("010000z0", 10);
+    TIMED("010000z4903.50N/07201.75W", 10);
+    TIMED("010000z9000.01N/18000.01E-", 8);
+    TIMED("010000z9000.00N/18000.01E-", 9);
+    TIMED("010000z" POSITION, 0);
+    TIMED("000000z" POSITION, 17);
+    TIMED("310000z" POSITION, 0);
+    TIMED("320000z" POSITION, 17);
+    TIMED("012300z" POSITION, 0);
+    TIMED("012400z" POSITION, 17);
+    TIMED("010059z" POSITION, 0);
+    TIMED("010060z" POSITION, 17);
+    TIMED("010000/" POSITION, 0);
+    TIMED("000000/" POSITION, 17);
+    TIMED("310000/" POSITION, 0);
+    TIMED("320000/" POSITION, 17);
+    TIMED("012300/" POSITION, 0);
+    TIMED("012400/" POSITION, 17);
+    TIMED("010059/" POSITION, 0);
+    TIMED("010060/" POSITION, 17);
+    TIMED("000000h" POSITION, 0);
+    TIMED("230000h" POSITION, 0);
+    TIMED("240000h" POSITION, 17);
+    TIMED("005900h" POSITION, 0);
+    TIMED("006000h" POSITION, 17);
+    TIMED("000059h" POSITION, 0);
+    TIMED("000060h" POSITION, 17);
+    TIMED("010000Z" POSITION, 17);
+    TIMED("000000H" POSITION, 17);
+    TIMED("010000x" POSITION, 17);
+    TIMED("      /" POSITION, 17);
+    TIMED("01 000z" POSITION, 17);
+    TIMED("+1+1+1z" POSITION, 17);
+    REFUSED(LINE("A->B:/xxxxxxx"), 3);
+    REFUSED(LINE("A>B,qAC:/xxxxxxx"), 6);
+}
+
 void check_reading(void) {
     check_position();
     check_mic_e();
@@ -212,4 +313,6 @@ void check_reading(void) {
     check_values();
     check_line_refusals();
     check_frames();
+    check_timed();
+    check_time_refusals();
 }

@@ -1,6 +1,7 @@
-/* Records written: document 01's values, document 02's letters and marks, every refusal of a writer, and wild records. */
+/* Records written: document 01's values, document 02's letters, marks and times, every refusal of a writer, and wild records. */
 #include "check.h"
 
+#include <stdio.h>
 #include <string.h>
 
 #define TEXT(record, comment, room) write_lent(tusselgro_write_text, record, BYTES(comment), room)
@@ -8,6 +9,8 @@
 #define READ(string) tusselgro_read_text(BYTES(string)).record
 
 static const char position_line[] = "N0CALL-01>APRS,WIDE1-1,WIDE2-2*,K1A:!4903.50N/07201.75W-Test";
+static const char timed_line[] = "A>B:@092345z4903.50N/07201.75W>Test1234";
+static const char clock_line[] = "A>B:/234517h4903.50N/07201.75W>";
 static const char mic_e_line[] = "A>S32U6T:`(_fn\"Oj/";
 
 static tusselgro_record read_record(const char *line) {
@@ -95,6 +98,73 @@ static void check_marked_refusals(void) {
         REFUSED(TEXT(blank, "", 0), 14);
         REFUSED(FRAME(blank, "", 0), 14);
     }
+}
+
+typedef struct {
+    bool messaging;
+    tusselgro_time time;
+    const char *body; /* its type byte and its time */
+} timed_body;
+
+/* The same position as a line and as a frame behind each type byte; both come back. */
+static void writes_timed(timed_body b) {
+    tusselgro_record r = READ("A>B:!4903.50N/07201.75W>");
+    uint8_t text[64] = "A>B:", frame[64] = "\x84@@@@@\xe0\x82@@@@@\x61\x03\xf0";
+    size_t size = strlen(b.body) + 27;
+    snprintf((char *)text + 4, 60, "%s4903.50N/07201.75W>Test1234", b.body);
+    memcpy(frame + 16, text + 4, size);
+    r.body.messaging = b.messaging;
+    r.body.time = b.time;
+    HOLDS(wrote(TEXT(r, "Test1234", 4 + size), text, 4 + size));
+    HOLDS(wrote(FRAME(r, "Test1234", 16 + size), frame, 16 + size));
+    r.body.comment = (tusselgro_comment){size - 4, 8};
+    tusselgro_read back = tusselgro_read_text(text, 4 + size);
+    HOLDS(back.refusal == 0 && same_record(&back.record, &r));
+    r.body.comment.at = size + 8;
+    back = tusselgro_read_frame(frame, 16 + size);
+    HOLDS(back.refusal == 0 && same_record(&back.record, &r));
+}
+
+/* R-3: the type byte is that of the flag, and of whether there is a time. */
+static void check_timed(void) {
+    static const timed_body bodies[] = {
+        {false, {0, 0, 0, 0, TUSSELGRO_NO_TIME}, "!"},
+        {true, {0, 0, 0, 0, TUSSELGRO_NO_TIME}, "="},
+        {false, {9, 23, 45, 0, TUSSELGRO_DHM_UTC}, "/092345z"},
+        {true, {9, 23, 45, 0, TUSSELGRO_DHM_UTC}, "@092345z"},
+        {false, {9, 23, 45, 0, TUSSELGRO_DHM_LOCAL}, "/092345/"},
+        {true, {9, 23, 45, 0, TUSSELGRO_DHM_LOCAL}, "@092345/"},
+        {false, {0, 23, 45, 17, TUSSELGRO_HMS_UTC}, "/234517h"},
+        {true, {0, 23, 45, 17, TUSSELGRO_HMS_UTC}, "@234517h"},
+        {false, {0, 0, 0, 0, TUSSELGRO_HMS_UTC}, "/000000h"},
+        {true, {0, 23, 59, 59, TUSSELGRO_HMS_UTC}, "@235959h"},
+        {false, {1, 0, 0, 0, TUSSELGRO_DHM_UTC}, "/010000z"},
+        {true, {31, 23, 59, 0, TUSSELGRO_DHM_LOCAL}, "@312359/"},
+    };
+    for (size_t which = 0; which < sizeof bodies / sizeof *bodies; which++) writes_timed(bodies[which]);
+    HOLDS(wrote(TEXT(READ("A>B:@010000/0000.  S/00000.  W-"), "", 512), BYTES("A>B:@010000/0000.  N/00000.00E-")));
+}
+
+static void check_timed_refusals(void) {
+    tusselgro_record r = read_record(timed_line);
+    tusselgro_answer answer = TEXT(r, "Test1234", 38);
+    REFUSED(answer, 16);
+    HOLDS(answer.needed == 39);
+    answer = FRAME(r, "Test1234", 50);
+    REFUSED(answer, 16);
+    HOLDS(answer.needed == 51);
+    REFUSED(tusselgro_write_text(r, NULL, 0, NULL, 0), 16);
+    uint8_t comment[512];
+    memset(comment, 'x', sizeof comment);
+    REFUSED(write_lent(tusselgro_write_text, r, comment, 512 - 31, 512), 0);
+    REFUSED(write_lent(tusselgro_write_text, r, comment, 512 - 30, 512), 1);
+    REFUSED(write_lent(tusselgro_write_frame, r, comment, 512 - 43, 512), 0);
+    REFUSED(write_lent(tusselgro_write_frame, r, comment, 512 - 42, 512), 1);
+    r.header.from = READ("ABCDEFG>B:").header.from;
+    REFUSED(FRAME(r, "", 512), 13);
+    r.body.time.day = 32;
+    REFUSED(FRAME(r, "", 0), 15);
+    REFUSED(write_lent(tusselgro_write_text, r, comment, 512, 0), 15);
 }
 
 /* P4: 799 knots, course 360. P7: 105 degrees east. P10: a hop of a frame that is heard and last. */
@@ -203,6 +273,43 @@ static void check_range(void) {
     SPOILT("A>B:", r.body.messaging = true);
 }
 
+/* A time that is none, in a position; and any in another kind, where it is 15 before 14. */
+static void check_time_range(void) {
+    for (int form = 1; form <= 255; form++) {
+        if (form == TUSSELGRO_DHM_UTC || form == TUSSELGRO_DHM_LOCAL || form == TUSSELGRO_HMS_UTC) continue;
+        SPOILT(timed_line, r.body.time.form = (uint8_t)form);
+        SPOILT(position_line, r.body.time.form = (uint8_t)form);
+    }
+    SPOILT(timed_line, r.body.time.form = TUSSELGRO_NO_TIME);
+    SPOILT(timed_line, r.body.time.form = TUSSELGRO_HMS_UTC);
+    SPOILT(timed_line, r.body.time.day = 0);
+    SPOILT(timed_line, r.body.time.day = 32);
+    SPOILT(timed_line, r.body.time.day = 255);
+    SPOILT(timed_line, r.body.time.hour = 24);
+    SPOILT(timed_line, r.body.time.minute = 60);
+    SPOILT(timed_line, r.body.time.second = 1);
+    SPOILT(timed_line, r.body.time.form = TUSSELGRO_DHM_LOCAL; r.body.time.day = 0);
+    SPOILT(timed_line, r.body.time.form = TUSSELGRO_DHM_LOCAL; r.body.time.second = 59);
+    SPOILT(clock_line, r.body.time.form = TUSSELGRO_NO_TIME);
+    SPOILT(clock_line, r.body.time.form = TUSSELGRO_DHM_UTC);
+    SPOILT(clock_line, r.body.time.day = 1);
+    SPOILT(clock_line, r.body.time.hour = 24);
+    SPOILT(clock_line, r.body.time.minute = 60);
+    SPOILT(clock_line, r.body.time.second = 60);
+    SPOILT(clock_line, r.body.time.second = 255);
+    static const tusselgro_time times[] = {
+        {9, 23, 45, 0, TUSSELGRO_DHM_UTC}, {9, 23, 45, 0, TUSSELGRO_DHM_LOCAL}, {0, 23, 45, 17, TUSSELGRO_HMS_UTC},
+        {0, 0, 0, 0, TUSSELGRO_HMS_UTC},   {0, 0, 0, 0, TUSSELGRO_DHM_UTC},     {1, 0, 0, 0, TUSSELGRO_NO_TIME},
+        {0, 1, 0, 0, TUSSELGRO_NO_TIME},   {0, 0, 1, 0, TUSSELGRO_NO_TIME},     {0, 0, 0, 1, TUSSELGRO_NO_TIME},
+        {0, 0, 0, 0, 255},
+    };
+    for (size_t which = 0; which < sizeof times / sizeof *times; which++) {
+        SPOILT(mic_e_line, r.body.time = times[which]);
+        SPOILT("A>B:", r.body.time = times[which]);
+        if (!is_time(times[which])) SPOILT(position_line, r.body.time = times[which]);
+    }
+}
+
 /* Every message goes out and comes back. */
 static void check_messages(void) {
     for (uint8_t message = 0; message <= 15; message++) {
@@ -220,8 +327,11 @@ void check_writing(void) {
     check_zeros();
     check_marks();
     check_values();
+    check_timed();
     check_refusals();
     check_marked_refusals();
+    check_timed_refusals();
     check_range();
+    check_time_range();
     check_messages();
 }

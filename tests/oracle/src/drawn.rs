@@ -136,6 +136,17 @@ pub fn text_zeros(random: &mut Random) -> Request {
     Request::Text(if random.one_in(8) { damaged(random, good) } else { good })
 }
 
+/// Lines with a time; one in eight damaged.
+pub fn text_timed(random: &mut Random) -> Request {
+    let good = packet(random, timed).line();
+    Request::Text(if random.one_in(8) { damaged(random, good) } else { good })
+}
+
+pub fn frame_timed(random: &mut Random) -> Request {
+    let good = packet(random, timed).frame();
+    Request::Frame(if random.one_in(8) { damaged(random, good) } else { good })
+}
+
 fn angle(random: &mut Random, limit: i64) -> i64 {
     let angle = match random.below(4) {
         0 => random.below(limit as usize / 6000 + 1) as i64 * 6000 + random.between(0, 4) as i64 - 2,
@@ -239,6 +250,28 @@ pub fn written_position(random: &mut Random) -> Request {
 
 pub fn written_mic_e(random: &mut Random) -> Request {
     Request::Line(record(random, "mic-e").request())
+}
+
+/// A time; one time in four two of its digits are any.
+fn time_word(random: &mut Random) -> String {
+    let mut time = good_time(random);
+    if random.one_in(4) {
+        let at = 2 * random.below(3);
+        time.replace_range(at..at + 2, &format!("{:02}", random.below(100)));
+    }
+    time
+}
+
+/// Records with a time, one in eight of them of a kind that may have none; one in eight records without.
+pub fn written_timed(random: &mut Random) -> Request {
+    let kind = if random.one_in(8) { *random.pick(&["unknown", "mic-e"]) } else { "position" };
+    let mut record = record(random, kind);
+    record.time = match random.below(16) {
+        0 => None,
+        1 => Some("-".to_string()),
+        _ => Some(time_word(random)),
+    };
+    Request::Line(record.request())
 }
 
 pub fn bounds(random: &mut Random) -> Request {

@@ -1,10 +1,12 @@
 // Makes requests for the comparison, by kind, from a seed: random kinds as many as asked for, whole sets whole
-// (or, when few are asked for, an even sample). The same arguments give the same requests on every machine.
+// (or, when few are asked for, an even sample), an even sample of a large set. The same arguments give the same requests on
+// every machine.
 
 mod drawn;
 mod packets;
 mod random;
 mod records;
+mod timed;
 mod whole;
 
 use std::io::{self, BufWriter, Write};
@@ -24,18 +26,22 @@ pub enum Request {
 enum Maker {
     Drawn(fn(&mut Random) -> Request),
     Whole(fn(&mut dyn FnMut(Request))),
+    /// As many of a set as are asked for; all of it if it has no more.
+    Sampled(fn(&mut dyn FnMut(Request))),
 }
 
-use Maker::{Drawn, Whole};
+use Maker::{Drawn, Sampled, Whole};
 
-const KINDS: [(&str, Maker); 46] = [
+const KINDS: [(&str, Maker); 56] = [
     ("text-unknown", Drawn(drawn::text_unknown)),
     ("text-position", Drawn(drawn::text_position)),
     ("text-mic-e", Drawn(drawn::text_mic_e)),
     ("text-zeros", Drawn(drawn::text_zeros)),
+    ("text-timed", Drawn(drawn::text_timed)),
     ("frame-unknown", Drawn(drawn::frame_unknown)),
     ("frame-position", Drawn(drawn::frame_position)),
     ("frame-mic-e", Drawn(drawn::frame_mic_e)),
+    ("frame-timed", Drawn(drawn::frame_timed)),
     ("text-every-byte", Whole(whole::text_every_byte)),
     ("frame-every-byte", Whole(whole::frame_every_byte)),
     ("motion-pairs", Whole(whole::motion_pairs)),
@@ -54,6 +60,12 @@ const KINDS: [(&str, Maker); 46] = [
     ("position-first-bytes", Whole(whole::position_first_bytes)),
     ("symbols", Whole(whole::symbols)),
     ("letters", Whole(whole::letters)),
+    ("times", Whole(timed::times)),
+    ("all-times", Sampled(timed::all_times)),
+    ("time-bytes", Whole(timed::time_bytes)),
+    ("timed-cut", Whole(timed::timed_cut)),
+    ("timed-first-bytes", Whole(timed::timed_first_bytes)),
+    ("timed-positions", Whole(timed::timed_positions)),
     ("hops", Whole(whole::hops)),
     ("frame-shapes", Whole(whole::frame_shapes)),
     ("callsigns", Whole(whole::callsigns)),
@@ -67,11 +79,13 @@ const KINDS: [(&str, Maker); 46] = [
     ("written-unknown", Drawn(drawn::written_unknown)),
     ("written-position", Drawn(drawn::written_position)),
     ("written-mic-e", Drawn(drawn::written_mic_e)),
+    ("written-timed", Drawn(drawn::written_timed)),
     ("written-rooms", Whole(whole::written_rooms)),
     ("written-lengths", Whole(whole::written_lengths)),
     ("written-limits", Whole(whole::written_limits)),
     ("written-letters", Whole(whole::written_letters)),
     ("written-zeros", Whole(whole::written_zeros)),
+    ("written-times", Whole(timed::written_times)),
     ("written-callsigns", Whole(whole::written_callsigns)),
     ("bounds", Drawn(drawn::bounds)),
     ("bounds-limits", Whole(whole::bounds_limits)),
@@ -113,8 +127,9 @@ fn make(maker: &Maker, random: &mut Random, count: u64, out: &mut impl Write) ->
     };
     match maker {
         Drawn(draw) => (0..count).for_each(|_| emit(draw(random))),
-        Whole(set) => {
-            let stride = if count >= WHOLE_FROM { 1 } else { size_of_set(*set) / count + 1 };
+        Whole(set) | Sampled(set) => {
+            let is_whole = matches!(maker, Whole(_)) && count >= WHOLE_FROM;
+            let stride = if is_whole { 1 } else { size_of_set(*set) / count + 1 };
             let start = random.next() % stride;
             let mut index = 0;
             set(&mut |request| {

@@ -1,13 +1,10 @@
 // Judges one request: are the oracle's answer and the port's equal on document 01's domain of equality?
-// Of two refusals only the fact counts; where the oracle marks its answer, document 01's own number is demanded. What the Rust does
-// not have, the letters, the dropped zeros and the page box, is held to document 02's rules.
+// Of two refusals only the fact counts; where the oracle marks its answer, the documents' own number is demanded. What the Rust does
+// not have, the letters, the dropped zeros, the page box and the numbers of a bad time, is held to document 02's rules.
 
 use protocol::rules::{self, Limit};
-use protocol::{from_decimal, from_hex, words, Form, Mark};
+use protocol::{from_decimal, from_hex, words, Form, Mark, BAD_TIME};
 
-/// The numbers that a reader can answer, and those that any function can.
-const LAST_OF_READING: u32 = 12;
-const LAST: u32 = 16;
 const WRITTEN_FIELDS: [&[u8]; 2] = [b"text=", b"frame="];
 
 #[derive(Clone, Debug, PartialEq, Eq)]
@@ -41,9 +38,17 @@ impl From<Verdict> for Judgement {
     }
 }
 
-fn refusal(word: &[u8], last: u32) -> Option<u32> {
+fn is_of_reading(number: u32) -> bool {
+    matches!(number, 1..=12 | BAD_TIME)
+}
+
+fn is_of_writing(number: u32) -> bool {
+    matches!(number, 1..=16)
+}
+
+fn refusal(word: &[u8], is_known: fn(u32) -> bool) -> Option<u32> {
     let number = u32::try_from(from_decimal(word)?).ok()?;
-    if (1..=last).contains(&number) {
+    if is_known(number) {
         Some(number)
     } else {
         None
@@ -61,7 +66,7 @@ fn mark_or_outside(mark: Mark) -> Verdict {
 fn judge_rewritten(oracle: &[u8], ours: &[u8]) -> Result<Rewritten, &'static str> {
     let colon = oracle.iter().position(|byte| *byte == b':').ok_or("no colon in the oracle's answer")?;
     let number = &oracle[..colon];
-    let refused = ours.strip_suffix(b":-").and_then(|number| refusal(number, LAST));
+    let refused = ours.strip_suffix(b":-").and_then(|number| refusal(number, is_of_writing));
     if number == b"0" {
         return if oracle == ours { Ok(Rewritten::Equal) } else { Err("rewritten bytes") };
     }
@@ -72,25 +77,29 @@ fn judge_rewritten(oracle: &[u8], ours: &[u8]) -> Result<Rewritten, &'static str
             Err("rewriting, where document 01 names the number")
         };
     }
-    match (refusal(number, LAST), refused) {
+    match (refusal(number, is_of_writing), refused) {
         (Some(_), Some(_)) => Ok(Rewritten::Refused),
         (Some(_), None) => Err("rewriting, which the Rust refuses"),
         (None, _) => Err("rewriting, where the Rust panics"),
     }
 }
 
+fn input_of(request: &[u8]) -> Option<(Vec<u8>, Form)> {
+    match words(request).as_slice() {
+        [b"T", input] => Some((from_hex(input)?, Form::Text)),
+        [b"F", input] => Some((from_hex(input)?, Form::Frame)),
+        _ => None,
+    }
+}
+
 /// The words `letters=XY` and `zeros=BITS` that stand behind the Rust's fields.
 fn words_by_rule(request: &[u8], kind: &[u8]) -> Option<[Vec<u8>; 2]> {
-    let (form, input) = match words(request).as_slice() {
-        [b"T", input] => (Form::Text, from_hex(input)?),
-        [b"F", input] => (Form::Frame, from_hex(input)?),
-        _ => return None,
-    };
+    let (input, form) = input_of(request)?;
     rules::record_words(kind, &input, form)
 }
 
-/// What is wrong with the words behind the Rust's fields.
-fn fault_by_rule(request: &[u8], kind: &[u8], ours: &[&[u8]]) -> Option<&'static str> {
+/// What is wrong with the words behind the Rust's fields: two by rule, and the time, which is the Rust's again.
+fn fault_behind(request: &[u8], kind: &[u8], time: &[u8], ours: &[&[u8]]) -> Option<&'static str> {
     let [letters, zeros] = match words_by_rule(request, kind) {
         Some(words) => words,
         None => return Some("a request without what document 02 asks for"),
@@ -99,7 +108,9 @@ fn fault_by_rule(request: &[u8], kind: &[u8], ours: &[&[u8]]) -> Option<&'static
         Some("the letters")
     } else if ours.get(1).copied() != Some(&zeros[..]) {
         Some("the zeros")
-    } else if ours.len() > 2 {
+    } else if ours.get(2).copied() != Some(time) {
+        Some("the time")
+    } else if ours.len() > 3 {
         Some("a word too many")
     } else {
         None
@@ -108,15 +119,19 @@ fn fault_by_rule(request: &[u8], kind: &[u8], ours: &[&[u8]]) -> Option<&'static
 
 fn judge_record(request: &[u8], oracle: &[u8], ours: &[u8]) -> Judgement {
     let (oracle, ours) = (words(oracle), words(ours));
-    if ours.len() < oracle.len() {
+    let (time, fields) = match oracle.split_last() {
+        Some((time, fields)) if time.starts_with(b"time=") => (time, fields),
+        _ => return Different("no time of the Rust").into(),
+    };
+    if ours.len() < fields.len() {
         return Different("accepted by the Rust").into();
     }
-    let (ours, behind) = ours.split_at(oracle.len());
-    if let Some(fault) = fault_by_rule(request, oracle[1], behind) {
+    let (ours, behind) = ours.split_at(fields.len());
+    if let Some(fault) = fault_behind(request, fields[1], time, behind) {
         return Different(fault).into();
     }
     let mut rewritten = Vec::new();
-    for (oracle, ours) in oracle.iter().zip(ours) {
+    for (oracle, ours) in fields.iter().zip(ours) {
         let name = WRITTEN_FIELDS.iter().find(|name| oracle.starts_with(name) && ours.starts_with(name));
         match name {
             None if oracle == ours => {}
@@ -137,8 +152,18 @@ fn judge_record(request: &[u8], oracle: &[u8], ours: &[u8]) -> Judgement {
     }
 }
 
+/// What is wrong with a number beside a refusal of the Rust: a time that is missing or bad decides it, and nothing else is 17.
+fn fault_of_number(request: &[u8], rust: &[u8], ours: u32) -> Option<&'static str> {
+    let (input, form) = input_of(request)?;
+    match rules::decided_by_time(&input, form, refusal(rust, is_of_reading)?) {
+        Some(number) if number != ours => Some("the number, where a time decides it"),
+        None if ours == BAD_TIME => Some("17, where no time decides"),
+        _ => None,
+    }
+}
+
 fn judge_reading(request: &[u8], oracle: &[u8], ours: &[u8]) -> Judgement {
-    let refused = refusal(ours, LAST_OF_READING);
+    let refused = refusal(ours, is_of_reading);
     let demanded = |is_met: bool, verdict: Verdict, otherwise: &'static str| {
         if is_met {
             Judgement::from(verdict)
@@ -146,24 +171,27 @@ fn judge_reading(request: &[u8], oracle: &[u8], ours: &[u8]) -> Judgement {
             Different(otherwise).into()
         }
     };
+    let refused_too = |rust: &[u8], verdict: Verdict, otherwise: &'static str| match refused {
+        Some(number) => fault_of_number(request, rust, number).map_or(verdict, Different).into(),
+        None => Different(otherwise).into(),
+    };
     match words(oracle).as_slice() {
         [b"0", _, ..] => judge_record(request, oracle, ours),
         [b"outside", mark, b"0"] => match Mark::named(mark) {
             Some(mark) => demanded(
                 refused.is_some() && refused == mark.number_read(),
-                Outside(mark),
-                "document 01 names the number",
+                mark_or_outside(mark),
+                "the documents name the number",
             ),
             None => Different("an unknown mark").into(),
         },
-        [b"outside", mark, _] => match Mark::named(mark) {
+        [b"outside", mark, number] => match Mark::named(mark) {
+            Some(mark) if mark.is_of_body() => refused_too(number, Outside(mark), "refused by the Rust and by the documents"),
             Some(mark) => demanded(refused.is_some(), Outside(mark), "refused by the Rust and by document 01"),
             None => Different("an unknown mark").into(),
         },
-        [b"shim", _] => demanded(refused.is_some(), RefusedOnShim, "refused by the shim and by document 01"),
-        [number] if refusal(number, LAST_OF_READING).is_some() => {
-            demanded(refused.is_some(), Refused, "refused by the Rust")
-        }
+        [b"shim", number] => refused_too(number, RefusedOnShim, "refused by the shim and by the documents"),
+        [number] if refusal(number, is_of_reading).is_some() => refused_too(number, Refused, "refused by the Rust"),
         _ => Different("no answer of the Rust").into(),
     }
 }
@@ -178,15 +206,15 @@ fn judge_writing(request: &[u8], oracle: &[u8], ours: &[u8]) -> Verdict {
     match words(oracle).as_slice() {
         [b"outside", mark] => match Mark::named(mark) {
             Some(mark) if ours == untouched(mark.number_written(), room) => mark_or_outside(mark),
-            Some(_) => Different("document 01 names the number"),
+            Some(_) => Different("the documents name the number"),
             None => Different("an unknown mark"),
         },
         [b"0", ..] if oracle == ours => Accepted,
         [b"0", ..] => Different("written bytes"),
         [b"16", ..] if oracle == ours => Refused,
         [b"16", ..] => Different("room and bytes needed"),
-        [number, ..] if refusal(number, LAST).is_some() => {
-            let number = words(ours).first().and_then(|number| refusal(number, LAST));
+        [number, ..] if refusal(number, is_of_writing).is_some() => {
+            let number = words(ours).first().and_then(|number| refusal(number, is_of_writing));
             match number {
                 Some(number) if ours == untouched(number, room) => Refused,
                 _ => Different("refused by the Rust"),

@@ -1,7 +1,7 @@
 // The unchanged Rust crate as judge: answers requests of INSPECT.md (T, F, W, B), one a line, one answer a line.
-// Answers outside document 01's domain of equality are marked. With --plain each mark gives way to document 01's number,
-// and what the Rust does not have is added by document 02's rules, so that the program can stand in for the port when the
-// comparison itself is tested.
+// Answers outside document 01's domain of equality, and listed differences, are marked. With --plain each mark gives way
+// to the documents' number, and what the Rust does not have is added by document 02's rules, so that the program can stand
+// in for the port when the comparison itself is tested.
 
 mod bounds;
 mod reading;

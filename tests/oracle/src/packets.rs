@@ -3,6 +3,7 @@
 use crate::random::Random;
 
 pub const POSITION: &[u8] = b"!4903.50N/07201.75W-Test";
+pub const COMPRESSED: &[u8] = b"/5L!!<*e7>7P[Test";
 pub const MIC_E_DESTINATION: &[u8] = b"S32UVT";
 pub const MIC_E: &[u8] = b"`(_fn\"Oj/Hi";
 
@@ -156,6 +157,48 @@ pub fn position(random: &mut Random) -> Vec<u8> {
     body.extend(digits(random.below(180), 3, minutes(random), random.below(100), blanks, cover));
     body.extend([*random.pick(b"EW"), symbol(random)]);
     body.extend(comment(random));
+    body
+}
+
+pub fn good_time(random: &mut Random) -> String {
+    let letter = *random.pick(b"z/h");
+    let (hour, minute) = (random.below(24), random.below(60));
+    let [first, second, third] = match letter {
+        b'h' => [hour, minute, random.below(60)],
+        _ => [random.between(1, 31), hour, minute],
+    };
+    format!("{:02}{:02}{:02}{}", first, second, third, char::from(letter))
+}
+
+/// Seven bytes: mostly a time; else one with a number at a limit or past it, with another letter, or with another byte for a digit.
+fn time(random: &mut Random) -> Vec<u8> {
+    let mut time = good_time(random).into_bytes();
+    match random.below(8) {
+        0 => {
+            let at = 2 * random.below(3);
+            time[at..at + 2].copy_from_slice(*random.pick(&[b"00", b"01", b"23", b"24", b"31", b"32", b"59", b"60", b"99"]));
+        }
+        1 => time[6] = if random.one_in(2) { *random.pick(b"ZHzh/") } else { random.byte() },
+        2 => time[random.below(6)] = if random.one_in(2) { *random.pick(b" +-./:") } else { random.byte() },
+        _ => {}
+    }
+    time
+}
+
+fn compressed(random: &mut Random) -> Vec<u8> {
+    let mut position: Vec<u8> = (0..13).map(|_| random.between(33, 124) as u8).collect();
+    position[0] = *random.pick(b"/\\AZaj");
+    position.extend(comment(random));
+    position
+}
+
+/// A body with a time; what follows it is one time in sixteen compressed, and one in sixteen cut short.
+pub fn timed(random: &mut Random) -> Vec<u8> {
+    let position = if random.one_in(16) { compressed(random) } else { position(random).split_off(1) };
+    let mut body = [&[*random.pick(b"/@")][..], &time(random), &position].concat();
+    if random.one_in(16) {
+        body.truncate(random.between(1, 27));
+    }
     body
 }
 

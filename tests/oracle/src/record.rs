@@ -2,7 +2,7 @@
 
 use aprs_parser::mic_e::Message;
 use aprs_parser::{
-    AprsData, AprsPacket, Callsign, EncodeError, Latitude, Longitude, Precision, Via,
+    AprsData, AprsPacket, Callsign, EncodeError, Latitude, Longitude, Precision, Timestamp, Via,
 };
 use crate::{caught, Style};
 use protocol::{push_hex, rules, Form, Mark, LONGEST, LONGITUDE_LIMIT};
@@ -56,6 +56,7 @@ struct Fields<'a> {
     speed: u32,
     course: u32,
     comment: Option<&'a [u8]>,
+    time: Option<&'a Timestamp>,
 }
 
 fn signed_hundredths((degrees, minutes, hundredths, positive): (u32, u32, u32, bool)) -> i64 {
@@ -97,6 +98,7 @@ fn fields(data: &AprsData) -> Option<Fields<'_>> {
         speed: 0,
         course: 0,
         comment: None,
+        time: None,
     };
     match data {
         AprsData::Unknown(_) => Some(blank),
@@ -109,6 +111,7 @@ fn fields(data: &AprsData) -> Option<Fields<'_>> {
             code: position.symbol_code.into(),
             flag: position.messaging_supported,
             comment: Some(&position.comment),
+            time: position.timestamp.as_ref(),
             ..blank
         }),
         AprsData::MicE(mic_e) => Some(Fields {
@@ -158,6 +161,20 @@ fn comment_place(comment: Option<&[u8]>, input: &[u8]) -> (usize, usize) {
             assert!(input.ends_with(comment), "the comment is the input's end");
             (input.len() - comment.len(), comment.len())
         }
+    }
+}
+
+/// The numbers of a time; of a local one, which the crate does not read, its bytes.
+fn push_time(out: &mut Vec<u8>, time: Option<&Timestamp>) {
+    match time {
+        None => out.push(b'-'),
+        Some(Timestamp::DDHHMM(day, hour, minute)) => {
+            out.extend_from_slice(format!("{:02}{:02}{:02}z", day, hour, minute).as_bytes());
+        }
+        Some(Timestamp::HHMMSS(hour, minute, second)) => {
+            out.extend_from_slice(format!("{:02}{:02}{:02}h", hour, minute, second).as_bytes());
+        }
+        Some(Timestamp::Unsupported(bytes)) => out.extend_from_slice(bytes),
     }
 }
 
@@ -249,5 +266,7 @@ pub fn push_record(out: &mut Vec<u8>, packet: &AprsPacket, input: &[u8], form: F
             out.extend_from_slice(&word);
         }
     }
+    out.extend_from_slice(b" time=");
+    push_time(out, fields.time);
     Some(())
 }

@@ -33,6 +33,8 @@ pub struct Record {
     pub letters: Option<[u8; 2]>,
     /// Source, destination, hops.
     pub zeros: Option<Vec<bool>>,
+    /// Six digits and a letter, or a dash.
+    pub time: Option<String>,
 }
 
 pub fn name(call: &[u8], ssid: &[u8]) -> Name {
@@ -60,6 +62,7 @@ impl Record {
             course: 0,
             letters: None,
             zeros: None,
+            time: None,
         };
         let placed = Record {
             flag: 1,
@@ -89,7 +92,7 @@ impl Record {
 
     pub fn request(&self) -> String {
         format!(
-            "W {} {} {} {} {} {} {} {} {} {} {} {} {} {} {} {}{}{}",
+            "W {} {} {} {} {} {} {} {} {} {} {} {} {} {} {} {}{}{}{}",
             match self.form {
                 Form::Text => "text",
                 Form::Frame => "frame",
@@ -110,7 +113,8 @@ impl Record {
             self.speed,
             self.course,
             letters_word(self.letters),
-            zeros_word(self.zeros.as_deref())
+            zeros_word(self.zeros.as_deref()),
+            time_word(self.time.as_deref())
         )
     }
 }
@@ -132,6 +136,10 @@ fn zeros_word(zeros: Option<&[bool]>) -> String {
         let digits: String = zeros.iter().map(|zero| if *zero { '1' } else { '0' }).collect();
         format!(" zeros={}", digits)
     })
+}
+
+fn time_word(time: Option<&str>) -> String {
+    time.map_or(String::new(), |time| format!(" time={}", time))
 }
 
 fn name_word((call, ssid): &Name) -> String {

@@ -1,7 +1,16 @@
 // What document 02 asks that the Rust does not have, computed from a request alone: the letters of both angles and the page box (R-1),
-// and which callsigns had SSID `0` (R-2).
+// which callsigns had SSID `0` (R-2), and which seven bytes are a time (R-3).
 
-use crate::{body_of, callsigns_of, number_of_addresses, Form, LATITUDE_LIMIT, LONGITUDE_LIMIT};
+use std::ops::RangeInclusive;
+
+use crate::{body_of, callsigns_of, is_of_body, number_of_addresses, Form, Mark, BAD_TIME, LATITUDE_LIMIT, LONGITUDE_LIMIT};
+
+const TIME_LENGTH: usize = 7;
+/// "Days 1 to 31, hours 0 to 23, minutes and seconds 0 to 59": each with the mark of one out of range.
+const DAY: (RangeInclusive<u8>, Mark) = (1..=31, Mark::TimeDay);
+const HOUR: (RangeInclusive<u8>, Mark) = (0..=23, Mark::TimeHour);
+const MINUTE: (RangeInclusive<u8>, Mark) = (0..=59, Mark::TimeMinute);
+const SECOND: (RangeInclusive<u8>, Mark) = (0..=59, Mark::TimeSecond);
 
 /// Hundredths of a minute that an angle with 0 to 5 blanks leaves open.
 const WIDTHS: [i64; 6] = [1, 10, 100, 1000, 6000, 60_000];
@@ -47,6 +56,79 @@ impl Limit {
     }
 }
 
+fn has_time(body: &[u8]) -> bool {
+    matches!(body.first(), Some(b'/' | b'@'))
+}
+
+/// The seven bytes behind the type byte of a body that has a time.
+pub fn time_of(body: &[u8]) -> Option<&[u8]> {
+    if has_time(body) {
+        body.get(1..1 + TIME_LENGTH)
+    } else {
+        None
+    }
+}
+
+/// What stands behind the type byte and the time, if there is one: a position.
+pub fn behind_time(body: &[u8]) -> Option<&[u8]> {
+    body.get(if has_time(body) { 1 + TIME_LENGTH } else { 1 }..)
+}
+
+/// The three numbers of two digits each that a time starts with.
+pub fn numbers_of(time: &[u8]) -> Option<[u8; 3]> {
+    let digits = time.get(..6)?;
+    if !digits.iter().all(u8::is_ascii_digit) {
+        return None;
+    }
+    let number = |at: usize| 10 * (digits[at] - b'0') + digits[at + 1] - b'0';
+    Some([number(0), number(2), number(4)])
+}
+
+/// What is wrong with a time, the first of it from the left; a letter that neither document 02 nor the Rust knows has no mark.
+pub fn mark_of_time(time: &[u8]) -> Option<Mark> {
+    let letter = *time.last()?;
+    let is_local = letter == b'/';
+    let numbers = match numbers_of(time) {
+        Some(numbers) => numbers,
+        None if is_local => return Some(Mark::LocalDigits),
+        None => return Some(Mark::TimeDigits),
+    };
+    let limits = match letter {
+        b'h' | b'H' => [HOUR, MINUTE, SECOND],
+        _ => [DAY, HOUR, MINUTE],
+    };
+    let past = numbers.iter().zip(limits).find(|(number, (limit, _))| !limit.contains(number));
+    match past {
+        Some(_) if is_local => Some(Mark::LocalRange),
+        Some((_, (_, mark))) => Some(mark),
+        None if matches!(letter, b'Z' | b'H') => Some(Mark::TimeCapital),
+        None => None,
+    }
+}
+
+fn is_time(time: &[u8]) -> bool {
+    matches!(time.last(), Some(b'z' | b'/' | b'h')) && mark_of_time(time).is_none()
+}
+
+/// The number of a body whose time is missing or bad: "17 for a bad time (15 in a record); 10 when the seven bytes are missing stands
+/// before it, and 7, 10, 8, 9 follow".
+pub fn time_refusal(body: &[u8]) -> Option<u32> {
+    match time_of(body) {
+        None if has_time(body) => Some(10),
+        Some(time) if !is_time(time) => Some(BAD_TIME),
+        _ => None,
+    }
+}
+
+/// The number of an input that the Rust refuses with its own, where a time decides it: not in a header, which comes before.
+pub fn decided_by_time(input: &[u8], form: Form, rust: u32) -> Option<u32> {
+    if is_of_body(rust) {
+        body_of(input, form).and_then(time_refusal)
+    } else {
+        None
+    }
+}
+
 fn six_characters(input: &[u8], form: Form) -> Option<Vec<u8>> {
     match form {
         Form::Text => callsigns_of(input)?[1].get(..6).map(<[u8]>::to_vec),
@@ -62,8 +144,8 @@ fn six_characters(input: &[u8], form: Form) -> Option<Vec<u8>> {
 fn letters(kind: &[u8], input: &[u8], form: Form) -> Option<[u8; 2]> {
     match kind {
         b"position" => {
-            let body = body_of(input, form)?;
-            Some([*body.get(8)?, *body.get(18)?])
+            let position = behind_time(body_of(input, form)?)?;
+            Some([*position.get(7)?, *position.get(17)?])
         }
         b"mic-e" => {
             let characters = six_characters(input, form)?;
@@ -95,7 +177,7 @@ fn zeros(kind: &[u8], input: &[u8], form: Form) -> Option<Vec<u8>> {
     Some(digits)
 }
 
-/// The words that stand behind the Rust's fields in the answer to an accepted packet.
+/// The words that stand behind the Rust's fields, before its time, in the answer to an accepted packet.
 pub fn record_words(kind: &[u8], input: &[u8], form: Form) -> Option<[Vec<u8>; 2]> {
     let letters = letters(kind, input, form)?;
     let zeros = zeros(kind, input, form)?;

@@ -1,25 +1,31 @@
 // Kinds of requests given whole: every case of a set, in a fixed order.
 
+use std::ops::Range;
+
 use crate::packets::*;
 use crate::records::{name, Record, LATITUDE_SIDES, LONGITUDE_SIDES};
 use crate::Request;
 use protocol::{Form, LATITUDE_LIMIT, LONGEST, LONGITUDE_LIMIT, MOST_HOPS};
 
-type Give<'a> = &'a mut dyn FnMut(Request);
+pub type Give<'a> = &'a mut dyn FnMut(Request);
 
-fn give_both(give: Give, packet: &Packet) {
+pub fn give_both(give: Give, packet: &Packet) {
     give(Request::Text(packet.line()));
     give(Request::Frame(packet.frame()));
 }
 
-fn every_byte_in_every_place(give: Give, bytes: &[u8], request: fn(Vec<u8>) -> Request) {
-    for place in 0..bytes.len() {
+pub fn every_byte_in_places(give: Give, bytes: &[u8], places: Range<usize>, request: fn(Vec<u8>) -> Request) {
+    for place in places {
         for byte in 0..=255 {
             let mut changed = bytes.to_vec();
             changed[place] = byte;
             give(request(changed));
         }
     }
+}
+
+pub fn every_byte_in_every_place(give: Give, bytes: &[u8], request: fn(Vec<u8>) -> Request) {
+    every_byte_in_places(give, bytes, 0..bytes.len(), request);
 }
 
 pub fn text_every_byte(give: Give) {
@@ -164,7 +170,7 @@ pub fn degrees(give: Give) {
     }
 }
 
-fn covered(digits: &[u8], mask: usize, cover: u8) -> Vec<u8> {
+pub fn covered(digits: &[u8], mask: usize, cover: u8) -> Vec<u8> {
     let mut covered = digits.to_vec();
     for (bit, byte) in covered.iter_mut().filter(|byte| byte.is_ascii_digit()).enumerate() {
         if mask >> bit & 1 == 1 {
@@ -187,16 +193,20 @@ pub fn blanks(give: Give) {
     }
 }
 
+pub fn give_of_lengths_near_512(give: Give, packet: &Packet) {
+    for total in LONGEST - 40..=LONGEST + 4 {
+        let (mut line, mut frame) = (packet.line(), packet.frame());
+        line.resize(total, b'c');
+        frame.resize(total, b'c');
+        give(Request::Text(line));
+        give(Request::Frame(frame));
+    }
+}
+
 /// Inputs of a length around 512, in both forms; some are written longer in the other form.
 pub fn lengths_near_512(give: Give) {
     for packet in samples() {
-        for total in LONGEST - 40..=LONGEST + 4 {
-            for mut bytes in [packet.line(), packet.frame()] {
-                let is_text = bytes == packet.line();
-                bytes.resize(total, b'c');
-                give(if is_text { Request::Text(bytes) } else { Request::Frame(bytes) });
-            }
-        }
+        give_of_lengths_near_512(give, &packet);
     }
     for hops in 0..=8 {
         for total in LONGEST - 60..=LONGEST + 4 {
@@ -453,7 +463,7 @@ pub fn utf8(give: Give) {
     }
 }
 
-fn give_written(give: Give, record: &Record) {
+pub fn give_written(give: Give, record: &Record) {
     for form in [Form::Text, Form::Frame] {
         give(Request::Line(Record { form, ..record.clone() }.request()));
     }
@@ -558,8 +568,8 @@ fn give_every_set_of_zeros(give: Give, record: &Record) {
     }
 }
 
-/// Every set of zeros in records of each kind, good ones and ones refused for many reasons; and all zeros at every number of hops.
-pub fn written_zeros(give: Give) {
+/// A good record of a kind, and ones refused for many reasons.
+pub fn good_and_refused(kind: &'static str) -> Vec<Record> {
     const CHANGES: [fn(&mut Record); 14] = [
         |_| {},
         |record| record.letters = Some(*b"NW"),
@@ -576,10 +586,18 @@ pub fn written_zeros(give: Give) {
         |record| record.to = name(b"APRS", b"1"),
         |record| record.hops[1].0 = name(b"", b""),
     ];
+    let changed = |change: &fn(&mut Record)| {
+        let mut record = Record::good(kind);
+        change(&mut record);
+        record
+    };
+    CHANGES.iter().map(changed).collect()
+}
+
+/// Every set of zeros in records of each kind, good and refused; and all zeros at every number of hops.
+pub fn written_zeros(give: Give) {
     for kind in ["unknown", "position", "mic-e"] {
-        for change in CHANGES {
-            let mut record = Record::good(kind);
-            change(&mut record);
+        for record in good_and_refused(kind) {
             give_every_set_of_zeros(give, &record);
         }
         for hops in 0..=MOST_HOPS {

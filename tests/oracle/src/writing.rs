@@ -2,13 +2,13 @@
 
 use aprs_parser::mic_e::{Course, Message, Speed};
 use aprs_parser::{
-    AprsCst, AprsData, AprsMicE, AprsPacket, AprsPosition, Callsign, Latitude, Longitude, Via,
+    AprsCst, AprsData, AprsMicE, AprsPacket, AprsPosition, Callsign, Latitude, Longitude, Timestamp, Via,
 };
 use crate::record::{mark_of_record, write, Written, MESSAGES, PRECISIONS};
 use crate::Style;
 use protocol::rules::Limit;
 use protocol::{
-    dmh_of, from_decimal, from_hex, push_hex, Form, Mark, LATITUDE_LIMIT, LONGEST, LONGEST_CALLSIGN, LONGITUDE_LIMIT,
+    dmh_of, from_decimal, from_hex, push_hex, rules, Form, Mark, LATITUDE_LIMIT, LONGEST, LONGEST_CALLSIGN, LONGITUDE_LIMIT,
     MOST_HOPS,
 };
 
@@ -51,6 +51,7 @@ struct Request {
     speed: u32,
     course: u32,
     letters: [u8; 2],
+    time: Option<Vec<u8>>,
 }
 
 fn number<T: TryFrom<i64>>(word: &[u8]) -> Option<T> {
@@ -116,6 +117,15 @@ fn are_zeros(value: &[u8], hops: usize) -> bool {
     value.len() == 2 + hops && value.iter().all(|digit| matches!(digit, b'0' | b'1'))
 }
 
+/// Six digits of any value and `z`, `/` or `h`; left out, or a dash, there is no time.
+fn time(value: Option<&[u8]>) -> Option<Option<Vec<u8>>> {
+    match value {
+        None | Some(b"-") => Some(None),
+        Some(time @ [_, _, _, _, _, _, b'z' | b'/' | b'h']) => rules::numbers_of(time).map(|_| Some(time.to_vec())),
+        Some(_) => None,
+    }
+}
+
 fn parse(words: &[&[u8]]) -> Option<Request> {
     let (words, mut later) = words.split_at(words.len().min(16));
     let [form, room, comment, kind, flag, from, to, path, latitude, longitude, blanks, table, code, word, speed, course]: [&[u8]; 16] =
@@ -127,6 +137,7 @@ fn parse(words: &[&[u8]]) -> Option<Request> {
         _ => return None,
     };
     let (latitude, longitude) = (from_decimal(latitude)?, from_decimal(longitude)?);
+    let [sides, zeros, seven] = [&b"letters="[..], b"zeros=", b"time="].map(|name| next_value(&mut later, name));
     let request = Request {
         form: match form {
             b"text" => Form::Text,
@@ -148,9 +159,9 @@ fn parse(words: &[&[u8]]) -> Option<Request> {
         message: message(word)?,
         speed: number(speed)?,
         course: number(course)?,
-        letters: letters(next_value(&mut later, b"letters="), kind, latitude, longitude)?,
+        letters: letters(sides, kind, latitude, longitude)?,
+        time: time(seven)?,
     };
-    let zeros = next_value(&mut later, b"zeros=");
     let is_well_formed = later.is_empty()
         && zeros.map_or(true, |zeros| are_zeros(zeros, request.hops.len()))
         && (request.kind != Kind::MicE || request.message.is_some());
@@ -182,10 +193,11 @@ fn has_parts_its_kind_lacks(request: &Request) -> bool {
         || request.table != 0
         || request.code != 0
         || request.flag;
+    let has_time = request.time.is_some();
     match request.kind {
-        Kind::Unknown => has_place || has_motion || request.message.is_some(),
+        Kind::Unknown => has_place || has_motion || has_time || request.message.is_some(),
         Kind::Position => has_motion || request.message.is_some(),
-        Kind::MicE => !request.to.call.is_empty() || !request.to.ssid.is_empty(),
+        Kind::MicE => has_time || !request.to.call.is_empty() || !request.to.ssid.is_empty(),
     }
 }
 
@@ -201,7 +213,7 @@ fn letters_fit(request: &Request) -> bool {
     }
 }
 
-/// The documents' list of what is refused with 15, but for the two cases that the Rust can be asked about.
+/// The documents' list of what is refused with 15, but for what the Rust can be asked about: the two cases of `mark_of_record`, and times.
 fn mark_of_request(request: &Request) -> Option<Mark> {
     let in_range = request.latitude.abs() <= LATITUDE_LIMIT
         && request.longitude.abs() <= LONGITUDE_LIMIT
@@ -242,6 +254,17 @@ pub fn longitude(angle: i64) -> Longitude {
     Longitude::from_dmh(degrees, minutes, hundredths, angle >= 0).expect("judged before")
 }
 
+/// A time of six digits and `z`, `/` or `h`.
+fn timestamp(time: &[u8]) -> Timestamp {
+    let [first, second, third] = rules::numbers_of(time).expect("judged before");
+    let made = match time.last() {
+        Some(b'z') => Timestamp::new_dhm(first, second, third),
+        Some(b'h') => Timestamp::new_hms(first, second, third),
+        _ => Some(Timestamp::Unsupported(time.to_vec())),
+    };
+    made.expect("the crate takes any two digits")
+}
+
 fn data(request: &Request) -> AprsData {
     match (request.kind, request.message) {
         (Kind::MicE, Some(message)) => AprsData::MicE(AprsMicE {
@@ -258,7 +281,7 @@ fn data(request: &Request) -> AprsData {
         }),
         (Kind::Position, _) => AprsData::Position(AprsPosition {
             to: callsign(&request.to),
-            timestamp: None,
+            timestamp: request.time.as_deref().map(timestamp),
             messaging_supported: request.flag,
             latitude: latitude(request.latitude),
             longitude: longitude(request.longitude),
@@ -301,7 +324,8 @@ pub fn answer(words: &[&[u8]], style: Style, out: &mut Vec<u8>) -> Option<()> {
         return Some(());
     }
     let packet = packet(&request);
-    if let Some(mark) = mark_of_record(&packet.data) {
+    let mark_of_time = request.time.as_deref().and_then(rules::mark_of_time);
+    if let Some(mark) = mark_of_record(&packet.data).or(mark_of_time) {
         push_mark(out, mark, request.room, style);
         return Some(());
     }

@@ -58,8 +58,8 @@ const UNKNOWN: [&str; 8] = [
 const NOT_CARRIED: [&str; 5] = [
     ">Net Control Center",
     ":WU2Z     :Testing{003",
-    "/092345z4903.50N/07201.75W>Test1234",
-    "@092345/4903.50N/07201.75W>Test1234",
+    "/092345z/5L!!<*e7> sTComment",
+    "@092345//5L!!<*e7> sTComment",
     "!/5L!!<*e7> sTComment",
 ];
 

@@ -28,8 +28,11 @@ enum-known-read c = search needs
 add-behind : tie.Need-add-behind
 add-behind c = search needs
 
-sub-t22 : tie.Need-sub-t22
-sub-t22 c = search information-fits
+sub-t23 : tie.Need-sub-t23
+sub-t23 c = search information-fits
+
+blank-requires : tie.Need-blank-requires
+blank-requires c κs = search needs
 
 accepted-requires : tie.Need-accepted-requires
 accepted-requires c κs = search needs
@@ -52,7 +55,8 @@ read-report-spec =
     refused-requires
     enum-known-read
     add-behind
-    sub-t22
+    sub-t23
+    blank-requires
     accepted-requires
     returns
     returns-2)

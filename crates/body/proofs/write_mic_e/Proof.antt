@@ -1,4 +1,4 @@
--- No destination, no messaging, letters that agree; and then what the two writers of a report say. Assumes nothing.
+-- No destination, no messaging, no time, letters that agree; and then what the two writers of a report say. Assumes nothing.
 use Rattle.body.specs.Range.{micEInRange}
 use Rattle.body.proofs.Writing.{judged, destination-is, mic-e-out, mic-e-written}
 use borrow.Author.Needs.{needs}
@@ -22,8 +22,8 @@ returns-2 : tie.Need-returns-2
 unfolding micEInRange
 returns-2 c = search judged
 
-letters-agree-requires : tie.Need-letters-agree-requires
-letters-agree-requires c κs = search needs
+is-blank-requires-2 : tie.Need-is-blank-requires-2
+is-blank-requires-2 c κs = search needs
 
 unwritten-requires-3 : tie.Need-unwritten-requires-3
 unwritten-requires-3 c κs = search needs
@@ -32,20 +32,30 @@ returns-3 : tie.Need-returns-3
 unfolding micEInRange
 returns-3 c = search judged
 
-write-destination-requires : tie.Need-write-destination-requires
-write-destination-requires c κs = search needs
+letters-agree-requires : tie.Need-letters-agree-requires
+letters-agree-requires c κs = search needs
 
 unwritten-requires-4 : tie.Need-unwritten-requires-4
 unwritten-requires-4 c κs = search needs
 
 returns-4 : tie.Need-returns-4
-returns-4 c = search mic-e-out
+unfolding micEInRange
+returns-4 c = search judged
+
+write-destination-requires : tie.Need-write-destination-requires
+write-destination-requires c κs = search needs
+
+unwritten-requires-5 : tie.Need-unwritten-requires-5
+unwritten-requires-5 c κs = search needs
+
+returns-5 : tie.Need-returns-5
+returns-5 c = search mic-e-out
 
 write-report-requires : tie.Need-write-report-requires
 write-report-requires c κs = search destination-is
 
-returns-5 : tie.Need-returns-5
-returns-5 c = search mic-e-written
+returns-6 : tie.Need-returns-6
+returns-6 c = search mic-e-written
 
 pub write-mic-e-spec : {M : Type 1} → statement M
 write-mic-e-spec =
@@ -56,11 +66,14 @@ write-mic-e-spec =
     returns
     unwritten-requires-2
     returns-2
-    letters-agree-requires
+    is-blank-requires-2
     unwritten-requires-3
     returns-3
-    write-destination-requires
+    letters-agree-requires
     unwritten-requires-4
     returns-4
+    write-destination-requires
+    unwritten-requires-5
+    returns-5
     write-report-requires
-    returns-5)
+    returns-6)

@@ -32,9 +32,19 @@ returns-3 : tie.Need-returns-3
 unfolding unknownInRange
 returns-3 c = search judged
 
+is-blank-requires : tie.Need-is-blank-requires
+is-blank-requires c κs = search needs
+
+unwritten-requires-4 : tie.Need-unwritten-requires-4
+unwritten-requires-4 c κs = search needs
+
 returns-4 : tie.Need-returns-4
 unfolding unknownInRange
-returns-4 c = search (judged, nothing-written)
+returns-4 c = search judged
+
+returns-5 : tie.Need-returns-5
+unfolding unknownInRange
+returns-5 c = search (judged, nothing-written)
 
 pub write-unknown-spec : {M : Type 1} → statement M
 write-unknown-spec =
@@ -48,4 +58,7 @@ write-unknown-spec =
     is-no-report-requires
     unwritten-requires-3
     returns-3
-    returns-4)
+    is-blank-requires
+    unwritten-requires-4
+    returns-4
+    returns-5)
