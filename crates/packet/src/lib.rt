@@ -183,7 +183,9 @@ pub fn write(r: Record, framed: bool, comment: &[u8], out: &mut [u8]) -> buffer:
     ensures { λ a. ⌜ ends a (now (out .exit)) ≡ cond framed (wrote (frameRefusal r (now (comment .entry))) (frameBytes r (now (comment .entry))) (now (out .entry))) (wrote (textRefusal r (now (comment .entry))) (textBytes r (now (comment .entry))) (now (out .entry))) ⌝ }
 {
     let b = body::write(r.body, r.header.to);
-    let header = header_to(r.header, b.to);
+    let mut header = r.header;
+    let to = b.to;
+    header.to = to;
     if b.refusal != 0 {
         return refused_beside(header, b.refusal);
     }

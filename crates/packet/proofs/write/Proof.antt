@@ -7,9 +7,6 @@ use Rattle.packet.proofs.write.Tie as tie
 write-requires : tie.Need-write-requires
 write-requires c κs = search needs
 
-header-to-requires : tie.Need-header-to-requires
-header-to-requires c κs = search needs
-
 refused-beside-requires : tie.Need-refused-beside-requires
 refused-beside-requires c κs = search needs
 
@@ -30,7 +27,6 @@ write-spec =
     tie.close
     (tie.spec
     write-requires
-    header-to-requires
     refused-beside-requires
     returns
     write-behind-requires
