@@ -11,9 +11,11 @@ use Rattle.time.specs.declared.TimeRead.the-variants.{Read, Refused}
 use Rattle.time.specs.Time.{noTime, timeBytes, readTime, timeNumber}
 use Rattle.body.specs.declared.TimeAt.{TimeAt}
 
+-- a time, or none where none is asked for
 abbrev pub timeFound : Time → ℕ → TimeAt
 timeFound t behind = record { behind = behind; time = t; refusal = 0 }
 
+-- a refusal, and no time
 abbrev pub timeRefused : ℕ → TimeAt
 timeRefused n = record { behind = 0; time = noTime; refusal = n }
 
@@ -22,7 +24,7 @@ unfoldable pub timeBehind : TimeRead → ℕ → TimeAt
 timeBehind (Read t) behind = timeFound t behind
 timeBehind Refused behind = timeRefused (timeNumber Refused)
 
--- from a place on
+-- the time from a place on, where there is to be one: 10, then 17
 unfoldable pub timeAt : List ℕ → ℕ → Bool → TimeAt
 timeAt s at timed =
     cond timed
