@@ -16,7 +16,7 @@ use Rattle.numbers.specs.Sign.{isOn}
 use Rattle.time.specs.declared.Time.{Time}
 use Rattle.time.specs.declared.TimeRead.{TimeRead}
 use Rattle.time.specs.declared.TimeRead.the-variants as time
-use Rattle.time.specs.Time.{noTime, isNoTime, timeBytes, readTime, timeInRange}
+use Rattle.time.specs.Time.{noTime, isNoTime, timeBytes, readTime, timeNumber, timeInRange}
 use Rattle.time.proofs.Theorems.{read-in-range, no-time-in-range}
 use Rattle.lonlat.specs.Angle.{mostLatitude, mostLongitude, widthOf}
 use Rattle.position.specs.Reach.{inReach}
@@ -37,7 +37,7 @@ use Rattle.body.specs.declared.Kind.the-variants.{Position, MicE}
 use Rattle.body.specs.declared.Opening.{Opening}
 use Rattle.body.specs.declared.Opening.the-variants.{Unported, Positioned, Mic, Other}
 use Rattle.body.specs.declared.BodyRead.{BodyRead}
-use Rattle.body.specs.Body.{noReport, noComment, blankBody, bodyAccepted, bodyRefused, openingOf, commentFrom, positionBody, positionFrom, behindTime, timedFrom, positionedFrom, reportBody, micEBody, bodyAfter, readBody}
+use Rattle.body.specs.Body.{noReport, noComment, blankBody, bodyAccepted, bodyRefused, openingOf, commentFrom, positionBody, positionFrom, timeRefused, timeBehind, timeAt, behindTime, positionedFrom, reportBody, micEBody, bodyAfter, readBody}
 use Rattle.body.specs.Range.{isNoLetter, isNoPlace, isNoReport, isShort, motionInRange, unknownInRange, positionInRange, micEInRange, inRangeAs, bodyInRange, exceptedAs, isExcepted}
 
 no-report : isNoReport noReport ≡ true
@@ -104,16 +104,18 @@ module _ (s : List ℕ) (at : ℕ) (start : at ≤ length s) where
 -- ---- a time before it
 
 module _ (s : List ℕ) (at : ℕ) (messaging : Bool) where
-  behind-found : (x : TimeRead) → readTime (take timeBytes (drop at s)) ≡ x → at + timeBytes ≤ length s → Found (length s) (behindTime x s (at + timeBytes) messaging)
-  unfolding behindTime
+  behind-found : (x : TimeRead) → readTime (take timeBytes (drop at s)) ≡ x → at + timeBytes ≤ length s → Found (length s) (behindTime (timeBehind x (at + timeBytes)) s messaging)
+  unfolding timeBehind behindTime timeNumber
   behind-found (time.Read t) e h = position-found s (at + timeBytes) h messaging t (read-in-range (take timeBytes (drop at s)) t e)
   behind-found time.Refused e h = blank-found _ (length s)
 
-  timed-found : at ≤ length s → Found (length s) (timedFrom s at messaging)
-  unfolding timedFrom
-  timed-found start = go (ltb (length s - at) timeBytes) refl
+  positioned-found : (timed : Bool) → at ≤ length s → Found (length s) (positionedFrom s at messaging timed)
+  unfolding positionedFrom timeAt behindTime
+  positioned-found false start = position-found s at start messaging noTime no-time-in-range
+  positioned-found true start = go (ltb (length s - at) timeBytes) refl
     where
-      go : (b : Bool) → ltb (length s - at) timeBytes ≡ b → Found (length s) (cond b (bodyRefused 10) (behindTime (readTime (take timeBytes (drop at s))) s (at + timeBytes) messaging))
+      go : (b : Bool) → ltb (length s - at) timeBytes ≡ b
+          → Found (length s) (behindTime (cond b (timeRefused 10) (timeBehind (readTime (take timeBytes (drop at s))) (at + timeBytes))) s messaging)
       go true e = blank-found _ (length s)
       go false e = behind-found (readTime (take timeBytes (drop at s))) refl (omega (arith, ltb-false (length s - at) timeBytes e))
 
@@ -156,10 +158,9 @@ module _ (s : List ℕ) (at : ℕ) (start : at ≤ length s) where
   -- ---- any body
 
   after-found : (o : Opening) (to : Callsign) → Found (length s) (bodyAfter o to s at)
-  unfolding bodyAfter positionedFrom
+  unfolding bodyAfter
   after-found Unported to = blank-found _ (length s)
-  after-found (Positioned messaging false) to = position-found s at start messaging noTime no-time-in-range
-  after-found (Positioned messaging true) to = timed-found s at messaging start
+  after-found (Positioned messaging timed) to = positioned-found s at messaging timed start
   after-found (Mic current) to = mic-e-found current (callPart to) (readDestination (callPart to)) refl
   after-found Other to = blank-found _ (length s)
 

@@ -31,7 +31,7 @@ use Rattle.body.specs.declared.Kind.the-variants.{Position}
 use Rattle.body.specs.declared.Opening.the-variants.{Positioned}
 use Rattle.body.specs.declared.Report.{Report}
 use Rattle.body.specs.declared.Body.{Body}
-use Rattle.body.specs.Body.{noReport, bodyAccepted, openingOf, commentFrom, positionBody, positionFrom, behindTime, timedFrom, positionedFrom, bodyAfter, readBody}
+use Rattle.body.specs.Body.{noReport, bodyAccepted, openingOf, commentFrom, positionBody, positionFrom, timeBehind, timeAt, behindTime, positionedFrom, bodyAfter, readBody}
 use Rattle.body.specs.Range.{isNoReport, positionInRange, inRangeAs, bodyInRange}
 use Rattle.body.specs.Written.{positionType, positionBytes, bytesAs, bodyBytes}
 
@@ -133,7 +133,7 @@ module _ (b : Body) (to : Callsign) (e : positionInRange b ≡ true) (before com
   back = record { kind = Position; place = cutPlace (b .place); time = b .time; messaging = b .messaging; report = noReport; comment = record { at = length before + (20 + length its-time); len = length comment } }
 
   untimed-back : isNoTime (b .time) ≡ true → readBody to input (length before) ≡ bodyAccepted back
-  unfolding readBody bodyAfter positionedFrom positionType
+  unfolding readBody bodyAfter positionedFrom timeAt behindTime positionType
   untimed-back n =
       let none : its-time ≡ [] = no-time-no-bytes (b .time) n in
       let short : length its-time ≡ 0 = ap length none in
@@ -149,7 +149,7 @@ module _ (b : Body) (to : Callsign) (e : positionInRange b ≡ true) (before com
       )
 
   timed-back : isTime (b .time) ≡ true → readBody to input (length before) ≡ bodyAccepted back
-  unfolding readBody bodyAfter positionedFrom positionType timedFrom behindTime
+  unfolding readBody bodyAfter positionedFrom timeAt timeBehind behindTime positionType
   timed-back i =
       let seven : length its-time ≡ timeBytes = a-time-seven-bytes (b .time) i in
       let at : length before + 1 + timeBytes + 19 ≡ length before + (20 + length its-time) = omega (arith, seven) in

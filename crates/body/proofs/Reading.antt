@@ -7,7 +7,7 @@ use Prim.Native.Nat.{ℕ, _+_, _-_, _^_, _<_, _≤_}
 use mir.Val.{Fits}
 use mir.Syntax.{w64}
 use native.Mathlib.Omega.{arith}
-use lib.Dec.{eqb, ltb}
+use lib.Dec.{ltb}
 use borrow.Author.Tests.{eq-eqb, ne-eqb, lt-ltb, le-ltb, ltb-false, not-true, not-false}
 use borrow.Rule.Slice.PartAt.{part-to-end}
 use lib.ListN.{length, take, drop, getD, length-take, length-drop}
@@ -37,8 +37,7 @@ use Rattle.body.specs.declared.Opening.the-variants.{Unported, Positione
 use Rattle.body.specs.declared.Body.{Body}
 use Rattle.body.specs.declared.BodyRead.{BodyRead}
 use Rattle.body.specs.declared.TimeAt.{TimeAt}
-use Rattle.body.specs.Private.{timeFound, timeRefused, timeBehind, timeAt}
-use Rattle.body.specs.Body.{noReport, blankBody, bodyAccepted, bodyRefused, openingOf, commentFrom, positionBody, positionFrom, behindTime, timedFrom, positionedFrom, reportBody, micEBody, bodyAfter, readBody}
+use Rattle.body.specs.Body.{noReport, blankBody, bodyAccepted, bodyRefused, openingOf, commentFrom, positionBody, positionFrom, timeFound, timeRefused, timeBehind, timeAt, behindTime, positionedFrom, reportBody, micEBody, bodyAfter, readBody}
 
 -- ---- the time of a position, if it is to have one
 
@@ -70,26 +69,6 @@ module _ (s : List ℕ) (at : ℕ) (timed : Bool) (r : TimeAt) where
 
 -- ---- a position, behind what was found of its time
 
-unfoldable behindFound : TimeAt → List ℕ → Bool → BodyRead
-behindFound x s messaging = cond (eqb (x .refusal) 0) (positionFrom s (x .behind) messaging (x .time)) (bodyRefused (x .refusal))
-
-module _ (s : List ℕ) (at : ℕ) (messaging : Bool) where
-  read-is : (x : TimeRead) → behindTime x s (at + timeBytes) messaging ≡ behindFound (timeBehind x (at + timeBytes)) s messaging
-  unfolding behindTime timeBehind behindFound timeNumber
-  read-is (time.Read t) = refl
-  read-is time.Refused = refl
-
-  positioned-is : (timed : Bool) → positionedFrom s at messaging timed ≡ behindFound (timeAt s at timed) s messaging
-  unfolding positionedFrom timedFrom timeAt behindFound
-  positioned-is false = refl
-  positioned-is true = go (ltb (length s - at) timeBytes)
-    where
-      go : (b : Bool)
-          → cond b (bodyRefused 10) (behindTime (readTime (take timeBytes (drop at s))) s (at + timeBytes) messaging)
-          ≡ behindFound (cond b (timeRefused 10) (timeBehind (readTime (take timeBytes (drop at s))) (at + timeBytes))) s messaging
-      go true = refl
-      go false = read-is (readTime (take timeBytes (drop at s)))
-
 -- a time that was found leaves a place in the input
 behind-within : (s : List ℕ) (at : ℕ) (timed : Bool) → at ≤ length s → timeAt s at timed .refusal ≡ 0 → timeAt s at timed .behind ≤ length s
 unfolding timeAt timeBehind timeNumber
@@ -105,16 +84,16 @@ behind-within s at true h z = go (ltb (length s - at) timeBytes) refl (readTime 
 -- x is what was found of the time
 module _ (s : List ℕ) (at : ℕ) (messaging timed : Bool) (x : TimeAt) (q : x ≡ timeAt s at timed) where
   pub time-unfit : (r : BodyRead) → (x .refusal ≡ 0 → ⊥) → r ≡ bodyRefused (x .refusal) → r ≡ positionedFrom s at messaging timed
-  unfolding behindFound
-  time-unfit r z w = w ∙ sym (positioned-is s at messaging timed ∙ rw (← q, ne-eqb (x .refusal) 0 z))
+  unfolding positionedFrom behindTime
+  time-unfit r z w = w ∙ rw (← q, ne-eqb (x .refusal) 0 z)
 
   module _ (y : x .refusal ≡ 0) where
     pub start-within : at ≤ length s → x .behind ≤ length s
     start-within h = rw q (behind-within s at timed h (ap (λ (v : TimeAt). v .refusal) (sym q) ∙ y))
 
     behind-is : positionedFrom s at messaging timed ≡ positionFrom s (x .behind) messaging (x .time)
-    unfolding behindFound
-    behind-is = positioned-is s at messaging timed ∙ rw (← q, eq-eqb (x .refusal) 0 y)
+    unfolding positionedFrom behindTime
+    behind-is = rw (← q, eq-eqb (x .refusal) 0 y)
 
     -- p is the place that stands behind it
     module _ (p : PositionRead) (o : p ≡ readPosition (take (length s - x .behind) (drop (x .behind) s))) where

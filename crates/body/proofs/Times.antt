@@ -28,7 +28,7 @@ use Rattle.body.specs.declared.Comment.{Comment}
 use Rattle.body.specs.declared.Opening.{Opening}
 use Rattle.body.specs.declared.Opening.the-variants.{Unported, Positioned, Mic, Other}
 use Rattle.body.specs.declared.BodyRead.{BodyRead}
-use Rattle.body.specs.Body.{noReport, blankBody, bodyAccepted, bodyRefused, openingOf, commentFrom, positionBody, positionFrom, behindTime, timedFrom, positionedFrom, reportBody, micEBody, bodyAfter, readBody}
+use Rattle.body.specs.Body.{noReport, blankBody, bodyAccepted, bodyRefused, openingOf, commentFrom, positionBody, positionFrom, timeRefused, timeBehind, timeAt, behindTime, positionedFrom, reportBody, micEBody, bodyAfter, readBody}
 
 -- behind the type byte stand the bytes from the place `at` on
 module _ (s : List ℕ) (at : ℕ) where
@@ -48,16 +48,17 @@ module _ (s : List ℕ) (at : ℕ) where
       go true = h
       go false = blank-time (p .refusal)
 
-  behind-time : (messaging : Bool) (x : TimeRead) → readTime (take timeBytes (drop at s)) ≡ x → TimeOf (behindTime x s (at + timeBytes) messaging)
-  unfolding behindTime positionFrom timeNumber
+  behind-time : (messaging : Bool) (x : TimeRead) → readTime (take timeBytes (drop at s)) ≡ x → TimeOf (behindTime (timeBehind x (at + timeBytes)) s messaging)
+  unfolding timeBehind behindTime positionFrom timeNumber
   behind-time messaging (time.Read t) e = position-time (readPosition (drop (at + timeBytes) s)) messaging t (commentFrom s (at + timeBytes + fixedBytes)) (inr e)
   behind-time messaging time.Refused e = blank-time 17
 
-  timed-time : (messaging : Bool) → TimeOf (timedFrom s at messaging)
-  unfolding timedFrom
-  timed-time messaging = go (ltb (length s - at) timeBytes)
+  positioned-time : (messaging timed : Bool) → TimeOf (positionedFrom s at messaging timed)
+  unfolding positionedFrom timeAt behindTime positionFrom
+  positioned-time messaging false = position-time (readPosition (drop at s)) messaging noTime (commentFrom s (at + fixedBytes)) (inl refl)
+  positioned-time messaging true = go (ltb (length s - at) timeBytes)
     where
-      go : (b : Bool) → TimeOf (cond b (bodyRefused 10) (behindTime (readTime (take timeBytes (drop at s))) s (at + timeBytes) messaging))
+      go : (b : Bool) → TimeOf (behindTime (cond b (timeRefused 10) (timeBehind (readTime (take timeBytes (drop at s))) (at + timeBytes))) s messaging)
       go true = blank-time 10
       go false = behind-time messaging (readTime (take timeBytes (drop at s))) refl
 
@@ -72,10 +73,9 @@ module _ (s : List ℕ) (at : ℕ) where
   mic-e-time destination.Refused info current comment = blank-time 11
 
   after-time : (o : Opening) (to : Callsign) → TimeOf (bodyAfter o to s at)
-  unfolding bodyAfter positionedFrom positionFrom
+  unfolding bodyAfter
   after-time Unported to = blank-time 7
-  after-time (Positioned messaging false) to = position-time (readPosition (drop at s)) messaging noTime (commentFrom s (at + fixedBytes)) (inl refl)
-  after-time (Positioned messaging true) to = timed-time messaging
+  after-time (Positioned messaging timed) to = positioned-time messaging timed
   after-time (Mic current) to = mic-e-time (readDestination (callPart to)) (drop at s) current (commentFrom s (at + 8))
   after-time Other to = blank-time 0
 

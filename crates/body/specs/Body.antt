@@ -25,6 +25,7 @@ use Rattle.mic_e.specs.Destination.{readDestination, destinationNumber}
 use Rattle.mic_e.specs.Information.{readInformation, informationNumber}
 use Rattle.body.specs.declared.Kind.the-variants.{Unknown, Position, MicE}
 use Rattle.body.specs.declared.Opening.{Opening}
+use Rattle.body.specs.declared.TimeAt.{TimeAt}
 use Rattle.body.specs.declared.Opening.the-variants.{Unported, Positioned, Mic, Other}
 use Rattle.body.specs.declared.Report.{Report}
 use Rattle.body.specs.declared.Comment.{Comment}
@@ -95,21 +96,33 @@ positionBody p messaging time comment =
 unfoldable pub positionFrom : List ℕ → ℕ → Bool → Time → BodyRead
 positionFrom s at messaging time = positionBody (readPosition (drop at s)) messaging time (commentFrom s (at + fixedBytes))
 
--- "17 for a bad time ..; 7, 10, 8, 9 follow": of a time that was read, the position from the place behind it on
-unfoldable pub behindTime : TimeRead → List ℕ → ℕ → Bool → BodyRead
-behindTime (time.Read t) s at messaging = positionFrom s at messaging t
-behindTime time.Refused s at messaging = bodyRefused (timeNumber time.Refused)
+-- a time, or none where none is asked for, and the place behind it
+abbrev pub timeFound : Time → ℕ → TimeAt
+timeFound t behind = record { behind = behind; time = t; refusal = 0 }
 
--- a time from a place on, and the position behind it; "10 when the seven bytes are missing stands before" 17
-unfoldable pub timedFrom : List ℕ → ℕ → Bool → BodyRead
-timedFrom s at messaging =
-    cond (ltb (length s - at) timeBytes)
-    (bodyRefused 10)
-    (behindTime (readTime (take timeBytes (drop at s))) s (at + timeBytes) messaging)
+-- no time, by that refusal
+abbrev pub timeRefused : ℕ → TimeAt
+timeRefused n = record { behind = 0; time = noTime; refusal = n }
 
--- with a time, or without one
+-- "17 for a bad time"
+unfoldable pub timeBehind : TimeRead → ℕ → TimeAt
+timeBehind (time.Read t) behind = timeFound t behind
+timeBehind time.Refused behind = timeRefused (timeNumber time.Refused)
+
+-- the time from a place on, where there is to be one: "10 when the seven bytes are missing stands before" 17
+unfoldable pub timeAt : List ℕ → ℕ → Bool → TimeAt
+timeAt s at timed =
+    cond timed
+    (cond (ltb (length s - at) timeBytes) (timeRefused 10) (timeBehind (readTime (take timeBytes (drop at s))) (at + timeBytes)))
+    (timeFound noTime at)
+
+-- "and 7, 10, 8, 9 follow": the position behind a time that was found
+unfoldable pub behindTime : TimeAt → List ℕ → Bool → BodyRead
+behindTime x s messaging = cond (eqb (x .refusal) 0) (positionFrom s (x .behind) messaging (x .time)) (bodyRefused (x .refusal))
+
+-- a position from a place on, with a time before it or without one
 unfoldable pub positionedFrom : List ℕ → ℕ → Bool → Bool → BodyRead
-positionedFrom s at messaging timed = cond timed (timedFrom s at messaging) (positionFrom s at messaging noTime)
+positionedFrom s at messaging timed = behindTime (timeAt s at timed) s messaging
 
 -- a Mic-E report, of a destination and of information that was read; its letters are those that the destination says
 unfoldable pub reportBody : Destination → InformationRead → Bool → Comment → BodyRead

@@ -1,4 +1,3 @@
 pub mod Body
 pub mod Range
 pub mod Written
-pub mod Private

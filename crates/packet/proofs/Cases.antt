@@ -23,7 +23,7 @@ use Rattle.lonlat.specs.Longitude.{longitudeWith, longitudeIn, readLongitude, e
 use Rattle.time.specs.Time.{noTime, isPresent, timeText}
 use Rattle.position.specs.Position.{isNumeric, isUncompressed, withLongitude, withLatitude, readPosition, positionText}
 use Rattle.body.specs.declared.Kind.the-variants.{Position}
-use Rattle.body.specs.Body.{noReport, openingOf, commentFrom, positionBody, positionFrom, positionedFrom, bodyAfter, readBody}
+use Rattle.body.specs.Body.{noReport, openingOf, commentFrom, positionBody, positionFrom, timeAt, behindTime, positionedFrom, bodyAfter, readBody}
 use Rattle.body.specs.Written.{toAs, writtenTo, positionType, positionBytes, bytesAs, bodyBytes}
 use Rattle.packet.specs.declared.Record.{Record}
 use Rattle.packet.specs.Packet.{keptTo, recordOf, packetOf, packetAfter, readAnyText, readText}
@@ -52,7 +52,7 @@ P11-record =
 
 pub P11-read : readText P11-line ≡ record { refusal = 0; «record» = P11-record }
 unfolding
-    readText readAnyText packetAfter packetOf recordOf keptTo readBody openingOf bodyAfter positionedFrom positionFrom positionBody commentFrom readHeaderText
+    readText readAnyText packetAfter packetOf recordOf keptTo readBody openingOf bodyAfter positionedFrom timeAt behindTime positionFrom positionBody commentFrom readHeaderText
     readBefore readRoute withHops starsOf pathOf headerOf unlessRefused headerAccepted firstOf othersOf fields onFirst textHops hopThen
     before readHop isQ hopOf readCall readUnstarred parted callAccepted indexOf utf8 characters after within isZero made
     joined padTo carried anyHeard readPosition isUncompressed isNumeric withLatitude withLongitude
