@@ -15,6 +15,7 @@ use mic_e::Course;
 use mic_e::LongitudeField;
 use mic_e::Motion;
 use mic_e::Speed;
+use std::num::wrapping_sub_u8;
 
 // What a list is asked for: speed and course; or a longitude's size, and whether the offset is 100.
 enum Target {
@@ -67,13 +68,14 @@ fn motion_at(s: u32, c: u32, a: u8, b: u8, z: u32) -> Third
 fn third_motion(s: u32, c: u32, a: u8, b: u8) -> Third
     ensures { λ r. ⌜ fieldsOf a b r ≡ cell (hits (Target.Moving s c)) a b ⌝ }
 {
-    if b < 28 {
+    let second = wrapping_sub_u8(b, 28) as u32;
+    if 227 < second {
         return Third::Nowhere;
     }
     if 360 < c {
         return Third::Nowhere;
     }
-    let e = 100 * (((b as u32) - 28) % 10);
+    let e = 100 * (second % 10);
     if e <= c {
         return motion_at(s, c, a, b, c - e);
     }
@@ -148,13 +150,14 @@ fn ten_from(gap: u32) -> Span
 fn span_motion(s: u32, c: u32, a: u8) -> Span
     ensures { λ r. ⌜ Spans (hits (Target.Moving s c)) a r ⌝ }
 {
-    if a < 28 {
+    let first = wrapping_sub_u8(a, 28) as u32;
+    if 227 < first {
         return ten_from(23);
     }
     if 799 < s {
         return ten_from(23);
     }
-    let low = 10 * ((a as u32) - 28);
+    let low = 10 * first;
     if low <= s {
         return ten_from(s - low);
     }

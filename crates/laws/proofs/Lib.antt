@@ -5,4 +5,5 @@ pub mod Places
 pub mod Search
 pub mod Each
 pub mod Every
+pub mod Classes
 pub mod Unique

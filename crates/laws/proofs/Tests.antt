@@ -2,10 +2,10 @@
 -- Assumes nothing.
 use mathlib.Core.Path.{_≡_, refl}
 use mathlib.Core.Logic.{_⊎_, inl, inr}
-use mathlib.Core.Bool.{Bool, true, false, cond, _&&_, _||_, false≢true, true≢false}
-use Prim.Native.Nat.{ℕ, _≤_}
+use mathlib.Core.Bool.{Bool, true, false, cond, _&&_, _||_, and-true, false≢true, true≢false}
+use Prim.Native.Nat.{ℕ, _<_, _≤_}
 use lib.Dec.{leb}
-use borrow.Author.Tests.{leb-true, le-leb}
+use borrow.Author.Tests.{leb-true, leb-false, le-leb}
 use Rattle.laws.specs.Bytes.{within}
 
 pub bool-cases : (b : Bool) → (b ≡ true) ⊎ (b ≡ false)
@@ -63,3 +63,8 @@ within-high lo hi b e = leb-true b hi (and-second (leb lo b) (leb b hi) e)
 pub within-yes : (lo hi b : ℕ) → lo ≤ b → b ≤ hi → within lo hi b ≡ true
 unfolding within
 within-yes lo hi b h k = rw (le-leb lo b h, le-leb b hi k)
+
+-- not in a class, and not above it
+pub within-below : (lo hi b : ℕ) → within lo hi b ≡ false → b ≤ hi → b < lo
+unfolding within
+within-below lo hi b e k = leb-false lo b (rw (le-leb b hi k, and-true (leb lo b)) at e)

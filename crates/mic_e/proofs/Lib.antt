@@ -1,5 +1,5 @@
 pub mod Turn
-pub mod Tests
+pub mod Offset
 pub mod Range
 pub mod Messages
 pub mod MotionFacts

@@ -23,6 +23,10 @@ lessIf-split k v =
 pub lessIf-le : (k v : ℕ) → lessIf k v ≤ v
 lessIf-le k v = ⊎-elim (λ e. omega arith) (λ e. omega arith) (lessIf-split k v)
 
+-- m is what is left of v
+pub lessIf-top : (top m k v : ℕ) → m ≡ lessIf k v → v ≤ top → m ≤ top
+lessIf-top top m k v e h = omega (arith, lessIf-le k v)
+
 pub wrapped-plain : (v : ℕ) → v < 180 → wrapped v ≡ v
 unfolding wrapped
 wrapped-plain v h = rw (lt-ltb v 180 h)
@@ -44,13 +48,14 @@ wrapped-past v h =
     let k : 190 ≤ v = omega arith in
     rw (le-ltb v 180 l, le-ltb v 190 k, le-ltb v 200 h)
 
-pub offset-most : (hundred : Bool) → offsetOf hundred ≤ 100
+-- o is an offset
+pub offset-top : (o : ℕ) (hundred : Bool) → o ≡ offsetOf hundred → o ≤ 100
 unfolding offsetOf
-offset-most true = omega arith
-offset-most false = omega arith
+offset-top o true e = omega arith
+offset-top o false e = omega arith
 
 -- one of the four cases, and so never more
-pub wrapped-le : (v : ℕ) → wrapped v ≤ v
+wrapped-le : (v : ℕ) → wrapped v ≤ v
 unfolding wrapped
 wrapped-le v = go (ltb v 180) (ltb v 190) (ltb v 200)
   where
@@ -59,3 +64,6 @@ wrapped-le v = go (ltb v 180) (ltb v 190) (ltb v 200)
     go false true w = omega arith
     go false false true = omega arith
     go false false false = omega arith
+
+pub wrapped-top : (top d v : ℕ) → d ≡ wrapped v → v ≤ top → d ≤ top
+wrapped-top top d v e h = omega (arith, wrapped-le v)

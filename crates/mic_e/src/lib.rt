@@ -5,7 +5,7 @@ ghost use mathlib.Core.Bool.{false, cond};
 ghost use Prim.Native.Nat.{_+_, _≤_, _<_};
 ghost use lib.IntN.{natAbs};
 ghost use lib.ListN.{length, getD};
-ghost use Rattle.laws.specs.Bytes.{capitalN, capitalS, within};
+ghost use Rattle.laws.specs.Bytes.{capitalN, capitalS};
 ghost use Rattle.buffer.specs.Wrote.{ends, wrote};
 ghost use Rattle.lonlat.specs.Latitude.{readLatitude};
 ghost use Rattle.lonlat.specs.Angle.{mostLongitude};
@@ -23,6 +23,7 @@ use lonlat::LatitudeRead;
 use lonlat::Longitude;
 use lonlat::LongitudeMade;
 use numbers::Sides;
+use std::num::wrapping_sub_u8;
 
 // A speed in knots, at most 799.
 #[repr(C)]
@@ -133,27 +134,28 @@ fn less_if(k: u32, v: u32) -> u32
     if k <= v { v - k } else { v }
 }
 
-// The speed and course of three bytes.
+// The speed and course of three bytes, the fourth to the sixth of the information. A byte below 28, less 28, wraps to more
+// than 227.
 pub fn read_motion(a: u8, b: u8, c: u8) -> Motion
     ensures { λ r. ⌜ r ≡ readMotion a b c ⌝ }
 {
-    if a < 28 {
+    let fourth = wrapping_sub_u8(a, 28) as u32;
+    if 227 < fourth {
         return Motion::Refused;
     }
-    if b < 28 {
+    let fifth = wrapping_sub_u8(b, 28) as u32;
+    if 227 < fifth {
         return Motion::Refused;
     }
-    if c < 28 {
+    let sixth = wrapping_sub_u8(c, 28) as u32;
+    if 227 < sixth {
         return Motion::Refused;
     }
-    let x = (a as u32) - 28;
-    let y = (b as u32) - 28;
-    let z = (c as u32) - 28;
-    let speed = less_if(800, 10 * x + y / 10);
+    let speed = less_if(800, 10 * fourth + fifth / 10);
     if 799 < speed {
         return Motion::Refused;
     }
-    let course = less_if(400, 100 * (y % 10) + z);
+    let course = less_if(400, 100 * (fifth % 10) + sixth);
     if 360 < course {
         return Motion::Refused;
     }
@@ -186,22 +188,23 @@ fn wrap(v: u32) -> u32
 pub fn read_longitude(hundred: bool, west: bool, a: u8, b: u8, c: u8) -> LongitudeField
     ensures { λ r. ⌜ r ≡ readLongitude hundred west a b c ⌝ }
 {
-    if a < 28 {
+    let degrees = wrapping_sub_u8(a, 28) as u32;
+    if 227 < degrees {
         return LongitudeField::Refused;
     }
-    if b < 28 {
+    let minutes = wrapping_sub_u8(b, 28) as u32;
+    if 227 < minutes {
         return LongitudeField::Refused;
     }
-    if c < 28 {
+    let hundredths = wrapping_sub_u8(c, 28) as u32;
+    if 227 < hundredths {
         return LongitudeField::Refused;
     }
-    let x = (a as u32) - 28 + offset_of(hundred);
-    if 255 < x {
+    let with_offset = degrees + offset_of(hundred);
+    if 255 < with_offset {
         return LongitudeField::Refused;
     }
-    let y = (b as u32) - 28;
-    let z = (c as u32) - 28;
-    let size = 6000 * wrap(x) + 100 * less_if(60, y) + z;
+    let size = 6000 * wrap(with_offset) + 100 * less_if(60, minutes) + hundredths;
     let made = lonlat::longitude_of(size, west);
     match made {
         LongitudeMade::Made(longitude) => LongitudeField::Read(longitude),
@@ -286,63 +289,54 @@ fn takes_hundred(d: u32) -> bool
     true
 }
 
-// Whether b is one of the bytes from lo to hi.
-fn between(lo: u8, hi: u8, b: u8) -> bool
-    ensures { λ r. ⌜ r ≡ within lo hi b ⌝ }
-{
-    if lo <= b {
-        return b <= hi;
-    }
-    false
-}
-
-// Whether a character shows a digit or a blank.
+// Whether a character shows a digit or a blank: `0-9`, `A-L`, `P-Z`. A class is tested by the difference from its first byte: wrapped,
+// it is below the class's width for the bytes of the class alone.
 fn is_character(c: u8) -> bool
     ensures { λ r. ⌜ r ≡ isCharacter c ⌝ }
 {
-    if between(b'0', b'9', c) {
+    if wrapping_sub_u8(c, b'0') < 10 {
         return true;
     }
-    if between(b'A', b'L', c) {
+    if wrapping_sub_u8(c, b'A') < 12 {
         return true;
     }
-    between(b'P', b'Z', c)
+    wrapping_sub_u8(c, b'P') < 11
 }
 
-// Whether it may stand among the last three.
+// Whether it may stand among the last three: `A-K` may not.
 fn is_last(c: u8) -> bool
     ensures { λ r. ⌜ r ≡ isLast c ⌝ }
 {
-    if is_character(c) {
-        return !between(b'A', b'K', c);
+    if wrapping_sub_u8(c, b'A') < 11 {
+        return false;
     }
-    false
+    is_character(c)
 }
 
-// The digit or blank that a character shows.
+// The digit or blank that a character shows: `0-9`, `A-J` and `P-Y` are digits.
 fn digit_of(c: u8) -> u8
     ensures { λ r. ⌜ r ≡ digitOf c ⌝ }
 {
-    if between(b'0', b'9', c) {
+    if wrapping_sub_u8(c, b'0') < 10 {
         return c;
     }
-    if between(b'A', b'J', c) {
+    if wrapping_sub_u8(c, b'A') < 10 {
         return c - b'A' + b'0';
     }
-    if between(b'P', b'Y', c) {
+    if wrapping_sub_u8(c, b'P') < 10 {
         return c - b'P' + b'0';
     }
     b' '
 }
 
-// The bit of a character.
+// The bit of a character: `A-K` is custom, `P-Z` standard.
 fn bit_of(c: u8) -> Bit
     ensures { λ r. ⌜ r ≡ bitOf c ⌝ }
 {
-    if between(b'A', b'K', c) {
+    if wrapping_sub_u8(c, b'A') < 11 {
         return Bit::Custom;
     }
-    if between(b'P', b'Z', c) {
+    if wrapping_sub_u8(c, b'P') < 11 {
         return Bit::Standard;
     }
     Bit::Zero
@@ -352,7 +346,7 @@ fn bit_of(c: u8) -> Bit
 fn character_of(bit: Bit, d: u8) -> u8
     ensures { λ r. ⌜ r ≡ characterOf bit d ⌝ }
 {
-    if between(b'0', b'9', d) {
+    if wrapping_sub_u8(d, b'0') < 10 {
         return match bit {
             Bit::Zero => d,
             Bit::Custom => d - b'0' + b'A',
@@ -538,11 +532,11 @@ fn are_characters(call: &[u8]) -> bool
     is_last(call[5])
 }
 
-// The flag of one of the last three characters.
+// The flag of one of the last three characters: `P-Z`.
 fn is_flagged(c: u8) -> bool
     ensures { λ r. ⌜ r ≡ isFlagged c ⌝ }
 {
-    between(b'P', b'Z', c)
+    wrapping_sub_u8(c, b'P') < 11
 }
 
 // The letter of the latitude.

@@ -1,49 +1,71 @@
 -- `read_motion`: the tests that lead to each `return` pick that case of `readMotion`. Assumes nothing.
-use mathlib.Core.Path.{_≡_}
-use Prim.Native.Nat.{ℕ, _+_, _-_, _*_, _/_, _%_, _<_, _≤_}
+use mathlib.Core.Path.{_≡_, _∙_}
+use Prim.Native.Nat.{ℕ, _+_, _*_, _/_, _%_, _^_, _<_, _≤_}
 use borrow.Author.Tests.{le-ltb, lt-ltb}
 use Rattle.laws.proofs.Picks.{picks}
 use Rattle.mic_e.specs.Turn.{lessIf}
 use Rattle.mic_e.specs.Motion.{readMotion, knots, degrees}
 use Rattle.mic_e.specs.declared.Motion.the-variants.{Read, Refused}
+use Rattle.mic_e.proofs.Offset.{taken, less-28, offsets}
 use borrow.Author.Needs.{needs}
 use Rattle.mic_e.proofs.read_motion.Statement.{statement}
 use Rattle.mic_e.proofs.read_motion.Tie as tie
 
-module _ (a b c s : ℕ) (ha : 28 ≤ a) (hb : 28 ≤ b) (hc : 28 ≤ c) (es : s ≡ lessIf 800 (10 * (a - 28) + (b - 28) / 10)) where
-  fast : 799 < s → Refused ≡ readMotion a b c
-  unfolding readMotion knots
-  fast h = simp (← es, le-ltb a 28 ha, le-ltb b 28 hb, le-ltb c 28 hc, lt-ltb 799 s h)
+-- x, y and z are what the subtraction leaves of the bytes, s and d the speed and the course that the code makes of them
+module _ (a b c x y z s : ℕ) (wx : (x + 28) % 2 ^ 8 ≡ a) (hx : x ≤ 227) (wy : (y + 28) % 2 ^ 8 ≡ b) (hy : y ≤ 227) (wz : (z + 28) % 2 ^ 8 ≡ c) (hz : z ≤ 227)
+    (es : s ≡ lessIf 800 (10 * x + y / 10)) where
+  is-speed : s ≡ knots a b
+  unfolding knots
+  is-speed = es ∙ rw (less-28 a x wx hx, less-28 b y wy hy)
 
-  module _ (d : ℕ) (hs : s ≤ 799) (ed : d ≡ lessIf 400 (100 * ((b - 28) % 10) + (c - 28))) where
+  fast : 799 < s → Refused ≡ readMotion a b c
+  unfolding readMotion
+  fast h = simp (← is-speed, taken a x wx hx, taken b y wy hy, taken c z wz hz, lt-ltb 799 s h)
+
+  module _ (d : ℕ) (hs : s ≤ 799) (ed : d ≡ lessIf 400 (100 * (y % 10) + z)) where
+    is-course : d ≡ degrees b c
+    unfolding degrees
+    is-course = ed ∙ rw (less-28 b y wy hy, less-28 c z wz hz)
+
     turned : 360 < d → Refused ≡ readMotion a b c
-    unfolding readMotion knots degrees
-    turned h = simp (← es, ← ed, le-ltb a 28 ha, le-ltb b 28 hb, le-ltb c 28 hc, le-ltb 799 s hs, lt-ltb 360 d h)
+    unfolding readMotion
+    turned h =
+        simp (← is-speed, ← is-course, taken a x wx hx, taken b y wy hy, taken c z wz hz, le-ltb 799 s hs, lt-ltb 360 d h)
 
     moves : d ≤ 360 → Read (record { 0 = s }) (record { 0 = d }) ≡ readMotion a b c
-    unfolding readMotion knots degrees
-    moves h = simp (← es, ← ed, le-ltb a 28 ha, le-ltb b 28 hb, le-ltb c 28 hc, le-ltb 799 s hs, le-ltb 360 d h)
+    unfolding readMotion
+    moves h =
+        simp (← is-speed, ← is-course, taken a x wx hx, taken b y wy hy, taken c z wz hz, le-ltb 799 s hs, le-ltb 360 d h)
+
+wrapping-sub-u8-requires : tie.Need-wrapping-sub-u8-requires
+wrapping-sub-u8-requires c κs = search needs
+
+cast-fourth : tie.Need-cast-fourth
+cast-fourth c = search needs
 
 returns : tie.Need-returns
 unfolding readMotion
-returns c = search picks
+returns c = search (picks, offsets)
+
+wrapping-sub-u8-requires-2 : tie.Need-wrapping-sub-u8-requires-2
+wrapping-sub-u8-requires-2 c κs = search needs
+
+cast-fifth : tie.Need-cast-fifth
+cast-fifth c = search needs
 
 returns-2 : tie.Need-returns-2
 unfolding readMotion
-returns-2 c = search picks
+returns-2 c = search (picks, offsets)
+
+wrapping-sub-u8-requires-3 : tie.Need-wrapping-sub-u8-requires-3
+wrapping-sub-u8-requires-3 c κs = search needs
+
+cast-sixth : tie.Need-cast-sixth
+cast-sixth c = search needs
 
 returns-3 : tie.Need-returns-3
 unfolding readMotion
-returns-3 c = search picks
-
-sub-x : tie.Need-sub-x
-sub-x c = search needs
-
-sub-y : tie.Need-sub-y
-sub-y c = search needs
-
-sub-z : tie.Need-sub-z
-sub-z c = search needs
+returns-3 c = search (picks, offsets)
 
 mul-less-if : tie.Need-mul-less-if
 mul-less-if c = search needs
@@ -76,12 +98,15 @@ pub read-motion-spec : {M : Type 1} → statement M
 read-motion-spec =
     tie.close
     (tie.spec
+    wrapping-sub-u8-requires
+    cast-fourth
     returns
+    wrapping-sub-u8-requires-2
+    cast-fifth
     returns-2
+    wrapping-sub-u8-requires-3
+    cast-sixth
     returns-3
-    sub-x
-    sub-y
-    sub-z
     mul-less-if
     add-less-if
     less-if-requires
