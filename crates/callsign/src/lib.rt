@@ -13,6 +13,7 @@ ghost use Rattle.callsign.specs.Range.{textLen, inRange, isBlankCall, ra
 ghost use Rattle.callsign.specs.Address.{heardOf, lastOf, ssidOf, ssidText, addressRefused, readAddress};
 ghost use Rattle.callsign.specs.Packed.{ssidNumber, upperBits, seventhOf, unwrittenBy, packedAs, writeAddress};
 use numbers::Count;
+use std::num::wrapping_sub_u8;
 
 // A callsign as it is written: call, dash and SSID in `text`, the rest of it zero. Without an SSID there is no dash. The mark says
 // that it was read from a text whose SSID was a lone `0`, which is dropped; nothing that judges or writes a callsign looks at it.
@@ -421,20 +422,19 @@ pub fn ssid(b: u8) -> u8
 pub fn letter_or_digit(c: u8) -> bool
     ensures { λ r. ⌜ r ≡ isLetterOrDigit c ⌝ }
 {
-    ((b'0' <= c) & (c <= b'9')) | ((b'A' <= c) & (c <= b'Z')) | ((b'a' <= c) & (c <= b'z'))
+    (wrapping_sub_u8(c, b'0') < 10)
+        | (wrapping_sub_u8(c, b'A') < 26)
+        | (wrapping_sub_u8(c, b'a') < 26)
 }
 
 // A small letter's capital, and any other byte as it is.
 pub fn capital(c: u8) -> u8
     ensures { λ r. ⌜ r ≡ raised c ⌝ }
 {
-    if c < b'a' {
-        return c;
+    if wrapping_sub_u8(c, b'a') < 26 {
+        return c - 32;
     }
-    if b'z' < c {
-        return c;
-    }
-    c - 32
+    c
 }
 
 // ---- an address read

@@ -12,6 +12,7 @@ ghost use Rattle.numbers.specs.Numbers.{digitOf};
 ghost use Rattle.lonlat.specs.Latitude.{isBlank, keptOf, latitudeIn, readLatitude, blankedPlaces, latitudeText, latitudeRefusal};
 ghost use Rattle.lonlat.specs.Longitude.{longitudeIn, readLongitude, longitudeText, longitudeRefusal};
 use numbers::Number;
+use std::num::wrapping_sub_u8;
 
 // A latitude: signed hundredths of a minute, north positive.
 #[repr(C)]
@@ -54,14 +55,11 @@ fn value(t: &[u8]) -> Size
     let mut v: u32 = 0;
     let mut i: usize = 0;
     while i < t.len() {
-        let b = t[i];
-        if b < b'0' {
+        let digit = wrapping_sub_u8(t[i], b'0');
+        if 9 < digit {
             return Size::NoDigit;
         }
-        if b'9' < b {
-            return Size::NoDigit;
-        }
-        v = 10 * v + ((b - b'0') as u32);
+        v = 10 * v + (digit as u32);
         i += 1;
     }
     Size::Hundredths {

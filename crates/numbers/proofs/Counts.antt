@@ -3,16 +3,17 @@
 use mathlib.Core.Path.{_≡_, refl, sym, _∙_}
 use mathlib.Core.Bool.{Bool, true, false, cond}
 use mathlib.Core.List.{List, [], _∷_, _++_}
-use Prim.Native.Nat.{ℕ, _+_, _-_, _*_, _<_, _≤_}
+use Prim.Native.Nat.{ℕ, _+_, _-_, _*_, _%_, _^_, _<_, _≤_}
 use native.Mathlib.Omega.{arith}
 use lib.Dec.{leb, eqb}
 use borrow.Author.Tests.{le-leb, lt-leb, leb-true, eq-eqb, ne-eqb}
 use lib.ListN.{length, drop, getD, drop-of-length-le}
-use Rattle.laws.specs.Bytes.{dash, digit0, digit9, within, isDigit}
+use Rattle.laws.specs.Bytes.{dash, digit0, digit9, isDigit}
 use Rattle.laws.specs.Lists.{every}
 use Rattle.laws.proofs.Lists.{next}
 use Rattle.laws.proofs.Each.{every-more, every-not, every-end, every-at}
-use Rattle.laws.proofs.Tests.{within-yes, within-low, within-high}
+use Rattle.laws.proofs.Tests.{within-low, within-high}
+use Rattle.laws.proofs.Classes.{in-class, not-in-class, class-place}
 use Rattle.numbers.specs.Sign.{numberOn}
 use Rattle.numbers.specs.Numbers.{numberAfter, numberOf}
 use Rattle.numbers.specs.declared.Count.{Count}
@@ -23,26 +24,26 @@ use Rattle.numbers.specs.Numbers.{countOf, readCount, onSide, readNumber
 
 -- ---- digits alone
 
-pub digit-below : (b : ℕ) → b < digit0 → isDigit b ≡ false
-unfolding within
-digit-below b h = rw (lt-leb digit0 b h)
+-- d is the wrapped difference of a byte b from the digit 0
+module _ (b d : ℕ) (wraps : (d + digit0) % 2 ^ 8 ≡ b) where
+  pub digit-yes : d ≤ 9 → isDigit b ≡ true
+  digit-yes h = in-class digit0 digit9 10 b d wraps (omega arith) (omega arith) (omega arith)
 
-pub digit-above : (b : ℕ) → digit9 < b → isDigit b ≡ false
-unfolding within
-digit-above b h = let l : digit0 ≤ b = omega arith in rw (le-leb digit0 b l, lt-leb b digit9 h)
+  pub digit-no : 9 < d → d < 2 ^ 8 → isDigit b ≡ false
+  digit-no h byte = not-in-class digit0 digit9 10 b d wraps (omega arith) (omega arith) (omega arith) byte
+
+  pub digit-value : d ≤ 9 → d ≡ b - digit0
+  digit-value h = class-place digit0 digit9 10 b d wraps (omega arith) (omega arith) (omega arith)
 
 pub a-digit : (b : ℕ) → isDigit b ≡ true → (digit0 ≤ b) × (b ≤ digit9)
 a-digit b e = (within-low digit0 digit9 b e, within-high digit0 digit9 b e)
 
 module _ (s : List ℕ) (i : ℕ) (e : every isDigit s ≡ every isDigit (drop i s)) where
-  pub below-digit : i < length s → getD s i 0 < digit0 → false ≡ every isDigit s
-  below-digit h k = sym (every-not isDigit 0 s i h (digit-below (getD s i 0) k) e)
+  pub no-digit : (d : ℕ) → (d + digit0) % 2 ^ 8 ≡ getD s i 0 → 9 < d → d < 2 ^ 8 → i < length s → false ≡ every isDigit s
+  no-digit d wraps k byte h = sym (every-not isDigit 0 s i h (digit-no (getD s i 0) d wraps k byte) e)
 
-  pub above-digit : i < length s → digit9 < getD s i 0 → false ≡ every isDigit s
-  above-digit h k = sym (every-not isDigit 0 s i h (digit-above (getD s i 0) k) e)
-
-  pub digit-more : i < length s → digit0 ≤ getD s i 0 → getD s i 0 ≤ digit9 → every isDigit s ≡ every isDigit (drop (i + 1) s)
-  digit-more h k l = every-more isDigit 0 s i h (within-yes digit0 digit9 (getD s i 0) k l) e
+  pub digit-more : (d : ℕ) → (d + digit0) % 2 ^ 8 ≡ getD s i 0 → d ≤ 9 → i < length s → every isDigit s ≡ every isDigit (drop (i + 1) s)
+  digit-more d wraps k h = every-more isDigit 0 s i h (digit-yes (getD s i 0) d wraps k) e
 
   pub digits-all : length s ≤ i → true ≡ every isDigit s
   digits-all h = sym (every-end isDigit s i h e)

@@ -2,12 +2,14 @@
 -- Assumes nothing.
 use mathlib.Core.Path.{_≡_, ap₂}
 use mathlib.Core.List.{[], _∷_}
-use Prim.Native.Nat.{ℕ, _+_, _-_, _/_, _%_, _<_, _≤_}
+use Prim.Native.Nat.{ℕ, _+_, _-_, _/_, _%_, _^_, _<_, _≤_}
 use native.Mathlib.Omega.{arith}
-use borrow.Author.Tests.{lt-ltb, le-ltb, le-leb, lt-leb}
-use Rattle.laws.specs.Bytes.{digit0, digit9, smallA, within}
+use borrow.Author.Tests.{lt-ltb, le-ltb}
+use Rattle.laws.specs.Bytes.{digit0, smallA, within}
+use Rattle.laws.proofs.Classes.{in-class, not-in-class, class-place}
 use Rattle.laws.proofs.Every.{same-below}
 use Rattle.numbers.specs.Numbers.{hexDigit, hexPair, hexValue, smallF}
+use Rattle.numbers.proofs.Counts.{digit-yes, digit-no, digit-value}
 
 module _ (n : ℕ) where
   pub digit-low : n % 16 < 10 → digit0 + n % 16 ≡ hexDigit n
@@ -22,26 +24,23 @@ pub pair-is : (b high low : ℕ) → high ≡ hexDigit (b / 16) → low ≡ hexD
 unfolding hexPair
 pair-is b high low p q = ap₂ (λ (x y : ℕ). x ∷ y ∷ []) p q
 
-module _ (d : ℕ) where
-  pub below-digits : d < digit0 → 16 ≡ hexValue d
-  unfolding hexValue within
-  below-digits h = rw (lt-leb digit0 d h, lt-leb smallA d (omega arith))
+-- d and l are the wrapped differences of a byte b from the digit 0 and from the letter a
+module _ (b d : ℕ) (digit : (d + digit0) % 2 ^ 8 ≡ b) where
+  pub a-digit : d < 10 → d ≡ hexValue b
+  unfolding hexValue
+  a-digit h = rw (digit-yes b d digit (omega arith)) (digit-value b d digit (omega arith))
 
-  pub a-digit : digit0 ≤ d → d ≤ digit9 → d - digit0 ≡ hexValue d
-  unfolding hexValue within
-  a-digit h k = rw (le-leb digit0 d h, le-leb d digit9 k)
+  module _ (h : 10 ≤ d) (byte : d < 2 ^ 8) (l : ℕ) (letter : (l + smallA) % 2 ^ 8 ≡ b) where
+    pub a-letter : l < 6 → l + 10 ≡ hexValue b
+    unfolding hexValue
+    a-letter k =
+        rw (digit-no b d digit (omega arith) byte, in-class smallA smallF 6 b l letter k (omega arith) (omega arith))
+        (omega (arith, class-place smallA smallF 6 b l letter k (omega arith) (omega arith)))
 
-  pub above-digits : digit9 < d → d < smallA → 16 ≡ hexValue d
-  unfolding hexValue within
-  above-digits h k = rw (le-leb digit0 d (omega arith), lt-leb d digit9 h, lt-leb smallA d k)
-
-  pub a-letter : smallA ≤ d → d ≤ smallF → d - smallA + 10 ≡ hexValue d
-  unfolding hexValue within
-  a-letter h k = rw (le-leb digit0 d (omega arith), lt-leb d digit9 (omega arith), le-leb smallA d h, le-leb d smallF k)
-
-  pub above-letters : smallF < d → 16 ≡ hexValue d
-  unfolding hexValue within
-  above-letters h = rw (le-leb digit0 d (omega arith), lt-leb d digit9 (omega arith), le-leb smallA d (omega arith), lt-leb d smallF h)
+    pub no-hex : 6 ≤ l → l < 2 ^ 8 → 16 ≡ hexValue b
+    unfolding hexValue
+    no-hex k short =
+        rw (digit-no b d digit (omega arith) byte, not-in-class smallA smallF 6 b l letter k (omega arith) (omega arith) short)
 
 -- what is written for a number below sixteen reads back
 pub hex-reads-back : (n : ℕ) → n < 16 → hexValue (hexDigit n) ≡ n

@@ -9,6 +9,7 @@ ghost use Rattle.laws.specs.Lists.{every};
 ghost use Rattle.buffer.specs.Filled.{filled, added};
 ghost use Rattle.numbers.specs.Sign.{sidesOf, numberOn, isOn};
 ghost use Rattle.numbers.specs.Numbers.{digits, decimal, countOf, readCount, onSide, readNumber, hexDigit, hexPair, hexValue};
+use std::num::wrapping_sub_u8;
 
 // ---- a sign
 
@@ -82,10 +83,7 @@ fn all_digits(s: &[u8]) -> bool
 {
     let mut i: usize = 0;
     while i < s.len() {
-        if s[i] < b'0' {
-            return false;
-        }
-        if b'9' < s[i] {
+        if 9 < wrapping_sub_u8(s[i], b'0') {
             return false;
         }
         i += 1;
@@ -152,17 +150,13 @@ pub fn read_number(s: &[u8]) -> Number
 pub fn hex_value(d: u8) -> u8
     ensures { λ r. ⌜ r ≡ hexValue d ⌝ }
 {
-    if d < b'0' {
-        return 16;
+    let digit = wrapping_sub_u8(d, b'0');
+    if digit < 10 {
+        return digit;
     }
-    if d <= b'9' {
-        return d - b'0';
-    }
-    if d < b'a' {
-        return 16;
-    }
-    if d <= b'f' {
-        return d - b'a' + 10;
+    let letter = wrapping_sub_u8(d, b'a');
+    if letter < 6 {
+        return letter + 10;
     }
     16
 }

@@ -5,10 +5,9 @@ use mathlib.Core.Bool.{Bool, true, false, not}
 use mathlib.Core.List.{List, [], _∷_}
 use Prim.Native.Nat.{ℕ, _<_, _≤_}
 use native.Mathlib.Omega.{arith}
-use borrow.Author.Tests.{le-leb, lt-ltb, le-ltb, not-true, not-false}
-use lib.Dec.{leb}
+use borrow.Author.Tests.{lt-ltb, le-ltb, not-true, not-false}
 use lib.ListN.{length, take, drop, getD}
-use Rattle.laws.specs.Bytes.{within, isDigit, digit0, digit9}
+use Rattle.laws.specs.Bytes.{within}
 use Rattle.lonlat.specs.Latitude.{readLatitude, latitudeNumber}
 use Rattle.lonlat.specs.Longitude.{readLongitude, longitudeNumber}
 use Rattle.lonlat.specs.declared.Latitude.{Latitude}
@@ -19,10 +18,6 @@ use Rattle.lonlat.specs.declared.LongitudeRead.{LongitudeRead}
 use Rattle.lonlat.specs.declared.LongitudeRead.the-variants as lon
 use Rattle.position.specs.declared.PositionRead.{PositionRead}
 use Rattle.position.specs.Position.{fixedBytes, isNumeric, isUncompressed, refusedPosition, acceptedPosition, withLongitude, withLatitude, readPosition}
-
-pub digit-high : (b : ℕ) → digit0 ≤ b → leb b digit9 ≡ isDigit b
-unfolding within
-digit-high b h = rw (le-leb digit0 b h)
 
 pub first-none : (s : List ℕ) → length s ≡ 0 → false ≡ isUncompressed s
 unfolding isUncompressed isNumeric within

@@ -18,6 +18,7 @@ use lonlat::Latitude;
 use lonlat::LatitudeRead;
 use lonlat::Longitude;
 use lonlat::LongitudeRead;
+use std::num::wrapping_sub_u8;
 
 // Where something is: its angles, how many of their last digits are blank, its symbol, and whether its letters are S and W, also
 // at 0.
@@ -73,10 +74,7 @@ fn refused_position(n: u8) -> PositionRead
 fn digit(b: u8) -> bool
     ensures { λ r. ⌜ r ≡ isDigit b ⌝ }
 {
-    if b < b'0' {
-        return false;
-    }
-    b <= b'9'
+    wrapping_sub_u8(b, b'0') < 10
 }
 
 // Whether b is numeric, taken as a character of Latin-1.

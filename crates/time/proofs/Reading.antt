@@ -3,16 +3,16 @@
 use mathlib.Core.Path.{_≡_, refl, sym, ap, subst, _∙_}
 use mathlib.Core.Bool.{Bool, true, false, cond, _&&_}
 use mathlib.Core.List.{List, [], _∷_}
-use Prim.Native.Nat.{ℕ, _+_, _-_, _*_, _<_, _≤_}
+use Prim.Native.Nat.{ℕ, _+_, _*_, _%_, _^_, _<_, _≤_}
 use native.Mathlib.Omega.{arith}
 use lib.ListN.{length, take, getD}
 use borrow.Author.Tests.{eq-eqb, ne-eqb}
-use Rattle.laws.specs.Bytes.{digit0, digit9, isDigit}
+use Rattle.laws.specs.Bytes.{digit0, isDigit}
 use Rattle.laws.specs.Lists.{every}
 use Rattle.laws.proofs.Lists.{elements-all}
-use Rattle.laws.proofs.Tests.{and-first, and-second, within-yes}
+use Rattle.laws.proofs.Tests.{and-first, and-second}
 use Rattle.numbers.specs.Numbers.{numberAfter, numberOf}
-use Rattle.numbers.proofs.Counts.{digit-below, digit-above}
+use Rattle.numbers.proofs.Counts.{digit-yes, digit-no, digit-value}
 use Rattle.time.specs.declared.Time.{Time}
 use Rattle.time.specs.declared.TimeRead.the-variants.{Read, Refused}
 use Rattle.time.specs.Time.{isTime, timeOf, timeIn, readTime}
@@ -25,23 +25,19 @@ no-pair : (a b : ℕ) → (isDigit a && isDigit b) ≡ false → 100 ≡ pairOf 
 unfolding pairOf
 no-pair a b e = rw e
 
-module _ (tens ones : ℕ) where
-  pub tens-below : tens < digit0 → 100 ≡ pairOf tens ones
-  tens-below h = no-pair tens ones (rw (digit-below tens h))
+-- x and y are the wrapped differences of the two from the digit 0
+module _ (tens ones x : ℕ) (first : (x + digit0) % 2 ^ 8 ≡ tens) where
+  pub no-tens : 9 < x → x < 2 ^ 8 → 100 ≡ pairOf tens ones
+  no-tens h byte = no-pair tens ones (rw (digit-no tens x first h byte))
 
-  pub tens-above : digit9 < tens → 100 ≡ pairOf tens ones
-  tens-above h = no-pair tens ones (rw (digit-above tens h))
+  module _ (y : ℕ) (h : x ≤ 9) (second : (y + digit0) % 2 ^ 8 ≡ ones) where
+    pub no-ones : 9 < y → y < 2 ^ 8 → 100 ≡ pairOf tens ones
+    no-ones k byte = no-pair tens ones (rw (digit-yes tens x first h, digit-no ones y second k byte))
 
-  module _ (low : digit0 ≤ tens) (high : tens ≤ digit9) where
-    pub ones-below : ones < digit0 → 100 ≡ pairOf tens ones
-    ones-below h = no-pair tens ones (rw (within-yes digit0 digit9 tens low high, digit-below ones h))
-
-    pub ones-above : digit9 < ones → 100 ≡ pairOf tens ones
-    ones-above h = no-pair tens ones (rw (within-yes digit0 digit9 tens low high, digit-above ones h))
-
-    pub both-digits : digit0 ≤ ones → ones ≤ digit9 → 10 * (tens - digit0) + (ones - digit0) ≡ pairOf tens ones
+    pub both-digits : y ≤ 9 → 10 * x + y ≡ pairOf tens ones
     unfolding pairOf numberOf numberAfter
-    both-digits h k = rw (within-yes digit0 digit9 tens low high, within-yes digit0 digit9 ones h k) (omega arith)
+    both-digits k =
+        rw (digit-yes tens x first h, digit-yes ones y second k) (omega (arith, digit-value tens x first h, digit-value ones y second k))
 
 -- ---- three of them
 

@@ -3,6 +3,7 @@ ghost use mathlib.Core.Path.{_≡_};
 ghost use Rattle.buffer.specs.Wrote.{ends, wrote};
 ghost use Rattle.time.specs.Time.{isDay, inDay, isDayTime, isClockTime, isTime, noTime, isNoTime, timeOf, readTime, sevenBytes, presentText, timeText, timeRefusal};
 ghost use Rattle.time.specs.Private.{pairOf};
+use std::num::wrapping_sub_u8;
 
 // A time by its numbers. Its form is the byte behind its digits: `z`, day, hour and minute in UTC; `/`, the same in local time; `h`,
 // hour, minute and second in UTC. A number that the form lacks is 0, and all are where there is no time.
@@ -123,19 +124,15 @@ fn is_time(t: Time) -> bool
 fn pair(tens: u8, ones: u8) -> u8
     ensures { λ r. ⌜ r ≡ pairOf tens ones ⌝ }
 {
-    if tens < b'0' {
+    let high = wrapping_sub_u8(tens, b'0');
+    if 9 < high {
         return 100;
     }
-    if b'9' < tens {
+    let low = wrapping_sub_u8(ones, b'0');
+    if 9 < low {
         return 100;
     }
-    if ones < b'0' {
-        return 100;
-    }
-    if b'9' < ones {
-        return 100;
-    }
-    10 * (tens - b'0') + (ones - b'0')
+    10 * high + low
 }
 
 // Three numbers in the places that the form gives them, whatever they are.

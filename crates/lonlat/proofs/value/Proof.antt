@@ -6,14 +6,14 @@ use Prim.Native.Nat.{ℕ, _+_, _-_, _*_, _/_, _%_, _^_, _<_, _≤_}
 use native.Mathlib.Omega.{arith}
 use lib.Dec.{leb}
 use lib.ListN.{length, drop, getD}
-use denote.Ref.{now}
-use Rattle.laws.specs.Bytes.{digit0, digit9, isDigit}
+use Rattle.laws.specs.Bytes.{digit0, isDigit}
 use Rattle.laws.specs.Lists.{every}
 use Rattle.lonlat.specs.declared.Size.the-variants.{Hundredths, NoDigit}
 use Rattle.numbers.specs.Numbers.{numberAfter, numberOf}
-use Rattle.numbers.proofs.Counts.{below-digit, above-digit, digit-more, digits-all, grown-more, grown-whole}
+use Rattle.numbers.proofs.Counts.{no-digit, digit-more, digit-value, digits-all, grown-more, grown-whole}
 use Rattle.lonlat.specs.Digits.{sizeOf}
 use Rattle.lonlat.proofs.Digits.{grows, seven, value-number, sixty-number}
+use borrow.Author.Needs.{needs}
 use Rattle.lonlat.proofs.value.Statement.{statement}
 use Rattle.lonlat.proofs.value.Tie as tie
 
@@ -24,13 +24,12 @@ abbrev μ-loop : tie.MeasureT-loop
 μ-loop t v₀ i₀ v i = length t - i
 
 module _ (t : List ℕ) (i : ℕ) (e : every isDigit t ≡ every isDigit (drop i t)) where
-  below : i < length t → getD t i 0 < digit0 → NoDigit ≡ sizeOf t
+  none : (d : ℕ) → (d + digit0) % 2 ^ 8 ≡ getD t i 0 → 9 < d → d < 2 ^ 8 → i < length t → NoDigit ≡ sizeOf t
   unfolding sizeOf
-  below h k = rw (← below-digit t i e h k)
+  none d wraps k byte h = rw (← no-digit t i e d wraps k byte h)
 
-  above : i < length t → digit9 < getD t i 0 → NoDigit ≡ sizeOf t
-  unfolding sizeOf
-  above h k = rw (← above-digit t i e h k)
+  grown : (v d : ℕ) → numberOf t ≡ numberAfter v (drop i t) → (d + digit0) % 2 ^ 8 ≡ getD t i 0 → d ≤ 9 → i < length t → numberOf t ≡ numberAfter (10 * v + d) (drop (i + 1) t)
+  grown v d n wraps k h = rw (digit-value (getD t i 0) d wraps k) (grown-more t i v n h)
 
   ended : (v : ℕ) → 4 ≤ length t → length t ≤ i → numberOf t ≡ numberAfter v (drop i t) → Hundredths (6000 * (v / 10000) + v % 10000) (leb 6000 (v % 10000)) ≡ sizeOf t
   unfolding sizeOf
@@ -45,14 +44,14 @@ loop-holds : tie.Need-loop-holds Inv-loop μ-loop
 unfolding numberOf
 loop-holds c = (omega arith, omega arith, refl, refl)
 
-shared-slice-read-b : tie.Need-shared-slice-read-b Inv-loop μ-loop
-shared-slice-read-b c = omega arith
+shared-slice-read-wrapping-sub-u8 : tie.Need-shared-slice-read-wrapping-sub-u8 Inv-loop μ-loop
+shared-slice-read-wrapping-sub-u8 c = omega arith
+
+wrapping-sub-u8-requires : tie.Need-wrapping-sub-u8-requires Inv-loop μ-loop
+wrapping-sub-u8-requires c κs = search needs
 
 returns : tie.Need-returns Inv-loop μ-loop
-returns c = search below
-
-returns-2 : tie.Need-returns-2 Inv-loop μ-loop
-returns-2 c = search above
+returns c = search none
 
 mul-v : tie.Need-mul-v Inv-loop μ-loop
 mul-v c = omega (arith, small (c .before .before .before .before))
@@ -70,14 +69,7 @@ loop-less : tie.Need-loop-less Inv-loop μ-loop
 loop-less c = omega arith
 
 loop-again : tie.Need-loop-again Inv-loop μ-loop
-loop-again c =
-    let at = c .before .before .before .before in
-    let t = now (at .before .args .t) in
-    let l = at .loop in
-    let h : l .i < length t = omega arith in
-    let low : digit0 ≤ getD t (l .i) 0 = omega arith in
-    let high : getD t (l .i) 0 ≤ digit9 = omega arith in
-    (omega arith, grows (l .v) (l .i) (getD t (l .i) 0 - digit0) (l .inv .1) (omega arith), digit-more t (l .i) (l .inv .2) h low high, grown-more t (l .i) (l .v) (l .inv .3) h)
+loop-again c = (omega arith, search grows, search digit-more, search grown)
 
 mul-t12 : tie.Need-mul-t12 Inv-loop μ-loop
 mul-t12 c = omega (arith, small (c .before))
@@ -85,8 +77,8 @@ mul-t12 c = omega (arith, small (c .before))
 add-t14 : tie.Need-add-t14 Inv-loop μ-loop
 add-t14 c = omega (arith, small (c .before))
 
-returns-3 : tie.Need-returns-3 Inv-loop μ-loop
-returns-3 c = search ended
+returns-2 : tie.Need-returns-2 Inv-loop μ-loop
+returns-2 c = search ended
 
 pub value-spec : {M : Type 1} → statement M
 value-spec =
@@ -95,9 +87,9 @@ value-spec =
     Inv-loop
     μ-loop
     loop-holds
-    shared-slice-read-b
+    shared-slice-read-wrapping-sub-u8
+    wrapping-sub-u8-requires
     returns
-    returns-2
     mul-v
     cast-v
     add-v
@@ -106,4 +98,4 @@ value-spec =
     loop-again
     mul-t12
     add-t14
-    returns-3)
+    returns-2)

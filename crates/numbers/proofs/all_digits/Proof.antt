@@ -6,7 +6,8 @@ use native.Mathlib.Omega.{arith}
 use lib.ListN.{length, drop}
 use Rattle.laws.specs.Bytes.{isDigit}
 use Rattle.laws.specs.Lists.{every}
-use Rattle.numbers.proofs.Counts.{below-digit, above-digit, digit-more, digits-all}
+use Rattle.numbers.proofs.Counts.{no-digit, digit-more, digits-all}
+use borrow.Author.Needs.{needs}
 use Rattle.numbers.proofs.all_digits.Statement.{statement}
 use Rattle.numbers.proofs.all_digits.Tie as tie
 
@@ -19,17 +20,14 @@ abbrev μ-loop : tie.MeasureT-loop
 loop-holds : tie.Need-loop-holds Inv-loop μ-loop
 loop-holds c = (omega arith, refl)
 
-shared-slice-read-if1 : tie.Need-shared-slice-read-if1 Inv-loop μ-loop
-shared-slice-read-if1 c = omega arith
+shared-slice-read-wrapping-sub-u8 : tie.Need-shared-slice-read-wrapping-sub-u8 Inv-loop μ-loop
+shared-slice-read-wrapping-sub-u8 c = omega arith
+
+wrapping-sub-u8-requires : tie.Need-wrapping-sub-u8-requires Inv-loop μ-loop
+wrapping-sub-u8-requires c κs = search needs
 
 returns : tie.Need-returns Inv-loop μ-loop
-returns c = search below-digit
-
-shared-slice-read-if2 : tie.Need-shared-slice-read-if2 Inv-loop μ-loop
-shared-slice-read-if2 c = omega arith
-
-returns-2 : tie.Need-returns-2 Inv-loop μ-loop
-returns-2 c = search above-digit
+returns c = search no-digit
 
 add-i : tie.Need-add-i Inv-loop μ-loop
 add-i c = omega arith
@@ -40,8 +38,8 @@ loop-less c = omega arith
 loop-again : tie.Need-loop-again Inv-loop μ-loop
 loop-again c = (omega arith, search digit-more)
 
-returns-3 : tie.Need-returns-3 Inv-loop μ-loop
-returns-3 c = search digits-all
+returns-2 : tie.Need-returns-2 Inv-loop μ-loop
+returns-2 c = search digits-all
 
 pub all-digits-spec : {M : Type 1} → statement M
 all-digits-spec =
@@ -50,11 +48,10 @@ all-digits-spec =
     Inv-loop
     μ-loop
     loop-holds
-    shared-slice-read-if1
+    shared-slice-read-wrapping-sub-u8
+    wrapping-sub-u8-requires
     returns
-    shared-slice-read-if2
-    returns-2
     add-i
     loop-less
     loop-again
-    returns-3)
+    returns-2)

@@ -1,15 +1,14 @@
--- `digit`: the two ends of the digits. Assumes nothing.
-use mathlib.Core.Path.{sym}
-use Rattle.numbers.proofs.Counts.{digit-below}
-use Rattle.position.proofs.Reading.{digit-high}
+-- `digit` tests the class of the digits. Assumes nothing.
+use Rattle.laws.proofs.Classes.{classes}
+use borrow.Author.Needs.{needs}
 use Rattle.position.proofs.digit.Statement.{statement}
 use Rattle.position.proofs.digit.Tie as tie
 
-returns : tie.Need-returns
-returns c = sym (digit-below _ (c .if1 .taken))
+wrapping-sub-u8-requires : tie.Need-wrapping-sub-u8-requires
+wrapping-sub-u8-requires c κs = search needs
 
-returns-2 : tie.Need-returns-2
-returns-2 c = search digit-high
+returns : tie.Need-returns
+returns c = search classes
 
 pub digit-spec : {M : Type 1} → statement M
-digit-spec = tie.close (tie.spec returns returns-2)
+digit-spec = tie.close (tie.spec wrapping-sub-u8-requires returns)
