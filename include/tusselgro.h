@@ -20,7 +20,7 @@ extern "C" {
 /*
  * Who owns what. The caller owns all memory. A function keeps no pointer after it returns, allocates nothing and
  * frees nothing. Records go in and come out by value. A length of 0 may go with any pointer, NULL included. An output
- * buffer must not overlap an input or a comment.
+ * buffer must not overlap an input, or anything else that is lent in the same call.
  *
  * Threads. There is no state: any number of threads may call any function at once, each with its own output buffer.
  *
@@ -48,7 +48,8 @@ enum {
     TUSSELGRO_UNKNOWN_KIND = 14,
     TUSSELGRO_OUT_OF_RANGE = 15,
     TUSSELGRO_NO_ROOM = 16,
-    TUSSELGRO_TIME = 17
+    TUSSELGRO_TIME = 17,
+    TUSSELGRO_MALFORMED = 18
 };
 
 /* What a refusal means. The text is never freed. */
@@ -62,7 +63,7 @@ static inline const char *tusselgro_meaning(uint8_t refusal) {
         "callsign text over 16 bytes",
         "a ninth hop",
         "a Q element: a textual hop of three bytes that starts qA",
-        "not carried: body starts ':' '>', or '!' '=' '/' '@' with a compressed position",
+        "not carried: body starts '!' '=' '/' '@' with a compressed position",
         "latitude cannot be read",
         "longitude cannot be read",
         "position under 19 bytes after its type byte or time; time under 7 bytes",
@@ -73,15 +74,23 @@ static inline const char *tusselgro_meaning(uint8_t refusal) {
         "record, angle, time, blanks or list target out of range",
         "output buffer too short; the bytes needed are returned",
         "time cannot be read",
+        "a message or status is malformed: no ':' after nine addressee bytes; text too long or not allowed; "
+        "identifier not of 1 to 5 bytes",
     };
     return refusal < sizeof meanings / sizeof meanings[0] ? meanings[refusal] : "no such refusal";
 }
 
 /* The kinds of a record. A writer refuses any other number with 15. */
-enum { TUSSELGRO_UNKNOWN = 0, TUSSELGRO_POSITION = 1, TUSSELGRO_MIC_E = 2 };
+enum {
+    TUSSELGRO_UNKNOWN = 0,
+    TUSSELGRO_POSITION = 1,
+    TUSSELGRO_MIC_E = 2,
+    TUSSELGRO_MESSAGE = 3,
+    TUSSELGRO_STATUS = 4
+};
 
-/* The messages of a Mic-E report; other kinds have 0. M0 to M6 are 0 to 6, C0 to C6 are 7 to 13. A writer refuses a
-   number over 15 with 15. */
+/* The messages of a Mic-E report; other kinds, TUSSELGRO_MESSAGE among them, have 0. M0 to M6 are 0 to 6, C0 to C6 are 7
+   to 13. A writer refuses a number over 15 with 15. */
 enum {
     TUSSELGRO_M0 = 0,
     TUSSELGRO_M1 = 1,
@@ -105,6 +114,15 @@ enum {
 enum { TUSSELGRO_NO_TIME = 0, TUSSELGRO_DHM_UTC = 'z', TUSSELGRO_DHM_LOCAL = '/', TUSSELGRO_HMS_UTC = 'h' };
 
 enum { TUSSELGRO_MOST_BYTES = 512, TUSSELGRO_MOST_HOPS = 8, TUSSELGRO_MOST_CALLSIGN = 16 };
+
+/* The bytes of an addressee; the most bytes of a message's text and of its identifier, and of a status, its time among
+   them. */
+enum {
+    TUSSELGRO_ADDRESSEE_BYTES = 9,
+    TUSSELGRO_MOST_TEXT = 67,
+    TUSSELGRO_MOST_IDENTIFIER = 5,
+    TUSSELGRO_MOST_STATUS = 62
+};
 
 /*
  * A callsign as it is written. text holds the call; then, if there is an SSID, a dash and the SSID; the rest is 0.
@@ -174,19 +192,22 @@ typedef struct {
     bool current;    /* not old */
 } tusselgro_report;
 
-/* The comment's place in the input that was read, and its length; writers ignore both. 16 bytes. */
+/* Where a part of the input that was read stands, and its length; writers ignore both. 16 bytes. It was called
+   tusselgro_comment while a comment was the only such part. */
 typedef struct {
     size_t at;
     size_t len;
-} tusselgro_comment;
+} tusselgro_span;
 
 /*
- * The time of a position that starts '/' or '@': seven bytes behind its type byte, two digits a number, zeros kept, and
- * the letter of the form. 092345z is day 9, 23:45 UTC; 092345/ is the same in local time; 234517h is 23:45:17 UTC.
+ * The time of a position that starts '/' or '@', or of a status: seven bytes behind the type byte, two digits a number,
+ * zeros kept, and the letter of the form. 092345z is day 9, 23:45 UTC; 092345/ is the same in local time; 234517h is
+ * 23:45:17 UTC. A status has the first form alone.
  *
  * A number that the form lacks is 0. Where there is no time all is 0; the form tells that from 000000h, which is one.
- * A writer refuses with 15 a number that is out of range, that the form lacks or that has no form, and any time in
- * another kind than a position. No month is known, so day 31 is always in range. 5 bytes.
+ * A writer refuses with 15 a number that is out of range, that the form lacks or that has no form, another form than
+ * .._DHM_UTC in a status, and any time in another kind than these two. No month is known, so day 31 is always in range.
+ * 5 bytes.
  */
 typedef struct {
     uint8_t day;    /* of the month, 1 to 31; .._HMS_UTC lacks it */
@@ -197,29 +218,45 @@ typedef struct {
 } tusselgro_time;
 
 /*
- * What a packet says. A writer gives a position the type byte '!', with messaging '=', with a time '/', with both '@'.
- * 56 bytes.
+ * What a packet says. A writer gives a position the type byte '!', with messaging '=', with a time '/', with both '@'; a
+ * message ':', a status '>'. 80 bytes.
  *
- * Before the time was here, messaging and kind stood in its place. The sizes are as they were; what was compiled with
- * that header must be compiled again all the same.
+ * A message is an addressee of nine bytes, ':', a text of up to 67 bytes without '|', '~' and '{', and, if it has one,
+ * '{' and an identifier of 1 to 5 bytes, which may be any. A shorter addressee is filled up with spaces at its end: WU2Z
+ * is "WU2Z     ", and is kept so. Any nine bytes are an addressee, ':' and spaces in any place among them. A writer puts
+ * them as they are: of one that was never filled in, nine zeros.
+ *
+ * A status is a text of up to 62 bytes, which may be any, or a time and up to 55. Where it starts with seven bytes that
+ * are a time of the form .._DHM_UTC, they are read as one; 000000z, 092345Z, 092345/ and 234517h are none, and text.
+ *
+ * The text of either stands where the others have their comment, and is read as a place in the input as that is. An
+ * empty one has a place too: behind the ':', the time or the type byte. The identifier's place is behind the '{'; where
+ * there is none, at and len are 0. Writers are lent the bytes of both, and ignore both places.
+ *
+ * Before messages and status lines were here there was no identifier and no addressee: a body had 56 bytes, a record 264
+ * and tusselgro_read 272, and the writers of packets were lent no identifier. Before the time was here, messaging and
+ * kind stood in its place. What was compiled with either header must be compiled again.
  */
 typedef struct {
     tusselgro_place place;
     tusselgro_report report;
-    tusselgro_comment comment;
-    tusselgro_time time;
-    bool messaging; /* a position that starts '=' or '@' */
-    uint8_t kind;   /* TUSSELGRO_UNKNOWN, .._POSITION or .._MIC_E */
+    tusselgro_span comment;                       /* of a message or a status: its text */
+    tusselgro_span identifier;                    /* of a message */
+    tusselgro_time time;                          /* of a position or a status */
+    uint8_t addressee[TUSSELGRO_ADDRESSEE_BYTES]; /* of a message */
+    bool messaging;                               /* a position that starts '=' or '@' */
+    uint8_t kind;                                 /* TUSSELGRO_UNKNOWN to .._STATUS */
 } tusselgro_body;
 
-/* A packet. What its kind lacks is 0: an Unknown one has its header alone. A record of zeros is the blank one. 264
+/* A packet. What its kind lacks is 0: an Unknown one has its header alone, and no kind but a message has an addressee. A
+   writer refuses with 15 any of it that is not 0, but for places and marks. A record of zeros is the blank one. 288
    bytes. */
 typedef struct {
     tusselgro_header header;
     tusselgro_body body;
 } tusselgro_record;
 
-/* What reading gives: 0 and the record, or the refusal and the blank record (Unknown kind, all zeros). 272 bytes. */
+/* What reading gives: 0 and the record, or the refusal and the blank record (Unknown kind, all zeros). 296 bytes. */
 typedef struct {
     tusselgro_record record;
     uint8_t refusal;
@@ -238,21 +275,30 @@ typedef struct {
 
 /* ---- packets */
 
-/* Reads a line of text, without its line end. Refusals: 1 to 12, and 17. Of a position with a time, and in this order:
-   10 for under seven bytes behind the type byte, 17, then 7, 10, 8 and 9 of what follows the time. */
+/* Reads a line of text, without its line end. Refusals: 1 to 12, 17 and 18. Of a position with a time, and in this
+   order: 10 for under seven bytes behind the type byte, 17, then 7, 10, 8 and 9 of what follows the time. Of a body that
+   starts ':' or '>' no other than 18. */
 tusselgro_read tusselgro_read_text(const uint8_t *line, size_t line_len);
 
 /* Reads an AX.25 frame, from the destination's address to the last byte of the body, without flags and checksum.
-   Refusals: 1, 2, 3, 5, 7 to 12, and 17; those of a position with a time in the same order. */
+   Refusals: 1, 2, 3, 5, 7 to 12, 17 and 18; those of a body in the same order. */
 tusselgro_read tusselgro_read_frame(const uint8_t *frame, size_t frame_len);
 
-/* Writes a record as a line of text, with the comment's bytes at its end and no line end. Refusals: 15, 14, 1, 16. */
+/*
+ * Writes a record as a line of text, without a line end. comment is what stands at the end of a position or a Mic-E
+ * report, and the text of a message or a status. identifier is what a message has behind its text and a '{', which is
+ * written with it; an empty one is none. Other kinds ignore it.
+ *
+ * Refusals, the first that applies: 15, 14, 18, 1, 16. 15 is about the record alone, 18 about what is lent with it: a
+ * text that is too long, or a message's with '|', '~' or '{'; an identifier over five bytes; in a status without a time
+ * a text that starts with one, since it would be read as the time. Behind a time it may start with another.
+ */
 tusselgro_answer tusselgro_write_text(tusselgro_record record, const uint8_t *comment, size_t comment_len,
-                                      uint8_t *out, size_t out_len);
+                                      const uint8_t *identifier, size_t identifier_len, uint8_t *out, size_t out_len);
 
-/* Writes a record as an AX.25 frame, without flags and checksum. Refusals: 15, 14, 13, 1, 16. */
+/* Writes a record as an AX.25 frame, without flags and checksum. Refusals: 15, 14, 18, 13, 1, 16. */
 tusselgro_answer tusselgro_write_frame(tusselgro_record record, const uint8_t *comment, size_t comment_len,
-                                       uint8_t *out, size_t out_len);
+                                       const uint8_t *identifier, size_t identifier_len, uint8_t *out, size_t out_len);
 
 /*
  * ---- the parts of a packet, one by one
@@ -403,6 +449,38 @@ tusselgro_information_read tusselgro_read_information(const uint8_t *bytes, size
 
 /* Writes those eight bytes. Refusals: 15, 16. */
 tusselgro_answer tusselgro_write_information(tusselgro_information information, uint8_t *out, size_t out_len);
+
+/* A message as it was read: its text starts at the place 10, its identifier one byte behind the text's end, where
+   identifier_len is not 0. 32 bytes. */
+typedef struct {
+    size_t text_len;
+    size_t identifier_len;
+    uint8_t addressee[TUSSELGRO_ADDRESSEE_BYTES];
+    uint8_t refusal;
+} tusselgro_message_read;
+
+/* Reads a message, from the byte behind its type byte to the end. Refusal: 18. */
+tusselgro_message_read tusselgro_read_message(const uint8_t *bytes, size_t bytes_len);
+
+/* Writes a message from the byte behind its type byte on, at most 83 bytes; an empty identifier is none. The addressee
+   has nine bytes, no fewer. Refusals: 18, 16. */
+tusselgro_answer tusselgro_write_message(const uint8_t *addressee, size_t addressee_len, const uint8_t *text,
+                                         size_t text_len, const uint8_t *identifier, size_t identifier_len,
+                                         uint8_t *out, size_t out_len);
+
+/* A status as it was read: its time, or none. Its text is all that follows the time. 6 bytes. */
+typedef struct {
+    tusselgro_time time;
+    uint8_t refusal;
+} tusselgro_status_read;
+
+/* Reads a status, from the byte behind its type byte to the end. Refusal: 18. */
+tusselgro_status_read tusselgro_read_status(const uint8_t *bytes, size_t bytes_len);
+
+/* Writes a status from the byte behind its type byte on: its time, if it has one, and its text. Refusals: 15 for a time
+   that no status has, 18, 16. */
+tusselgro_answer tusselgro_write_status(tusselgro_time time, const uint8_t *text, size_t text_len, uint8_t *out,
+                                        size_t out_len);
 
 /* ---- lists of Mic-E fields */
 

@@ -1,5 +1,5 @@
-// Builds three packets, a position, one with a time and a Mic-E report, and writes each as a line of text and as an
-// AX.25 frame.
+// Builds five packets, a position, one with a time, a message, a status and a Mic-E report, and writes each as a line of
+// text and as an AX.25 frame.
 
 use tusselgro::mic_e::{Course, Message, Speed};
 use tusselgro::{AprsPacket, Latitude, Longitude, Refusal, Timestamp};
@@ -34,6 +34,16 @@ fn main() -> Result<(), Refusal> {
         .symbol(b'/', b'>')
         .build()?;
     print(&timed)?;
+
+    let message = AprsPacket::message("N7LEM", "NJ7P", "WU2Z", b"Testing")
+        .id(b"003")
+        .build()?;
+    print(&message)?;
+
+    let status = AprsPacket::status("N7LEM", "NJ7P", b"Net Control Center")
+        .timestamp(Timestamp::new_dhm(9, 23, 45)?)
+        .build()?;
+    print(&status)?;
 
     let latitude = Latitude::from_dmh(33, 25, 64, true)?;
     let longitude = Longitude::from_dmh(112, 7, 74, false)?;

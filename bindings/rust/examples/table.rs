@@ -1,6 +1,7 @@
 // Sets the callsigns, times and positions of a capture as a table, callsigns as they were typed, with the page's box of
-// each position in half hundredths of a minute. The capture has a line a packet; it is the file that the first argument
-// names. A line that is refused is told on standard error, and the status is then 1; it is 2 where no table was set.
+// each position in half hundredths of a minute; in place of a position, whom a message is for, and what it or a status
+// says. The capture has a line a packet; it is the file that the first argument names. A line that is refused is told on
+// standard error, and the status is then 1; it is 2 where no table was set.
 
 use std::error::Error;
 use std::process::ExitCode;
@@ -17,6 +18,24 @@ fn place(data: &AprsData<'_>) -> Option<(Latitude, Longitude, Precision)> {
 fn time(data: &AprsData<'_>) -> Option<Timestamp> {
     match data {
         AprsData::Position(at) => at.timestamp,
+        AprsData::Status(status) => status.timestamp,
+        _ => None,
+    }
+}
+
+/// What a message or a status says; a byte that does not print by its number.
+fn words(data: &AprsData<'_>) -> Option<String> {
+    match data {
+        AprsData::Message(message) => {
+            let id = message.id.map(|id| format!(" {{{}", id.escape_ascii()));
+            let text = message.text.escape_ascii();
+            Some(format!(
+                "{}: {text}{}",
+                message.addressee,
+                id.unwrap_or_default()
+            ))
+        }
+        AprsData::Status(status) => Some(status.comment.escape_ascii().to_string()),
         _ => None,
     }
 }
@@ -31,10 +50,13 @@ fn row(packet: &AprsPacket<'_>) -> String {
         .iter()
         .filter(|via| matches!(via, Via::Callsign(_, true)));
     let heard = format!("{}/{}", heard.count(), packet.via.len());
-    let mut row = format!("{from:<10} {to:<10} {heard:<5}");
+    let time = time(&packet.data).map_or_else(|| "-".to_string(), |time| time.to_string());
+    let mut row = format!("{from:<10} {to:<10} {heard:<5} {time:<7}");
+    if let Some(words) = words(&packet.data) {
+        row += &format!(" {words}");
+    }
     if let Some((latitude, longitude, precision)) = place(&packet.data) {
-        let time = time(&packet.data).map_or_else(|| "-".to_string(), |time| time.to_string());
-        row += &format!(" {time:<7} {latitude} {longitude}");
+        row += &format!(" {latitude} {longitude}");
         row += &format!(" {:9.5} {:10.5}", latitude.degrees(), longitude.degrees());
         for page in [latitude.page_box(precision), longitude.page_box(precision)] {
             row += &format!(" {}..{}", page.start(), page.end());

@@ -3,11 +3,13 @@
 use crate::callsign::{Callsign, IntoCallsign};
 use crate::latitude::Latitude;
 use crate::longitude::Longitude;
+use crate::message::{Addressee, AprsMessage};
 use crate::mic_e::{AprsMicE, Course, Message, Speed};
-use crate::packet::AprsPacket;
+use crate::packet::{AprsData, AprsPacket};
 use crate::position::AprsPosition;
 use crate::precision::Precision;
 use crate::refusal::Refusal;
+use crate::status::AprsStatus;
 use crate::timestamp::Timestamp;
 use crate::via::{Path, Via};
 
@@ -45,6 +47,46 @@ impl<'a> AprsPacket<'a> {
         longitude: Longitude,
     ) -> PacketBuilder<AprsPosition<'a>> {
         let body = AprsPosition::new(Callsign::default(), latitude, longitude);
+        let mut builder = PacketBuilder::new(from, body);
+        builder.body.to = builder.callsign(to);
+        builder
+    }
+
+    /// Starts a packet with a message, that of [`AprsMessage::new`]. The addressee is filled up with spaces; one of more
+    /// than nine bytes is refused.
+    ///
+    /// ```
+    /// use tusselgro::AprsPacket;
+    ///
+    /// let packet = AprsPacket::message("N7LEM", "APRS", "WU2Z", b"Testing").id(b"003").build()?;
+    /// let mut line = Vec::new();
+    /// packet.encode_textual(&mut line)?;
+    /// assert_eq!(line, b"N7LEM>APRS::WU2Z     :Testing{003");
+    /// # Ok::<(), tusselgro::Refusal>(())
+    /// ```
+    pub fn message(
+        from: impl IntoCallsign,
+        to: impl IntoCallsign,
+        addressee: impl AsRef<[u8]>,
+        text: &'a [u8],
+    ) -> PacketBuilder<AprsMessage<'a>> {
+        let body = AprsMessage::new(Callsign::default(), Addressee::default(), text);
+        let mut builder = PacketBuilder::new(from, body);
+        builder.body.to = builder.callsign(to);
+        builder.body.addressee = Addressee::new(addressee).unwrap_or_else(|refusal| {
+            builder.note(refusal);
+            Addressee::default()
+        });
+        builder
+    }
+
+    /// Starts a packet with a status without a time.
+    pub fn status(
+        from: impl IntoCallsign,
+        to: impl IntoCallsign,
+        comment: &'a [u8],
+    ) -> PacketBuilder<AprsStatus<'a>> {
+        let body = AprsStatus::new(Callsign::default(), None, comment);
         let mut builder = PacketBuilder::new(from, body);
         builder.body.to = builder.callsign(to);
         builder
@@ -101,10 +143,20 @@ impl<B> PacketBuilder<B> {
     pub fn heard_hop(self, callsign: impl IntoCallsign) -> Self {
         self.via(callsign, true)
     }
+
+    /// The packet, or the first refusal of a callsign, a hop or an addressee.
+    pub fn build<'a>(self) -> Result<AprsPacket<'a>, Refusal>
+    where
+        B: Into<AprsData<'a>>,
+    {
+        let mut packet = AprsPacket::new(self.from, self.body);
+        packet.via = self.via;
+        self.refusal.map_or(Ok(packet), Err)
+    }
 }
 
-/// The steps that both kinds have.
-macro_rules! shared {
+/// The steps that the two kinds with a place have.
+macro_rules! placed {
     ($body:ident) => {
         impl<'a> PacketBuilder<$body<'a>> {
             /// How many last digits of the latitude are left blank.
@@ -125,18 +177,11 @@ macro_rules! shared {
                 self.body.comment = comment;
                 self
             }
-
-            /// The packet, or the first refusal of a callsign or a hop.
-            pub fn build(self) -> Result<AprsPacket<'a>, Refusal> {
-                let mut packet = AprsPacket::new(self.from, self.body);
-                packet.via = self.via;
-                self.refusal.map_or(Ok(packet), Err)
-            }
         }
     };
 }
-shared!(AprsPosition);
-shared!(AprsMicE);
+placed!(AprsPosition);
+placed!(AprsMicE);
 
 impl PacketBuilder<AprsPosition<'_>> {
     /// The time.
@@ -148,6 +193,22 @@ impl PacketBuilder<AprsPosition<'_>> {
     /// Whether the station takes messages.
     pub fn messaging(mut self, supported: bool) -> Self {
         self.body.messaging_supported = supported;
+        self
+    }
+}
+
+impl<'a> PacketBuilder<AprsMessage<'a>> {
+    /// The identifier, borrowed.
+    pub fn id(mut self, id: &'a [u8]) -> Self {
+        self.body.id = Some(id);
+        self
+    }
+}
+
+impl PacketBuilder<AprsStatus<'_>> {
+    /// The time, which is day, hour and minute in UTC.
+    pub fn timestamp(mut self, timestamp: Timestamp) -> Self {
+        self.body.timestamp = Some(timestamp);
         self
     }
 }
@@ -218,12 +279,41 @@ mod tests {
     }
 
     #[test]
+    fn a_message_with_every_step() {
+        let packet = AprsPacket::message("A-01", "APRS", b"  \0:", b"Testing")
+            .heard_hop("B")
+            .hop("C")
+            .id(b"a{b")
+            .build();
+        assert_eq!(
+            line(&packet.unwrap()),
+            b"A-01>APRS,B*,C::  \0:     :Testing{a{b"
+        );
+    }
+
+    #[test]
+    fn a_status_with_every_step() {
+        let packet = AprsPacket::status("A-01", "APRS", b"Net Control Center")
+            .timestamp(Timestamp::DDHHMM(9, 23, 45))
+            .hop("B")
+            .build();
+        assert_eq!(
+            line(&packet.unwrap()),
+            b"A-01>APRS,B:>092345zNet Control Center"
+        );
+    }
+
+    #[test]
     fn what_is_not_told_has_its_default() {
         let (latitude, longitude) = place();
         let position = AprsPacket::position("A", "B", latitude, longitude).build();
         assert_eq!(line(&position.unwrap()), b"A>B:!3325.64N/11207.74W/");
         let report = AprsPacket::mic_e("A", latitude, longitude).build().unwrap();
         assert_eq!(AprsPacket::decode_textual(&line(&report)), Ok(report));
+        let message = AprsPacket::message("A", "B", "", b"").build().unwrap();
+        assert_eq!(line(&message), b"A>B::         :");
+        let status = AprsPacket::status("A", "B", b"").build().unwrap();
+        assert_eq!(line(&status), b"A>B:>");
     }
 
     /// With the angle's own letters, N and E at 0.
@@ -256,5 +346,13 @@ mod tests {
             builder.hop("B")
         });
         assert_eq!(nine.build(), Err(Refusal::TooManyHops));
+        let ten = AprsPacket::message("A", "B", "0123456789", b"").hop("C-");
+        assert_eq!(ten.build(), Err(Refusal::Malformed));
+        let both = AprsPacket::message("A", "B-", "0123456789", b"");
+        assert_eq!(both.build(), Err(Refusal::Callsign));
+        assert_eq!(
+            AprsPacket::status("A", "B-", b"").build(),
+            Err(Refusal::Callsign)
+        );
     }
 }

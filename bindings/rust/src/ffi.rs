@@ -4,12 +4,16 @@
 use std::cmp::Ordering;
 use std::hash::{Hash, Hasher};
 
-/// The kind of a record that is neither a position nor a Mic-E report.
+/// The kind of a record that is none of the others.
 pub const UNKNOWN: u8 = 0;
 /// The kind of a position.
 pub const POSITION: u8 = 1;
 /// The kind of a Mic-E report.
 pub const MIC_E: u8 = 2;
+/// The kind of a message.
+pub const MESSAGE: u8 = 3;
+/// The kind of a status line.
+pub const STATUS: u8 = 4;
 
 /// The form of a time: there is none.
 pub const NO_TIME: u8 = 0;
@@ -35,6 +39,14 @@ pub const MOST_BYTES: usize = 512;
 pub const MOST_HOPS: usize = 8;
 /// No callsign's text is longer.
 pub const MOST_CALLSIGN: usize = 16;
+/// Every addressee has so many.
+pub const ADDRESSEE_BYTES: usize = 9;
+/// No message's text is longer.
+pub const MOST_TEXT: usize = 67;
+/// No message's identifier is longer.
+pub const MOST_IDENTIFIER: usize = 5;
+/// No status is longer, its time among them.
+pub const MOST_STATUS: usize = 62;
 
 /// A callsign as it is written. One in range is ordered by the bytes of its text. Equality, order and hash do not look
 /// at the mark.
@@ -150,17 +162,17 @@ pub struct Report {
     pub current: bool,
 }
 
-/// The place of a comment in the bytes that were read; writers ignore it.
+/// Where a part of the bytes that were read stands; writers ignore it.
 #[repr(C)]
 #[derive(Clone, Copy, Debug, Default, PartialEq, Eq)]
-pub struct Comment {
+pub struct Span {
     /// Where it starts.
     pub at: usize,
     /// Its bytes.
     pub len: usize,
 }
 
-/// The time of a position; all 0 where there is none.
+/// The time of a position or a status; all 0 where there is none.
 #[repr(C)]
 #[derive(Clone, Copy, Debug, Default, PartialEq, Eq)]
 pub struct Time {
@@ -184,13 +196,17 @@ pub struct Body {
     pub place: Place,
     /// Of a Mic-E report.
     pub report: Report,
-    /// Of a position and of a Mic-E report.
-    pub comment: Comment,
-    /// Of a position that starts `/` or `@`.
+    /// Of a position and of a Mic-E report the comment, of a message and of a status the text.
+    pub comment: Span,
+    /// Of a message; 0 and 0 where it has none.
+    pub identifier: Span,
+    /// Of a position that starts `/` or `@`, and of a status.
     pub time: Time,
+    /// Of a message, spaces at its end and all.
+    pub addressee: [u8; ADDRESSEE_BYTES],
     /// Of a position: that it starts `=` or `@`.
     pub messaging: bool,
-    /// [`UNKNOWN`], [`POSITION`] or [`MIC_E`].
+    /// [`UNKNOWN`], [`POSITION`], [`MIC_E`], [`MESSAGE`] or [`STATUS`].
     pub kind: u8,
 }
 
@@ -374,6 +390,30 @@ pub struct InformationRead {
     pub refusal: u8,
 }
 
+/// A message as it was read, from behind its type byte on.
+#[repr(C)]
+#[derive(Clone, Copy, Debug, PartialEq, Eq)]
+pub struct MessageRead {
+    /// The bytes of its text, which starts at the place 10.
+    pub text_len: usize,
+    /// The bytes of its identifier, which starts one behind the text's end; 0 for none.
+    pub identifier_len: usize,
+    /// Spaces at its end and all; 0 at a refusal.
+    pub addressee: [u8; ADDRESSEE_BYTES],
+    /// The refusal's number, or 0.
+    pub refusal: u8,
+}
+
+/// A status as it was read, from behind its type byte on.
+#[repr(C)]
+#[derive(Clone, Copy, Debug, PartialEq, Eq)]
+pub struct StatusRead {
+    /// Its time, or none; its text is what follows that.
+    pub time: Time,
+    /// The refusal's number, or 0.
+    pub refusal: u8,
+}
+
 /// The bounds of an angle in degrees.
 #[repr(C)]
 #[derive(Clone, Copy, Debug, PartialEq)]
@@ -408,6 +448,8 @@ extern "C" {
         record: Record,
         comment: *const u8,
         comment_len: usize,
+        identifier: *const u8,
+        identifier_len: usize,
         out: *mut u8,
         out_len: usize,
     ) -> Answer;
@@ -416,6 +458,8 @@ extern "C" {
         record: Record,
         comment: *const u8,
         comment_len: usize,
+        identifier: *const u8,
+        identifier_len: usize,
         out: *mut u8,
         out_len: usize,
     ) -> Answer;
@@ -477,6 +521,30 @@ extern "C" {
         out_len: usize,
     ) -> Answer;
 
+    /// Reads a message behind its type byte.
+    pub fn tusselgro_read_message(bytes: *const u8, bytes_len: usize) -> MessageRead;
+    /// Writes a message behind its type byte.
+    pub fn tusselgro_write_message(
+        addressee: *const u8,
+        addressee_len: usize,
+        text: *const u8,
+        text_len: usize,
+        identifier: *const u8,
+        identifier_len: usize,
+        out: *mut u8,
+        out_len: usize,
+    ) -> Answer;
+    /// Reads a status behind its type byte.
+    pub fn tusselgro_read_status(bytes: *const u8, bytes_len: usize) -> StatusRead;
+    /// Writes a status behind its type byte.
+    pub fn tusselgro_write_status(
+        time: Time,
+        text: *const u8,
+        text_len: usize,
+        out: *mut u8,
+        out_len: usize,
+    ) -> Answer;
+
     /// Lists every Mic-E field that means a speed and a course.
     pub fn tusselgro_list_motion(speed: u32, course: u32, out: *mut u8, out_len: usize) -> Answer;
     /// Lists every Mic-E field that means a longitude.
@@ -508,9 +576,9 @@ mod tests {
         assert_eq!((size_of::<Callsign>(), size_of::<Hop>()), (19, 20));
         assert_eq!((size_of::<Path>(), size_of::<Header>()), (168, 208));
         assert_eq!((size_of::<Place>(), size_of::<Report>()), (16, 12));
-        assert_eq!((size_of::<Comment>(), size_of::<Body>()), (16, 56));
+        assert_eq!((size_of::<Span>(), size_of::<Body>()), (16, 80));
         assert_eq!((size_of::<Time>(), size_of::<TimeRead>()), (5, 6));
-        assert_eq!((size_of::<Record>(), size_of::<Read>()), (264, 272));
+        assert_eq!((size_of::<Record>(), size_of::<Read>()), (288, 296));
         assert_eq!((size_of::<Answer>(), size_of::<CallsignRead>()), (24, 21));
         assert_eq!((size_of::<AddressRead>(), size_of::<Address>()), (22, 8));
         assert_eq!(
@@ -529,16 +597,20 @@ mod tests {
             (size_of::<InformationRead>(), size_of::<Bounds>()),
             (20, 24)
         );
+        assert_eq!((size_of::<MessageRead>(), size_of::<StatusRead>()), (32, 6));
         assert_eq!(size_of::<PageBox>(), 12);
     }
 
     #[test]
-    fn a_body_has_its_time_flag_and_kind_where_the_header_has_them() {
+    fn a_body_has_its_parts_where_the_header_has_them() {
         let body = Body::default();
         let at = |part: *const u8| part as usize - &body as *const Body as usize;
-        assert_eq!((at(&body.time.day), at(&body.time.form)), (48, 52));
+        let spans: [*const usize; 2] = [&body.comment.at, &body.identifier.len];
+        assert_eq!(spans.map(|part| at(part.cast())), [32, 56]);
+        assert_eq!((at(&body.time.day), at(&body.time.form)), (64, 68));
+        assert_eq!((at(&body.addressee[0]), at(&body.addressee[8])), (69, 77));
         let messaging: *const bool = &body.messaging;
-        assert_eq!((at(messaging.cast()), at(&body.kind)), (53, 54));
+        assert_eq!((at(messaging.cast()), at(&body.kind)), (78, 79));
     }
 
     #[test]

@@ -12,6 +12,7 @@ pub mod ffi;
 mod fields;
 mod latitude;
 mod longitude;
+mod message;
 pub mod mic_e;
 mod out;
 mod packet;
@@ -20,6 +21,7 @@ mod position;
 mod precision;
 mod record;
 mod refusal;
+mod status;
 #[cfg(test)]
 mod tests;
 mod timestamp;
@@ -34,10 +36,12 @@ pub use fields::{
 };
 pub use latitude::{Latitude, LatitudeRead};
 pub use longitude::{Longitude, LongitudeRead, Side};
+pub use message::{Addressee, AprsMessage};
 pub use mic_e::AprsMicE;
 pub use packet::{AprsData, AprsPacket};
 pub use position::AprsPosition;
 pub use precision::Precision;
 pub use refusal::Refusal;
+pub use status::AprsStatus;
 pub use timestamp::{Time, Timestamp};
 pub use via::{Path, Via};

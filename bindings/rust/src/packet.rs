@@ -2,17 +2,20 @@
 
 use crate::callsign::Callsign;
 use crate::ffi;
+use crate::message::AprsMessage;
 use crate::mic_e::AprsMicE;
 use crate::out::{to_slice, to_vec};
 use crate::position::AprsPosition;
 use crate::record::{packet_of, record_of};
 use crate::refusal::Refusal;
+use crate::status::AprsStatus;
 use crate::via::Path;
 
 /// A packet.
 ///
-/// The fields are those of aprs-parser. Nothing is allocated: the comment is borrowed from the bytes that were read,
-/// so those must live as long as the packet. [`position`](Self::position) and [`mic_e`](Self::mic_e) build one.
+/// The fields are those of aprs-parser. Nothing is allocated: comment, text and identifier are borrowed from the bytes
+/// that were read, so those must live as long as the packet. [`position`](Self::position), [`message`](Self::message),
+/// [`status`](Self::status) and [`mic_e`](Self::mic_e) build one.
 ///
 /// ```
 /// use tusselgro::{AprsData, AprsPacket};
@@ -41,13 +44,17 @@ pub struct AprsPacket<'a> {
     pub data: AprsData<'a>,
 }
 
-/// What a packet carries. Messages and status, which aprs-parser reads, are refused by name: see
+/// What a packet carries. Compressed positions, which aprs-parser reads, are refused by name: see
 /// [`Refusal::NotCarried`].
 #[derive(Clone, Copy, Debug, PartialEq, Eq, Hash)]
 #[non_exhaustive]
 pub enum AprsData<'a> {
     /// A position.
     Position(AprsPosition<'a>),
+    /// A message.
+    Message(AprsMessage<'a>),
+    /// A status line.
+    Status(AprsStatus<'a>),
     /// A Mic-E report.
     MicE(AprsMicE<'a>),
     /// Anything else, to this destination; it cannot be written.
@@ -59,17 +66,29 @@ impl<'a> AprsData<'a> {
     pub fn to(&self) -> Option<&Callsign> {
         match self {
             AprsData::Position(position) => Some(&position.to),
+            AprsData::Message(message) => Some(&message.to),
+            AprsData::Status(status) => Some(&status.to),
             AprsData::MicE(_) => None,
             AprsData::Unknown(to) => Some(to),
         }
     }
 
-    /// The comment; of what is unknown, nothing.
+    /// The comment, or the text of a message; of what is unknown, nothing.
     pub fn comment(&self) -> &'a [u8] {
         match self {
             AprsData::Position(position) => position.comment,
+            AprsData::Message(message) => message.text,
+            AprsData::Status(status) => status.comment,
             AprsData::MicE(report) => report.comment,
             AprsData::Unknown(_) => b"",
+        }
+    }
+
+    /// The identifier of a message; empty for none, which other kinds have.
+    fn identifier(&self) -> &'a [u8] {
+        match self {
+            AprsData::Message(message) => message.identifier(),
+            _ => b"",
         }
     }
 }
@@ -80,6 +99,18 @@ impl<'a> From<AprsPosition<'a>> for AprsData<'a> {
     }
 }
 
+impl<'a> From<AprsMessage<'a>> for AprsData<'a> {
+    fn from(message: AprsMessage<'a>) -> Self {
+        AprsData::Message(message)
+    }
+}
+
+impl<'a> From<AprsStatus<'a>> for AprsData<'a> {
+    fn from(status: AprsStatus<'a>) -> Self {
+        AprsData::Status(status)
+    }
+}
+
 impl<'a> From<AprsMicE<'a>> for AprsData<'a> {
     fn from(report: AprsMicE<'a>) -> Self {
         AprsData::MicE(report)
@@ -87,7 +118,15 @@ impl<'a> From<AprsMicE<'a>> for AprsData<'a> {
 }
 
 type Reader = unsafe extern "C" fn(*const u8, usize) -> ffi::Read;
-type Writer = unsafe extern "C" fn(ffi::Record, *const u8, usize, *mut u8, usize) -> ffi::Answer;
+type Writer = unsafe extern "C" fn(
+    ffi::Record,
+    *const u8,
+    usize,
+    *const u8,
+    usize,
+    *mut u8,
+    usize,
+) -> ffi::Answer;
 
 fn read(reader: Reader, bytes: &[u8]) -> Result<AprsPacket<'_>, Refusal> {
     // SAFETY: the pointer and the length are those of one slice.
@@ -97,7 +136,7 @@ fn read(reader: Reader, bytes: &[u8]) -> Result<AprsPacket<'_>, Refusal> {
 }
 
 impl<'a> AprsPacket<'a> {
-    /// A packet of a position or a Mic-E report, without hops.
+    /// A packet of a position, a message, a status or a Mic-E report, without hops.
     pub fn new(from: Callsign, data: impl Into<AprsData<'a>>) -> Self {
         AprsPacket {
             from,
@@ -140,10 +179,21 @@ impl<'a> AprsPacket<'a> {
 
     /// What puts the packet into a buffer.
     fn by(&self, writer: Writer) -> impl FnOnce(*mut u8, usize) -> ffi::Answer + '_ {
-        let (record, comment) = (record_of(self), self.comment());
+        let (comment, identifier) = (self.comment(), self.data.identifier());
+        let record = record_of(self);
         move |at, length| {
             // SAFETY: each pointer and its length are those of one slice, and the buffer is lent to nobody else.
-            unsafe { writer(record, comment.as_ptr(), comment.len(), at, length) }
+            unsafe {
+                writer(
+                    record,
+                    comment.as_ptr(),
+                    comment.len(),
+                    identifier.as_ptr(),
+                    identifier.len(),
+                    at,
+                    length,
+                )
+            }
         }
     }
 
@@ -152,7 +202,7 @@ impl<'a> AprsPacket<'a> {
         self.data.to()
     }
 
-    /// The comment, of either kind.
+    /// The comment, or the text of a message.
     pub fn comment(&self) -> &'a [u8] {
         self.data.comment()
     }

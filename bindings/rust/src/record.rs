@@ -2,26 +2,28 @@
 
 use crate::callsign::Callsign;
 use crate::ffi;
+use crate::message::{Addressee, AprsMessage};
 use crate::mic_e::{AprsMicE, Course, Message, Speed};
 use crate::packet::{AprsData, AprsPacket};
 use crate::place::{angles_of, place_of};
 use crate::position::AprsPosition;
 use crate::precision::Precision;
 use crate::refusal::Refusal;
+use crate::status::AprsStatus;
 use crate::timestamp::Timestamp;
 use crate::via::{Path, Via};
 
 /// The packet of a record that was read from `bytes`.
 pub fn packet_of<'a>(record: &ffi::Record, bytes: &'a [u8]) -> Result<AprsPacket<'a>, Refusal> {
     let ffi::Record { header, body } = record;
-    let comment = bytes
-        .get(body.comment.at..)
-        .and_then(|rest| rest.get(..body.comment.len));
-    let comment = comment.ok_or(Refusal::OutOfRange)?;
+    let comment = part_of(bytes, body.comment)?;
+    let identifier = part_of(bytes, body.identifier)?;
     let to = Callsign::of(header.to);
     let data = match body.kind {
         ffi::POSITION => position_of(body, to, comment)?.into(),
         ffi::MIC_E => mic_e_of(&body.place, &body.report, comment)?.into(),
+        ffi::MESSAGE => message_of(body, to, comment, identifier).into(),
+        ffi::STATUS => AprsStatus::new(to, Timestamp::of(body.time)?, comment).into(),
         _ => AprsData::Unknown(to),
     };
     Ok(AprsPacket {
@@ -29,6 +31,11 @@ pub fn packet_of<'a>(record: &ffi::Record, bytes: &'a [u8]) -> Result<AprsPacket
         via: path_of(&header.path)?,
         data,
     })
+}
+
+fn part_of(bytes: &[u8], span: ffi::Span) -> Result<&[u8], Refusal> {
+    let part = bytes.get(span.at..).and_then(|rest| rest.get(..span.len));
+    part.ok_or(Refusal::OutOfRange)
 }
 
 fn path_of(path: &ffi::Path) -> Result<Path, Refusal> {
@@ -69,7 +76,18 @@ fn mic_e_of<'a>(
     Ok(found)
 }
 
-/// The record of a packet, without its comment's place.
+fn message_of<'a>(
+    body: &ffi::Body,
+    to: Callsign,
+    text: &'a [u8],
+    identifier: &'a [u8],
+) -> AprsMessage<'a> {
+    let mut found = AprsMessage::new(to, Addressee::of(body.addressee), text);
+    found.id = Some(identifier).filter(|identifier| !identifier.is_empty());
+    found
+}
+
+/// The record of a packet, without the places of its comment and its identifier.
 pub fn record_of(packet: &AprsPacket<'_>) -> ffi::Record {
     let to = packet.to().map(Callsign::raw).unwrap_or_default();
     let header = ffi::Header {
@@ -79,6 +97,8 @@ pub fn record_of(packet: &AprsPacket<'_>) -> ffi::Record {
     };
     let body = match &packet.data {
         AprsData::Position(position) => position_body(position),
+        AprsData::Message(message) => message_body(message),
+        AprsData::Status(status) => status_body(status),
         AprsData::MicE(report) => mic_e_body(report),
         AprsData::Unknown(_) => ffi::Body::default(),
     };
@@ -106,6 +126,22 @@ fn position_body(position: &AprsPosition<'_>) -> ffi::Body {
         time: position.timestamp.map(Timestamp::raw).unwrap_or_default(),
         messaging: position.messaging_supported,
         kind: ffi::POSITION,
+        ..Default::default()
+    }
+}
+
+fn message_body(message: &AprsMessage<'_>) -> ffi::Body {
+    ffi::Body {
+        addressee: *message.addressee.padded(),
+        kind: ffi::MESSAGE,
+        ..Default::default()
+    }
+}
+
+fn status_body(status: &AprsStatus<'_>) -> ffi::Body {
+    ffi::Body {
+        time: status.time(),
+        kind: ffi::STATUS,
         ..Default::default()
     }
 }
@@ -145,7 +181,7 @@ mod tests {
     }
 
     #[test]
-    fn a_record_comes_back_but_for_the_comments_place() {
+    fn a_record_comes_back_but_for_its_places() {
         for line in [
             &b"N0CALL-01>APRS,WIDE1-1,WIDE2-2*,K1A:!4903.50N/07201.75W-Test"[..],
             b"A>B,1,2,3,4,5,6,7,8*:=49  .  S/072  .  W-",
@@ -158,12 +194,18 @@ mod tests {
             b"A>B:@000000h4903.50N/07201.75W>",
             b"A>0LLLLL:`vX\x1cn\"Oj/",
             b"A>B-7:hi",
+            b"A>B-7::WU2Z     :Testing{003",
+            b"A>B::\0\0\0\0\0\0\0\0\0:",
+            b"A-0>B-0::::: : :: :x",
+            b"A>B-7:>Net Control Center",
+            b"A>S32UVT,C-0*:>092345z",
             b"A-0>B-0,C,D-0*:!0000.00N/00000.00E-",
             b"A-0>S32UVT-0,B-0:`(_fn\"Oj/",
         ] {
             let mut record = read(line);
             let packet = packet_of(&record, line).unwrap();
-            record.body.comment = ffi::Comment::default();
+            record.body.comment = ffi::Span::default();
+            record.body.identifier = ffi::Span::default();
             assert_eq!(record_of(&packet), record);
             assert_eq!(marks(&record_of(&packet)), marks(&record));
         }
@@ -173,9 +215,11 @@ mod tests {
     #[test]
     fn a_record_made_by_hand_is_refused_and_does_not_trap() {
         let line = b"A>S32UVT,B:`(_fn\"Oj/Comment";
-        let spoilt: [fn(&mut ffi::Record); 10] = [
+        let spoilt: [fn(&mut ffi::Record); 12] = [
             |record| record.body.comment.at = usize::MAX,
             |record| record.body.comment.len = usize::MAX,
+            |record| record.body.identifier.at = usize::MAX,
+            |record| record.body.identifier.len = usize::MAX,
             |record| {
                 record.body.place.latitude = i32::MIN;
                 record.body.place.south = true;

@@ -15,7 +15,7 @@ macro_rules! refusals {
         /// ```
         /// use tusselgro::{AprsPacket, Refusal};
         ///
-        /// let refusal = AprsPacket::decode_textual(b"N0CALL>APRS:>hi").unwrap_err();
+        /// let refusal = AprsPacket::decode_textual(b"N0CALL>APRS:!/5L!!<*e7>7P[").unwrap_err();
         /// assert_eq!((refusal, refusal.number()), (Refusal::NotCarried, 7));
         /// assert!(refusal.to_string().starts_with("7: not carried: body starts"));
         /// ```
@@ -75,7 +75,7 @@ refusals! {
     4 CallsignTooLong "callsign text over 16 bytes"
     5 TooManyHops "a ninth hop"
     6 QElement "a Q element: a textual hop of three bytes that starts qA"
-    7 NotCarried "not carried: body starts ':' '>', or '!' '=' '/' '@' with a compressed position"
+    7 NotCarried "not carried: body starts '!' '=' '/' '@' with a compressed position"
     8 Latitude "latitude cannot be read"
     9 Longitude "longitude cannot be read"
     10 PositionTooShort "position under 19 bytes after its type byte or time; time under 7 bytes"
@@ -85,6 +85,8 @@ refusals! {
     14 UnknownKind "record of Unknown kind to be written"
     15 OutOfRange "record, angle, time, blanks or list target out of range"
     17 Time "time cannot be read"
+    18 Malformed "a message or status is malformed: no ':' after nine addressee bytes; text too long or not allowed; \
+        identifier not of 1 to 5 bytes"
 }
 
 impl Refusal {
@@ -129,12 +131,12 @@ mod tests {
     fn each_means_what_the_source_says() {
         let mut lines = SOURCE.lines();
         assert_eq!(lines.next(), Some("0\tno refusal"));
-        for number in 1..=17 {
+        for number in 1..=18 {
             let meaning = Refusal::of(number, 7).map_or("", Refusal::meaning);
             assert_eq!(lines.next(), Some(&*format!("{number}\t{meaning}")));
         }
         assert_eq!(lines.next(), None);
-        assert_eq!(Refusal::of(18, 0), Some(Refusal::Other(18)));
+        assert_eq!(Refusal::of(19, 0), Some(Refusal::Other(19)));
     }
 
     #[test]
@@ -145,8 +147,8 @@ mod tests {
             "16: output buffer too short; the bytes needed are returned: 40"
         );
         assert_eq!(
-            Refusal::Other(18).to_string(),
-            "18: a refusal without a name"
+            Refusal::Other(19).to_string(),
+            "19: a refusal without a name"
         );
     }
 }

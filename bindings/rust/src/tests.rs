@@ -6,6 +6,8 @@ use crate::*;
 const LINE: &[u8] = b"N0CALL-01>APRS,WIDE1-1,WIDE2-2*,K1A:!4903.50N/07201.75W-Test";
 const MIC_E: &[u8] = b"A>S32U6T:`(_fn\"Oj/Comment";
 const TIMED: &[u8] = b"A>B:@092345z4903.50N/07201.75W>Test1234";
+const MESSAGE: &[u8] = b"N0CALL-01>APRS,K1A*::WU2Z     :Testing{003";
+const STATUS: &[u8] = b"N0CALL-01>APRS,K1A*:>092345zNet Control Center";
 
 fn read(line: &[u8]) -> AprsPacket<'_> {
     AprsPacket::decode_textual(line).unwrap()
@@ -96,7 +98,13 @@ fn what_is_unknown_has_its_destination_and_is_not_written() {
 
 #[test]
 fn what_is_read_is_written_as_it_stood() {
-    for line in [LINE, MIC_E, b"X>Y,A,B*,C:=0000.00N/00000.00E-"] {
+    for line in [
+        LINE,
+        MIC_E,
+        MESSAGE,
+        STATUS,
+        b"X>Y,A,B*,C:=0000.00N/00000.00E-",
+    ] {
         assert_eq!(written(&read(line)), Ok(line.to_vec()));
         let mut out = [0xaa; MOST_BYTES];
         assert_eq!(read(line).encode_textual_to_slice(&mut out), Ok(line));
@@ -138,7 +146,7 @@ fn a_zero_is_read_with_its_letter_and_written_north_or_east() {
         let (latitude, longitude) = match &packet.data {
             AprsData::Position(position) => (position.latitude, position.longitude),
             AprsData::MicE(report) => (report.latitude, report.longitude),
-            AprsData::Unknown(_) => panic!("{packet:?}"),
+            _ => panic!("{packet:?}"),
         };
         assert_eq!((latitude.hundredths(), latitude.is_south()), (0, south));
         assert_eq!(longitude.side(), side);
@@ -232,6 +240,134 @@ fn a_packet_with_a_time_out_of_range_is_not_written() {
         assert_eq!(packet.encode_textual_to_slice(&mut out), refused);
         assert_eq!(packet.encode_ax25_to_slice(&mut out), refused);
     }
+    assert!(out.iter().all(|byte| *byte == 0xaa));
+}
+
+fn framed(packet: &AprsPacket<'_>) -> Result<Vec<u8>, Refusal> {
+    let mut out = Vec::new();
+    packet.encode_ax25(&mut out).map(|()| out)
+}
+
+/// A line, its addressee, text and identifier.
+type Addressed<'a> = (&'a [u8], &'a str, &'a [u8], Option<&'a [u8]>);
+
+/// Document 02's R-5. Both kinds keep their destination, whatever it is.
+#[test]
+fn a_message_is_read_and_written_as_a_line_and_as_a_frame() {
+    let cases: [Addressed<'_>; 4] = [
+        (b"A>B::WU2Z     :Testing", "WU2Z", b"Testing", None),
+        (
+            b"A>B::WU2Z     :Testing{003",
+            "WU2Z",
+            b"Testing",
+            Some(b"003"),
+        ),
+        (b"A>B::::: : :: :{:", "::: : ::", b"", Some(b":")),
+        (b"A>B::         :ack1", "", b"ack1", None),
+    ];
+    for (line, addressee, text, id) in cases {
+        let packet = read(line);
+        let message = match packet.data {
+            AprsData::Message(message) => message,
+            _ => panic!("{packet:?}"),
+        };
+        assert_eq!(message.addressee.to_string(), addressee);
+        assert_eq!((message.text, message.id), (text, id));
+        assert_eq!((packet.to(), packet.comment()), (Some(&message.to), text));
+        assert_eq!(message.to.as_str(), "B");
+        assert_eq!(written(&packet), Ok(line.to_vec()));
+        let frame = framed(&packet).unwrap();
+        assert_eq!(frame[16..], line[4..]);
+        assert_eq!(AprsPacket::decode_ax25(&frame), Ok(packet));
+    }
+    let mic_e = read(b"A>S32U6T-0::WU2Z     :");
+    assert_eq!(
+        mic_e.to().map(Callsign::typed_text),
+        Some("S32U6T-0".to_string())
+    );
+}
+
+#[test]
+fn a_status_is_read_and_written_as_a_line_and_as_a_frame() {
+    let cases: [(&[u8], Option<Timestamp>, &[u8]); 5] = [
+        (b"A>B:>Net Control Center", None, b"Net Control Center"),
+        (
+            b"A>B:>092345zNet Control Center",
+            Some(Timestamp::DDHHMM(9, 23, 45)),
+            b"Net Control Center",
+        ),
+        (b"A>B:>", None, b""),
+        (b"A>B:>010000z", Some(Timestamp::DDHHMM(1, 0, 0)), b""),
+        (b"A>B:>010000/x", None, b"010000/x"),
+    ];
+    for (line, timestamp, comment) in cases {
+        let packet = read(line);
+        let status = match packet.data {
+            AprsData::Status(status) => status,
+            _ => panic!("{packet:?}"),
+        };
+        assert_eq!((status.timestamp, status.comment), (timestamp, comment));
+        assert_eq!((packet.to(), packet.comment()), (Some(&status.to), comment));
+        assert_eq!(written(&packet), Ok(line.to_vec()));
+        let frame = framed(&packet).unwrap();
+        assert_eq!(frame[16..], line[4..]);
+        assert_eq!(AprsPacket::decode_ax25(&frame), Ok(packet));
+    }
+}
+
+/// In a line and in a frame: 18 "in place of the body's other numbers", but behind those of the header.
+#[test]
+fn what_is_no_message_and_no_status_is_refused_with_18() {
+    let header = &framed(&read(b"A>B:>")).unwrap()[..16];
+    let (long, longer) = ([b'x'; 63], [b'x'; 68]);
+    let bodies: [&[u8]; 9] = [
+        b":",
+        b":WU2Z     ",
+        b":WU2Z:Testing",
+        b":WU2Z     :{",
+        b":WU2Z     :{123456",
+        b":WU2Z     :a|b",
+        &[b":WU2Z     :", &longer[..]].concat(),
+        &[b">", &long[..]].concat(),
+        &[b">092345z", &long[..56]].concat(),
+    ];
+    for body in bodies {
+        assert_eq!(refusal(&[b"A>B:", body].concat()), 18);
+        assert_eq!(refusal(&[b"A->B:", body].concat()), 3);
+        let frame = [header, body].concat();
+        assert_eq!(AprsPacket::decode_ax25(&frame), Err(Refusal::Malformed));
+    }
+}
+
+/// 15, 14, 18, 13, 16; a message is never too long for a packet, so 1 is not among them.
+#[test]
+fn refusals_of_a_message_written_in_their_order() {
+    let message = |from, text| AprsPacket::message(from, "B", "WU2Z", text);
+    let spoilt = message("ABCDEFG", b"|").build().unwrap();
+    assert_eq!(written(&spoilt), Err(Refusal::Malformed));
+    assert_eq!(framed(&spoilt), Err(Refusal::Malformed));
+    let many = [b'x'; MOST_BYTES + 1];
+    assert_eq!(
+        written(&message("A", &many).build().unwrap()),
+        Err(Refusal::Malformed)
+    );
+    let six = message("ABCDEFG", b"hi").id(b"123456").build().unwrap();
+    assert_eq!(framed(&six), Err(Refusal::Malformed));
+    let seven = message("ABCDEFG", b"hi").id(b"12345").build().unwrap();
+    assert_eq!(framed(&seven), Err(Refusal::NotAx25));
+    let mut out = [0xaa; MOST_BYTES];
+    let needed = b"ABCDEFG>B::WU2Z     :hi{12345".len();
+    assert_eq!(
+        seven.encode_textual_to_slice(&mut out[..needed - 1]),
+        Err(Refusal::NoRoom { needed })
+    );
+    let timed = AprsPacket::status("ABCDEFG", "B", &many).timestamp(Timestamp::HHMMSS(0, 0, 0));
+    assert_eq!(framed(&timed.build().unwrap()), Err(Refusal::OutOfRange));
+    let untimed = AprsPacket::status("A", "B", b"010000z").build().unwrap();
+    assert_eq!(
+        untimed.encode_textual_to_slice(&mut out),
+        Err(Refusal::Malformed)
+    );
     assert!(out.iter().all(|byte| *byte == 0xaa));
 }
 
@@ -348,7 +484,7 @@ fn every_refusal_of_a_line() {
         b"ABCDEFGHIJKLMNO-0>B:",
         b"A>B,1,2,3,4,5,6,7,8,:",
         b"A>B,qAC:",
-        b"N0CALL>APRS:>hi",
+        b"A>B:!/5L!!<*e7>7P[",
         b"A>B:!9000.01N/00000.00E-",
         b"A>B:!0000.00N/000 0.00E-",
         b"A>B:!4903.50N/",
@@ -357,6 +493,7 @@ fn every_refusal_of_a_line() {
     ];
     assert!(lines.iter().map(|line| refusal(line)).eq(1..=12));
     assert_eq!(refusal(b"A>B:/000000z4903.50N/07201.75W>"), 17);
+    assert_eq!(refusal(b"A>B::WU2Z     "), 18);
     assert_eq!(refusal(&long[..512]), 0);
 }
 
@@ -408,12 +545,12 @@ fn spoilt_lines_do_no_harm() {
         state = state.wrapping_mul(1_664_525).wrapping_add(1_013_904_223);
         (state >> 8) as usize % below
     };
-    let (mut accepted, mut refused, mut mistimed) = (0, 0, 0);
+    let (mut accepted, mut refused, mut mistimed, mut malformed) = (0, 0, 0, 0);
     for _ in 0..20_000 {
-        let mut line = [LINE, MIC_E, TIMED][random(3)].to_vec();
+        let mut line = [LINE, MIC_E, TIMED, MESSAGE, STATUS][random(5)].to_vec();
         for _ in 0..1 + random(3) {
             let at = random(line.len());
-            line[at] = [random(256) as u8, b":>,*-!/h 09"[random(11)]][random(2)];
+            line[at] = [random(256) as u8, b":>,*-!/h 09{|~"[random(14)]][random(2)];
         }
         line.truncate(1 + random(2 * line.len()));
         let mut room = [0; MOST_BYTES];
@@ -426,12 +563,13 @@ fn spoilt_lines_do_no_harm() {
                 accepted += 1;
             }
             Err(refusal) => {
-                assert!(matches!(refusal.number(), 1..=12 | 17));
+                assert!(matches!(refusal.number(), 1..=12 | 17 | 18));
                 mistimed += usize::from(refusal == Refusal::Time);
+                malformed += usize::from(refusal == Refusal::Malformed);
                 refused += 1;
             }
         }
     }
     assert!(accepted > 1_000 && refused > 1_000, "{accepted} {refused}");
-    assert!(mistimed > 100, "{mistimed}");
+    assert!(mistimed > 100 && malformed > 100, "{mistimed} {malformed}");
 }

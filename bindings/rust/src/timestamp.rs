@@ -1,4 +1,4 @@
-// The time of a position: its seven bytes read and written.
+// The time of a position or a status: its seven bytes read and written.
 
 use crate::ffi;
 use crate::out::{to_slice, to_vec};
@@ -6,7 +6,7 @@ use crate::refusal::Refusal;
 use std::fmt;
 use std::str::FromStr;
 
-/// The time of a position. A packet tells no month and no year.
+/// The time of a position or a status. A packet tells no month and no year.
 ///
 /// ```
 /// use tusselgro::{Refusal, Timestamp};

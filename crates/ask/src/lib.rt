@@ -1,9 +1,9 @@
-// A record made by hand, its header and its body, each by their words: part of the programs inspect and bench. Words that make no
-// part of it give one that is not good.
+// A record made by hand, its header and its body, each by their words, and the identifier that goes with a message: part of the
+// programs inspect and bench. Words that make no part of it give one that is not good.
 use body::Body;
-use body::Comment;
 use body::Kind;
 use body::Report;
+use body::Span;
 use callsign::Callsign;
 use header::Header;
 use header::Hop;
@@ -49,6 +49,13 @@ struct LettersWord {
 
 struct TimeWord {
     time: Time,
+    good: bool,
+}
+
+// Which addressee a word is, whether a record of its kind can hold it, and whether it is any.
+struct AddresseeWord {
+    addressee: [u8; 9],
+    held: bool,
     good: bool,
 }
 
@@ -238,10 +245,12 @@ pub fn header_word(s: &[u8]) -> HeaderWord {
 // ---- the body
 
 fn kind_word(s: &[u8]) -> KindWord {
-    match words::place(s, b"unknown position mic-e") {
+    match words::place(s, b"unknown position mic-e message status") {
         0 => KindWord::Is(Kind::Unknown),
         1 => KindWord::Is(Kind::Position),
         2 => KindWord::Is(Kind::MicE),
+        3 => KindWord::Is(Kind::Message),
+        4 => KindWord::Is(Kind::Status),
         _ => KindWord::Bad,
     }
 }
@@ -349,16 +358,33 @@ fn past_zeros(s: &[u8]) -> &[u8] {
     words::past(words::past(s, b" letters="), b" zeros=")
 }
 
+// The same, and the time.
+fn past_time(s: &[u8]) -> &[u8] {
+    words::past(past_zeros(s), b" time=")
+}
+
+// The same, and the addressee.
+fn past_addressee(s: &[u8]) -> &[u8] {
+    words::past(past_time(s), b" addressee=")
+}
+
 // Whether nothing else stands there.
 fn is_known(s: &[u8]) -> bool {
-    words::past(past_zeros(s), b" time=").len() == 0
+    words::past(past_addressee(s), b" id=").len() == 0
 }
 
 fn has_position(k: Kind) -> bool {
     match k {
-        Kind::Unknown => false,
         Kind::Position => true,
         Kind::MicE => true,
+        _ => false,
+    }
+}
+
+fn is_message(k: Kind) -> bool {
+    match k {
+        Kind::Message => true,
+        _ => false,
     }
 }
 
@@ -442,6 +468,49 @@ fn time_word(s: &[u8]) -> TimeWord {
     no_time(true)
 }
 
+fn no_addressee() -> AddresseeWord {
+    AddresseeWord {
+        addressee: [0; 9],
+        held: false,
+        good: false,
+    }
+}
+
+// An addressee for a kind that has one, or for another; where none was given it is nine spaces in the one, and none in the other.
+// Since none is nine zeros, the other cannot hold nine zeros that were given.
+fn addressee_made(addressed: bool, given: bool, addressee: [u8; 9]) -> AddresseeWord {
+    if addressed | given {
+        return AddresseeWord {
+            addressee,
+            held: addressed | !message::is_blank(addressee),
+            good: true,
+        };
+    }
+    AddresseeWord {
+        addressee: [0; 9],
+        held: true,
+        good: true,
+    }
+}
+
+// `addressee=HEX`: nine bytes at most, the last of them no space, filled up with spaces; left out, none is given.
+fn addressee_word(addressed: bool, s: &[u8]) -> AddresseeWord {
+    let mut addressee = [b' '; 9];
+    let read = words::given(past_time(s), b" addressee=", &mut addressee);
+    let Bytes::Are(n) = read else {
+        return no_addressee();
+    };
+    if 9 < n {
+        return no_addressee();
+    }
+    if 0 < n {
+        if addressee[n - 1] == b' ' {
+            return no_addressee();
+        }
+    }
+    addressee_made(addressed, 0 < n, addressee)
+}
+
 // ---- the body's parts together
 
 fn no_body() -> BodyWord {
@@ -450,6 +519,44 @@ fn no_body() -> BodyWord {
         body,
         held: false,
         good: false,
+    }
+}
+
+// A place and a report, and the words behind them.
+fn body_with(kind: Kind, place: Place, report: Report, messaging: bool, more: &[u8]) -> BodyWord {
+    let letters = letters_word(has_position(kind), place, more);
+    if !letters.good {
+        return no_body();
+    }
+    let timed = time_word(more);
+    if !timed.good {
+        return no_body();
+    }
+    let named = addressee_word(is_message(kind), more);
+    if !named.good {
+        return no_body();
+    }
+    let mut place = place;
+    place.south = letters.south;
+    place.west = letters.west;
+    let comment = Span { at: 0, len: 0 };
+    let identifier = Span { at: 0, len: 0 };
+    let time = timed.time;
+    let addressee = named.addressee;
+    let body = Body {
+        place,
+        report,
+        comment,
+        identifier,
+        time,
+        addressee,
+        messaging,
+        kind,
+    };
+    BodyWord {
+        body,
+        held: letters.held & named.held,
+        good: true,
     }
 }
 
@@ -467,33 +574,7 @@ fn body_of(kind: Kind, mic_e: bool, flag: bool, s: &[u8]) -> BodyWord {
     if !is_known(more) {
         return no_body();
     }
-    let mut place = placed.place;
-    let letters = letters_word(has_position(kind), place, more);
-    if !letters.good {
-        return no_body();
-    }
-    place.south = letters.south;
-    place.west = letters.west;
-    let timed = time_word(more);
-    if !timed.good {
-        return no_body();
-    }
-    let time = timed.time;
-    let report = told.report;
-    let comment = Comment { at: 0, len: 0 };
-    let body = Body {
-        place,
-        report,
-        comment,
-        time,
-        messaging: !mic_e & flag,
-        kind,
-    };
-    BodyWord {
-        body,
-        held: letters.held,
-        good: true,
-    }
+    body_with(kind, placed.place, told.report, !mic_e & flag, more)
 }
 
 // `KIND FLAG`, the words of a header, and what follows
@@ -513,4 +594,21 @@ pub fn body_word(s: &[u8]) -> BodyWord {
         flag == 1,
         words::skip(s, 5),
     )
+}
+
+// ---- what is handed over with a message
+
+// `id=HEX`, behind the words of a body; left out, there is none. Another kind than a message takes none.
+pub fn identifier_word(s: &[u8], out: &mut [u8]) -> Bytes {
+    let more = past_addressee(words::behind(words::skip(s, 12)));
+    let read = words::given(more, b" id=", out);
+    let Bytes::Are(n) = read else {
+        return Bytes::Bad;
+    };
+    if 0 < n {
+        if !check::same(lines::first(s), b"message") {
+            return Bytes::Bad;
+        }
+    }
+    Bytes::Are(n)
 }

@@ -17,11 +17,11 @@ use Rattle.lonlat.specs.Angle.{mostLatitude}
 use Rattle.position.specs.declared.Place.{Place}
 use Rattle.position.specs.Position.{placeInRange}
 use Rattle.position.proofs.Reach.{latitude-near, reach-few}
-use Rattle.mic_e.specs.declared.Message.{Message}
+use Rattle.mic_e.specs.declared.Message as mic-e
 use Rattle.mic_e.specs.Destination.{destinationBytes}
 use Rattle.mic_e.proofs.DestinationFacts.{destination-length, destination-ascii}
 use Rattle.body.specs.declared.Kind.{Kind}
-use Rattle.body.specs.declared.Kind.the-variants.{Unknown, Position, MicE}
+use Rattle.body.specs.declared.Kind.the-variants.{Unknown, Position, MicE, Message, Status}
 use Rattle.body.specs.declared.Body.{Body}
 use Rattle.body.specs.Range.{inRangeAs, bodyInRange}
 use Rattle.body.specs.Written.{micECall, toAs, writtenTo}
@@ -31,7 +31,7 @@ six-short : (l : List ℕ) → length l ≡ 6 → length (joined l []) ≤ 16
 unfolding joined
 six-short l h = omega arith
 
-module _ (place : Place) (message : Message) (near : placeInRange place ≡ true) where
+module _ (place : Place) (message : mic-e.Message) (near : placeInRange place ≡ true) where
   abbrev bytes : List ℕ
   bytes = destinationBytes (place .latitude .0) (place .blanks) message (place .longitude .0)
 
@@ -50,4 +50,6 @@ to-same b to = go (b .kind)
     go : (k : Kind) → inRangeAs k b to ≡ true → inRange (toAs k b to) ≡ inRange to
     go Unknown e = refl
     go Position e = refl
+    go Message e = refl
+    go Status e = refl
     go MicE e = let h = mic-e-held b to e in built-range (b .place) (b .report .message) (h .near) ∙ sym (blank-is-in-range to (h .no-call))

@@ -25,7 +25,7 @@ use Rattle.mic_e.specs.Destination.{destinationRefusal}
 use Rattle.mic_e.specs.Information.{informationOut}
 use Rattle.body.specs.declared.Report.{Report}
 use Rattle.body.specs.declared.Body.{Body}
-use Rattle.body.specs.Range.{isShort, motionInRange, micEInRange}
+use Rattle.body.specs.Range.{isShort, motionInRange, isNoAddressee, isReportAlone, micEInRange}
 use Rattle.body.specs.Written.{informationOf}
 
 -- ---- what the writers refuse
@@ -77,28 +77,21 @@ pub record Reported (b : Body) (to : Callsign) : Type 0 where
   pub turned : b .report .course .0 ≤ mostCourse
 
 pub mic-e-held : (b : Body) (to : Callsign) → micEInRange b to ≡ true → Reported b to
-unfolding micEInRange isShort motionInRange
+unfolding micEInRange isReportAlone isShort motionInRange
 mic-e-held b to e =
-    let a₂ = not (b .messaging) in
-    let a₃ = isNoTime (b .time) in
-    let a₄ = lettersAgree (b .place) in
-    let a₅ = placeInRange (b .place) in
-    let a₆ = ltb (natAbs (b .place .longitude .0)) mostLongitude in
-    let a₇ = leb (b .report .speed .0) mostSpeed in
-    let a₈ = leb (b .report .course .0) mostCourse in
-    let e₂ = and-second (isBlankCall to) (a₂ && (a₃ && (a₄ && (a₅ && (a₆ && (a₇ && a₈)))))) e in
-    let e₃ = and-second a₂ (a₃ && (a₄ && (a₅ && (a₆ && (a₇ && a₈))))) e₂ in
-    let e₄ = and-second a₃ (a₄ && (a₅ && (a₆ && (a₇ && a₈)))) e₃ in
-    let e₅ = and-second a₄ (a₅ && (a₆ && (a₇ && a₈))) e₄ in
-    let e₆ = and-second a₅ (a₆ && (a₇ && a₈)) e₅ in
-    let e₇ = and-second a₆ (a₇ && a₈) e₆ in
+    let e₂ = and-second (isBlankCall to) _ e in
+    let e₃ = and-second (isReportAlone b) _ e₂ in
+    let e₄ = and-second (lettersAgree (b .place)) _ e₃ in
+    let e₅ = and-second (placeInRange (b .place)) _ e₄ in
+    let e₆ = and-second (ltb (natAbs (b .place .longitude .0)) mostLongitude) _ e₅ in
+    let alone = and-first (isReportAlone b) _ e₂ in
     record {
-      no-call = and-first (isBlankCall to) (a₂ && (a₃ && (a₄ && (a₅ && (a₆ && (a₇ && a₈)))))) e;
-      no-messaging = not-true (b .messaging) (and-first a₂ (a₃ && (a₄ && (a₅ && (a₆ && (a₇ && a₈))))) e₂);
-      no-time = no-time-is (b .time) (and-first a₃ (a₄ && (a₅ && (a₆ && (a₇ && a₈)))) e₃);
-      agree = and-first a₄ (a₅ && (a₆ && (a₇ && a₈))) e₄;
-      near = and-first a₅ (a₆ && (a₇ && a₈)) e₅;
-      short = ltb-true (natAbs (b .place .longitude .0)) mostLongitude (and-first a₆ (a₇ && a₈) e₆);
-      slow = leb-true (b .report .speed .0) mostSpeed (and-first a₇ a₈ e₇);
-      turned = leb-true (b .report .course .0) mostCourse (and-second a₇ a₈ e₇);
+      no-call = and-first (isBlankCall to) _ e;
+      no-messaging = not-true (b .messaging) (and-first (not (b .messaging)) (isNoTime (b .time) && isNoAddressee b) alone);
+      no-time = no-time-is (b .time) (and-first (isNoTime (b .time)) (isNoAddressee b) (and-second (not (b .messaging)) (isNoTime (b .time) && isNoAddressee b) alone));
+      agree = and-first (lettersAgree (b .place)) _ e₃;
+      near = and-first (placeInRange (b .place)) _ e₄;
+      short = ltb-true (natAbs (b .place .longitude .0)) mostLongitude (and-first (ltb (natAbs (b .place .longitude .0)) mostLongitude) _ e₅);
+      slow = leb-true (b .report .speed .0) mostSpeed (and-first (leb (b .report .speed .0) mostSpeed) _ e₆);
+      turned = leb-true (b .report .course .0) mostCourse (and-second (leb (b .report .speed .0) mostSpeed) _ e₆);
     }

@@ -1,11 +1,14 @@
 pub mod Tests
 pub mod Reading
 pub mod Judged
+pub mod Answered
 pub mod Writing
+pub mod TextWriting
 pub mod Built
 pub mod Found
 pub mod Times
 pub mod ReadsBack
 pub mod PositionBack
+pub mod TextBack
 pub mod Theorems
 pub mod Unique

@@ -26,18 +26,25 @@ use Rattle.position.proofs.Theorems.{cutPlace, position-reads-cut}
 use Rattle.mic_e.specs.declared.Message.{Message}
 use Rattle.mic_e.specs.Message.{messageNumber, messageAt}
 use Rattle.mic_e.proofs.Messages.{number-back}
+use Rattle.message.specs.Message.{noAddressee}
 use Rattle.body.specs.declared.Kind.{Kind}
 use Rattle.body.specs.declared.Kind.the-variants.{Position}
 use Rattle.body.specs.declared.Opening.the-variants.{Positioned}
 use Rattle.body.specs.declared.Report.{Report}
 use Rattle.body.specs.declared.Body.{Body}
-use Rattle.body.specs.Body.{noReport, bodyAccepted, openingOf, commentFrom, positionBody, positionFrom, timeBehind, timeAt, behindTime, positionedFrom, bodyAfter, readBody}
-use Rattle.body.specs.Range.{isNoReport, positionInRange, inRangeAs, bodyInRange}
+use Rattle.body.specs.Body.{noSpan, noReport, bodyAccepted, openingOf, spanFrom, positionBody, positionFrom, timeBehind, timeAt, behindTime, positionedFrom, bodyAfter, readBody}
+use Rattle.body.specs.Range.{isNoReport, isNoAddressee, isPlaceAlone, positionInRange, inRangeAs, bodyInRange}
 use Rattle.body.specs.Written.{positionType, positionBytes, bytesAs, bodyBytes}
+use Rattle.body.proofs.ReadsBack.{backWith}
 
--- a body as it comes back, its angles cut: with the letters that are written, and its comment at that place and of that length
+-- a body as it comes back, its angles cut: with the letters that are written
 abbrev pub cutBack : Body → ℕ → ℕ → Body
-cutBack b at size = record { kind = b .kind; place = cutPlace (b .place); time = b .time; messaging = b .messaging; report = b .report; comment = record { at = at; len = size } }
+cutBack b at size = backWith b (cutPlace (b .place)) at size
+
+-- a position, its comment at that place and of that length
+abbrev positioned : Place → Bool → Time → Report → ℕ → ℕ → Body
+positioned place messaging time report at size =
+    record { kind = Position; place = place; time = time; messaging = messaging; report = report; comment = record { at = at; len = size }; identifier = noSpan; addressee = noAddressee }
 
 -- ---- no report is the blank one
 
@@ -72,8 +79,8 @@ opens-timed false = refl
 module _ (p : Place) (near : placeInRange p ≡ true) (comment s : List ℕ) (at : ℕ) (rest : drop at s ≡ positionText p ++ comment) (sized : length s ≡ at + 19 + length comment)
     (messaging : Bool) (t : Time) where
   place-back : positionFrom s at messaging t
-      ≡ bodyAccepted (record { kind = Position; place = cutPlace p; time = t; messaging = messaging; report = noReport; comment = record { at = at + 19; len = length comment } })
-  unfolding positionFrom positionBody commentFrom
+      ≡ bodyAccepted (positioned (cutPlace p) messaging t noReport (at + 19) (length comment))
+  unfolding positionFrom positionBody spanFrom
   place-back =
       let len : length s - (at + 19) ≡ length comment = omega (arith, sized) in
       rw (rest, position-reads-cut p near comment, len)
@@ -92,11 +99,11 @@ module _ (b : Body) (to : Callsign) (e : positionInRange b ≡ true) (before com
 
   behind-report : (timeInRange (b .time) && positionFits (b .place)) ≡ true
   unfolding positionInRange
-  behind-report = and-second (isNoReport (b .report)) _ e
+  behind-report = and-second (isPlaceAlone b) _ e
 
   report-is : b .report ≡ noReport
-  unfolding positionInRange
-  report-is = no-report-is (b .report) (and-first (isNoReport (b .report)) _ e)
+  unfolding positionInRange isPlaceAlone
+  report-is = no-report-is (b .report) (and-first (isNoReport (b .report)) (isNoAddressee b) (and-first (isPlaceAlone b) _ e))
 
   fits : positionFits (b .place) ≡ true
   fits = and-second (timeInRange (b .time)) _ behind-report
@@ -130,7 +137,7 @@ module _ (b : Body) (to : Callsign) (e : positionInRange b ≡ true) (before com
 
   -- what comes back, with the comment behind all of the body's bytes
   abbrev back : Body
-  back = record { kind = Position; place = cutPlace (b .place); time = b .time; messaging = b .messaging; report = noReport; comment = record { at = length before + (20 + length its-time); len = length comment } }
+  back = positioned (cutPlace (b .place)) (b .messaging) (b .time) noReport (length before + (20 + length its-time)) (length comment)
 
   untimed-back : isNoTime (b .time) ≡ true → readBody to input (length before) ≡ bodyAccepted back
   unfolding readBody bodyAfter positionedFrom timeAt behindTime positionType
@@ -193,7 +200,7 @@ module _ (b : Body) (to : Callsign) (k : b .kind ≡ Position) (e : bodyInRange 
       rw (its-length, its-bytes, k)
       (either-back b beside in-range before comment
       ∙ ap
-      (λ (m : Report). bodyAccepted (record { kind = Position; place = cutPlace (b .place); time = b .time; messaging = b .messaging; report = m; comment = record { at = length before + (20 + length (timeText (b .time))); len = length comment } }))
+      (λ (m : Report). bodyAccepted (positioned (cutPlace (b .place)) (b .messaging) (b .time) m (length before + (20 + length (timeText (b .time)))) (length comment)))
       (sym (report-is b to in-range before comment)))
 
   pub behind-comment : (before comment : List ℕ) → drop (length before + length (bodyBytes b)) (before ++ (bodyBytes b ++ comment)) ≡ comment

@@ -1,6 +1,7 @@
 -- Laws of a body that is read, one for each answer of the code, by the facts that its tests leave.
 -- Assumes nothing.
 use mathlib.Core.Path.{_≡_, refl, sym, ap, _∙_}
+use mathlib.Core.Logic.{_⊎_, ⊎-elim}
 use mathlib.Core.Bool.{Bool, true, false, not, cond}
 use mathlib.Core.List.{List}
 use Prim.Native.Nat.{ℕ, _+_, _-_, _^_, _<_, _≤_}
@@ -10,13 +11,16 @@ use native.Mathlib.Omega.{arith}
 use lib.Dec.{ltb}
 use borrow.Author.Tests.{eq-eqb, ne-eqb, lt-ltb, le-ltb, ltb-false, not-true, not-false}
 use borrow.Rule.Slice.PartAt.{part-to-end}
-use lib.ListN.{length, take, drop, getD, length-take, length-drop}
+use native.Mathlib.Nat.{add-zero}
+use lib.ListN.{length, take, drop, getD, replicate, length-take, length-drop}
+use Rattle.laws.specs.Lists.{padTo}
 use Rattle.callsign.specs.declared.Callsign.{Callsign}
 use Rattle.callsign.specs.Range.{callPart}
 use Rattle.time.specs.declared.Time.{Time}
 use Rattle.time.specs.declared.TimeRead.{TimeRead}
 use Rattle.time.specs.declared.TimeRead.the-variants as time
-use Rattle.time.specs.Time.{noTime, timeBytes, readTime, timeNumber}
+use Rattle.time.specs.Time.{noTime, isPresent, timeBytes, readTime, timeNumber, timeText}
+use Rattle.time.proofs.Theorems.{present-seven-bytes}
 use Rattle.position.specs.declared.PositionRead.{PositionRead}
 use Rattle.position.specs.Position.{readPosition}
 use Rattle.position.proofs.Lengths.{position-long}
@@ -29,15 +33,21 @@ use Rattle.mic_e.specs.declared.InformationRead.the-variants as information
 use Rattle.mic_e.specs.Destination.{readDestination, destinationNumber}
 use Rattle.mic_e.specs.Information.{readInformation, informationNumber}
 use Rattle.mic_e.proofs.Theorems.{information-long, not-six}
-use Rattle.body.specs.declared.Kind.the-variants.{Position, MicE}
+use Rattle.message.specs.declared.MessageRead.{MessageRead}
+use Rattle.message.specs.declared.StatusRead.{StatusRead}
+use Rattle.message.specs.declared.StatusRead.the-variants as status
+use Rattle.message.specs.Message.{noAddressee, addresseeBytes, readMessage}
+use Rattle.message.specs.Status.{readStatus, statusNumber}
+use Rattle.message.proofs.Theorems.{message-length, status-time-within}
+use Rattle.body.specs.declared.Kind.the-variants.{Position, MicE, Message, Status}
 use Rattle.body.specs.declared.Report.{Report}
-use Rattle.body.specs.declared.Comment.{Comment}
+use Rattle.body.specs.declared.Span.{Span}
 use Rattle.body.specs.declared.Opening.{Opening}
-use Rattle.body.specs.declared.Opening.the-variants.{Unported, Positioned, Mic, Other}
+use Rattle.body.specs.declared.Opening.the-variants.{Positioned, Mic, Addressed, Stated, Other}
 use Rattle.body.specs.declared.Body.{Body}
 use Rattle.body.specs.declared.BodyRead.{BodyRead}
 use Rattle.body.specs.declared.TimeAt.{TimeAt}
-use Rattle.body.specs.Body.{noReport, blankBody, bodyAccepted, bodyRefused, openingOf, commentFrom, positionBody, positionFrom, timeFound, timeRefused, timeBehind, timeAt, behindTime, positionedFrom, reportBody, micEBody, bodyAfter, readBody}
+use Rattle.body.specs.Body.{noSpan, noReport, bodyWith, blankBody, bodyAccepted, bodyRefused, openingOf, spanFrom, positionBody, positionFrom, timeFound, timeRefused, timeBehind, timeAt, behindTime, positionedFrom, reportBody, micEBody, identifierSpan, messageBody, statusBody, bodyAfter, readBody}
 
 -- ---- the time of a position, if it is to have one
 
@@ -111,9 +121,18 @@ module _ (s : List ℕ) (at : ℕ) (messaging timed : Bool) (x : TimeAt) (q : x 
       position-refused r z w = w ∙ sym (behind-is ∙ rw (← position-is, ne-eqb (p .refusal) 0 z))
 
       pub position-read : (r : BodyRead) (m : Report) → p .refusal ≡ 0 → m ≡ noReport
-          → r ≡ bodyAccepted (record { kind = Position; place = p .place; time = x .time; messaging = messaging; report = m; comment = record { at = x .behind + 19; len = length s - (x .behind + 19) } })
+          → r ≡ bodyAccepted (record {
+            kind = Position;
+            place = p .place;
+            time = x .time;
+            messaging = messaging;
+            report = m;
+            comment = record { at = x .behind + 19; len = length s - (x .behind + 19) };
+            identifier = record { at = 0; len = 0 };
+            addressee = replicate addresseeBytes 0;
+          })
           → r ≡ positionedFrom s at messaging timed
-      unfolding positionFrom positionBody commentFrom
+      unfolding positionFrom positionBody spanFrom noSpan noAddressee padTo
       position-read r m z e w = w ∙ sym (behind-is ∙ rw (← position-is, eq-eqb (p .refusal) 0 z, e))
 
 -- ---- a Mic-E report
@@ -126,7 +145,7 @@ module _ (d : Destination) (s : List ℕ) (at : ℕ) (x : InformationRead) (q : 
   information-fits i z h = omega (arith, length-drop at s, information-long (drop at s) (d .hundred) (d .west) i (sym information-is ∙ z))
 
   module _ (current : Bool) (r : BodyRead) where
-    pub information-refused : (comment : Comment) → x ≡ information.Refused → r ≡ bodyRefused 12 → r ≡ reportBody d (readInformation (drop at s) (d .hundred) (d .west)) current comment
+    pub information-refused : (comment : Span) → x ≡ information.Refused → r ≡ bodyRefused 12 → r ≡ reportBody d (readInformation (drop at s) (d .hundred) (d .west)) current comment
     unfolding reportBody informationNumber
     information-refused comment z w = rw (← information-is, z) w
 
@@ -138,12 +157,14 @@ module _ (d : Destination) (s : List ℕ) (at : ℕ) (x : InformationRead) (q : 
           messaging = false;
           report = record { message = d .message; speed = i .speed; course = i .course; current = current };
           comment = record { at = at + 8; len = length s - (at + 8) };
+          identifier = record { at = 0; len = 0 };
+          addressee = replicate addresseeBytes 0;
         })
-        → r ≡ reportBody d (readInformation (drop at s) (d .hundred) (d .west)) current (commentFrom s (at + 8))
-    unfolding reportBody commentFrom
+        → r ≡ reportBody d (readInformation (drop at s) (d .hundred) (d .west)) current (spanFrom s (at + 8))
+    unfolding reportBody spanFrom noSpan noAddressee padTo
     information-read i t z e w = w ∙ rw (← information-is, z, e)
 
-module _ (to : Callsign) (info : List ℕ) (current : Bool) (comment : Comment) (x : DestinationRead) (r : BodyRead) (q : x ≡ readDestination (callPart to)) where
+module _ (to : Callsign) (info : List ℕ) (current : Bool) (comment : Span) (x : DestinationRead) (r : BodyRead) (q : x ≡ readDestination (callPart to)) where
   pub destination-refused : x ≡ destination.Refused → r ≡ bodyRefused 11 → r ≡ micEBody (readDestination (callPart to)) info current comment
   unfolding micEBody destinationNumber
   destination-refused z w = rw (← q, z) w
@@ -153,6 +174,79 @@ module _ (to : Callsign) (info : List ℕ) (current : Bool) (comment : Comment) 
       → r ≡ micEBody (readDestination (callPart to)) info current comment
   unfolding micEBody
   destination-read d z w = rw (← q, z) w
+
+-- ---- a message
+
+pub no-identifier : (at len : ℕ) → len ≡ 0 → record { at = 0; len = 0 } ≡ identifierSpan at len
+unfolding identifierSpan noSpan
+no-identifier at len e = rw (eq-eqb len 0 e)
+
+pub an-identifier : (at len : ℕ) → (len ≡ 0 → ⊥) → record { at = at + 1; len = len } ≡ identifierSpan at len
+unfolding identifierSpan
+an-identifier at len h = rw (ne-eqb len 0 h)
+
+module _ (s : List ℕ) (at : ℕ) (m : MessageRead) (q : m ≡ readMessage (take (length s - at) (drop at s))) where
+  message-is : m ≡ readMessage (drop at s)
+  message-is = q ∙ ap readMessage (part-to-end s at)
+
+  pub message-refused : (r : BodyRead) → (m .refusal ≡ 0 → ⊥) → r ≡ bodyRefused (m .refusal) → r ≡ messageBody (readMessage (drop at s)) at
+  unfolding messageBody
+  message-refused r z w = w ∙ rw (← message-is, ne-eqb (m .refusal) 0 z)
+
+  module _ (z : m .refusal ≡ 0) where
+    message-long : at ≤ length s → at + 10 + m .text + m .identifier ≤ length s
+    message-long h =
+        let l : (10 + m .text ≤ length (drop at s)) × ((m .identifier ≡ 0) ⊎ (10 + m .text + 1 + m .identifier ≤ length (drop at s))) =
+        rw message-is (message-length (drop at s) (ap (λ (v : MessageRead). v .refusal) (sym message-is) ∙ z)) in
+        ⊎-elim (λ none. omega (arith, l .0, length-drop at s)) (λ some. omega (arith, length-drop at s)) (l .1)
+
+    pub text-ends : at ≤ length s → length s < 2 ^ 64 → Fits w64 (at + 10 + m .text)
+    text-ends h n = record { fits = omega (arith, message-long h) }
+
+    pub identifier-ends : at ≤ length s → length s < 2 ^ 64 → at + 10 + m .text + m .identifier < 2 ^ 64
+    identifier-ends h n = omega (arith, message-long h)
+
+    pub message-read : (r : BodyRead) (b : Body) (i : Span) (t : Time) → i ≡ identifierSpan (at + 10 + m .text) (m .identifier) → t ≡ noTime
+        → b ≡ bodyWith Message (record { at = at + 10; len = m .text }) i t (m .addressee) → r ≡ bodyAccepted b → r ≡ messageBody (readMessage (drop at s)) at
+    unfolding messageBody
+    message-read r b i t c d e w = w ∙ rw (e, ← message-is, eq-eqb (m .refusal) 0 z, c, d)
+
+-- ---- a status
+
+pub no-time-behind : (t : Time) (at : ℕ) → t .form ≡ 0 → at ≡ at + length (timeText t)
+unfolding timeText isPresent
+no-time-behind t at h = rw (eq-eqb (t .form) 0 h) (sym (add-zero at))
+
+pub seven-behind : (t : Time) (at : ℕ) → (t .form ≡ 0 → ⊥) → at + 7 ≡ at + length (timeText t)
+unfolding isPresent
+seven-behind t at h = ap (λ (n : ℕ). at + n) (sym (present-seven-bytes t (rw (ne-eqb (t .form) 0 h))))
+
+pub seven-fits : (t : Time) (at : ℕ) → (t .form ≡ 0 → ⊥) → at + length (timeText t) < 2 ^ 64 → Fits w64 (at + 7)
+seven-fits t at h k = record { fits = omega (arith, seven-behind t at h) }
+
+module _ (s : List ℕ) (at : ℕ) (x : StatusRead) (q : x ≡ readStatus (take (length s - at) (drop at s))) where
+  status-is : x ≡ readStatus (drop at s)
+  status-is = q ∙ ap readStatus (part-to-end s at)
+
+  pub status-refused : (r : BodyRead) → x ≡ status.Refused → r ≡ bodyRefused 18 → r ≡ statusBody (readStatus (drop at s)) s at
+  unfolding statusBody statusNumber
+  status-refused r z w = rw (← status-is, z) w
+
+  module _ (t : Time) (z : x ≡ status.Read t) where
+    time-within : at ≤ length s → at + length (timeText t) ≤ length s
+    time-within h = omega (arith, length-drop at s, status-time-within (drop at s) t (sym status-is ∙ z))
+
+    pub time-ends : at ≤ length s → length s < 2 ^ 64 → at + length (timeText t) < 2 ^ 64
+    time-ends h n = omega (arith, time-within h)
+
+    pub start-within-input : (start : ℕ) → start ≡ at + length (timeText t) → at ≤ length s → start ≤ length s
+    start-within-input start e h = omega (arith, time-within h)
+
+    pub status-read : (r : BodyRead) (b : Body) (start : ℕ) → start ≡ at + length (timeText t)
+        → b ≡ bodyWith Status (record { at = start; len = length s - start }) (record { at = 0; len = 0 }) t (replicate addresseeBytes 0) → r ≡ bodyAccepted b
+        → r ≡ statusBody (readStatus (drop at s)) s at
+    unfolding statusBody spanFrom noSpan noAddressee padTo
+    status-read r b start c e w = w ∙ rw (e, ← status-is, z, c)
 
 -- ---- the body by its first byte
 
@@ -165,10 +259,6 @@ module _ (to : Callsign) (s : List ℕ) (from : ℕ) (o : Opening) (r : BodyRead
   unfolding readBody
   opens k e = rw (lt-ltb from (length s) h, ← q, e)
 
-  pub body-unported : o ≡ Unported → r ≡ bodyRefused 7 → r ≡ readBody to s from
-  unfolding bodyAfter
-  body-unported e w = w ∙ sym (opens Unported e)
-
   pub body-other : (b : Body) → o ≡ Other → b ≡ blankBody → r ≡ bodyAccepted b → r ≡ readBody to s from
   unfolding bodyAfter
   body-other b e f w = w ∙ ap bodyAccepted f ∙ sym (opens Other e)
@@ -177,8 +267,16 @@ module _ (to : Callsign) (s : List ℕ) (from : ℕ) (o : Opening) (r : BodyRead
   unfolding bodyAfter
   body-position messaging timed e w = w ∙ sym (opens (Positioned messaging timed) e)
 
+  pub body-message : o ≡ Addressed → r ≡ messageBody (readMessage (drop (from + 1) s)) (from + 1) → r ≡ readBody to s from
+  unfolding bodyAfter
+  body-message e w = w ∙ sym (opens Addressed e)
+
+  pub body-status : o ≡ Stated → r ≡ statusBody (readStatus (drop (from + 1) s)) s (from + 1) → r ≡ readBody to s from
+  unfolding bodyAfter
+  body-status e w = w ∙ sym (opens Stated e)
+
   pub body-mic-e : (current : Bool) → o ≡ Mic current
-      → r ≡ micEBody (readDestination (callPart to)) (drop (from + 1) s) current (commentFrom s (from + 1 + 8))
+      → r ≡ micEBody (readDestination (callPart to)) (drop (from + 1) s) current (spanFrom s (from + 1 + 8))
       → r ≡ readBody to s from
   unfolding bodyAfter
   body-mic-e current e w = w ∙ sym (opens (Mic current) e)

@@ -17,6 +17,7 @@ use Rattle.callsign.specs.Range.{callPart}
 use Rattle.callsign.proofs.Made.{made-call}
 use Rattle.lonlat.specs.Angle.{mostLatitude, widthOf}
 use Rattle.time.specs.Time.{noTime}
+use Rattle.position.specs.declared.Place.{Place}
 use Rattle.position.specs.Position.{asWritten}
 use Rattle.position.proofs.Reach.{latitude-near, reach-near, reach-few}
 use Rattle.mic_e.specs.declared.DestinationRead.the-variants as destination
@@ -25,18 +26,33 @@ use Rattle.mic_e.specs.Information.{informationBytes}
 use Rattle.mic_e.proofs.Range.{in-all}
 use Rattle.mic_e.proofs.DestinationFacts.{destination-reads-back}
 use Rattle.mic_e.proofs.Theorems.{destinationFor, ReadsBack, report-reads-back, information-length}
+use Rattle.message.specs.Message.{noAddressee}
 use Rattle.body.specs.declared.Kind.{Kind}
 use Rattle.body.specs.declared.Kind.the-variants.{MicE}
 use Rattle.body.specs.declared.Opening.the-variants.{Mic}
 use Rattle.body.specs.declared.Body.{Body}
-use Rattle.body.specs.Body.{bodyAccepted, openingOf, commentFrom, reportBody, micEBody, bodyAfter, readBody}
+use Rattle.body.specs.Body.{noSpan, bodyAccepted, openingOf, spanFrom, reportBody, micEBody, bodyAfter, readBody}
 use Rattle.body.specs.Range.{inRangeAs, bodyInRange}
 use Rattle.body.specs.Written.{micECall, toAs, writtenTo, informationOf, micEBytes, bytesAs, bodyBytes}
 use Rattle.body.proofs.Judged.{Reported, mic-e-held}
 
--- a body as it comes back: with the letters that are written, and its comment at that place and of that length
+-- a body with another place, and with its comment at that place and of that length
+abbrev pub backWith : Body → Place → ℕ → ℕ → Body
+backWith b place at size =
+    record {
+      kind = b .kind;
+      place = place;
+      time = b .time;
+      messaging = b .messaging;
+      report = b .report;
+      comment = record { at = at; len = size };
+      identifier = noSpan;
+      addressee = noAddressee;
+    }
+
+-- as it comes back: with the letters that are written
 abbrev pub comesBack : Body → ℕ → ℕ → Body
-comesBack b at size = record { kind = b .kind; place = asWritten (b .place); time = b .time; messaging = b .messaging; report = b .report; comment = record { at = at; len = size } }
+comesBack b at size = backWith b (asWritten (b .place)) at size
 
 opens-again : (current : Bool) → openingOf (cond current backquote apostrophe) ≡ Mic current
 unfolding openingOf
@@ -82,15 +98,24 @@ module _ (b : Body) (to : Callsign) (h : Reported b to) (width : natAbs (b .plac
   unfolding micEBytes
   rest = drop-append-add before (micEBytes (b .place) (b .report) ++ comment) 1
 
-  behind : commentFrom input (length before + 1 + 8) ≡ record { at = length before + 9; len = length comment }
-  unfolding commentFrom
+  behind : spanFrom input (length before + 1 + 8) ≡ record { at = length before + 9; len = length comment }
+  unfolding spanFrom
   behind =
       let at : length before + 1 + 8 ≡ length before + 9 = omega arith in
       let len : length input - (length before + 9) ≡ length comment = omega (arith, sized) in
       rw (at, len)
 
   pub report-back : readBody (micECall (b .place) (b .report)) input (length before)
-      ≡ bodyAccepted (record { kind = MicE; place = asWritten (b .place); time = noTime; messaging = false; report = b .report; comment = record { at = length before + 9; len = length comment } })
+      ≡ bodyAccepted (record {
+        kind = MicE;
+        place = asWritten (b .place);
+        time = noTime;
+        messaging = false;
+        report = b .report;
+        comment = record { at = length before + 9; len = length comment };
+        identifier = noSpan;
+        addressee = noAddressee;
+      })
   unfolding readBody bodyAfter micEBody reportBody destinationFor informationOf asWritten
   report-back =
       rw (

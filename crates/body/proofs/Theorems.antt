@@ -1,15 +1,17 @@
 -- The crate's theorems: what is read, what of it is not written, the time and the boxes of what is read, what is written, and that a
--- position, timed or not, and a Mic-E body as written read back.
+-- position, timed or not, a message, a status and a Mic-E body as written read back.
 -- Assumes nothing.
 use mathlib.Core.Path.{_≡_, refl, ap, _∙_}
 use mathlib.Core.Bool.{Bool, true, false, not, cond}
-use mathlib.Core.List.{List, [], _++_}
-use Prim.Native.Nat.{ℕ, _+_, _%_, _≤_}
+use mathlib.Core.List.{List, [], _++_, append-nil}
+use Prim.Native.Nat.{ℕ, _+_, _%_, _<_, _≤_}
 use native.Mathlib.Omega.{arith}
 use lib.IntN.{ℤ, pos, natAbs}
-use lib.ListN.{length, take, drop}
+use lib.ListN.{length, take, drop, getD}
 use lib.Seq.{take-at}
-use Rattle.laws.specs.Lists.{padTo}
+use Rattle.laws.specs.Lists.{padTo, zeros}
+use Rattle.laws.specs.Bytes.{colon, greater}
+use Rattle.laws.proofs.Tests.{passed, picked}
 use Rattle.callsign.specs.declared.Callsign.{Callsign}
 use Rattle.callsign.specs.Text.{blankCall}
 use Rattle.callsign.specs.Range.{inRange, isBlankCall}
@@ -22,17 +24,22 @@ use Rattle.position.specs.Page.{boxOf}
 use Rattle.position.proofs.InnerEdge.{InnerEdge}
 use Rattle.position.proofs.Theorems.{latitude-is-inner-edge, longitude-is-inner-edge, zero-is-north, zero-is-east, latitude-letter-kept, longitude-letter-kept, letters-kept}
 use Rattle.mic_e.specs.Message.{messageNumber}
-use Rattle.body.specs.declared.Kind.the-variants.{Position, MicE}
+use Rattle.message.specs.Message.{addresseeBytes, noAddressee}
+use Rattle.message.specs.Status.{isStatusText, statusTextRefusal}
+use Rattle.body.specs.declared.Kind.{Kind}
+use Rattle.body.specs.declared.Kind.the-variants.{Position, MicE, Message, Status}
 use Rattle.body.specs.declared.Body.{Body}
 use Rattle.body.specs.declared.BodyWritten.{BodyWritten}
-use Rattle.body.specs.Body.{noReport, blankBody, bodyAccepted, bodyRefused, readBody}
-use Rattle.body.specs.Range.{isNoLetter, isNoPlace, isNoReport, unknownInRange, inRangeAs, bodyInRange, isExcepted}
-use Rattle.body.specs.Written.{writtenTo, bodyBytes, kindRefusal, unwritten, writtenAs, writeBody}
-use Rattle.body.proofs.Writing.{fixed-short}
+use Rattle.body.specs.Body.{noSpan, noReport, bodyWith, blankBody, bodyAccepted, bodyRefused, identifierSpan, readBody}
+use Rattle.body.specs.Range.{isNoLetter, isNoPlace, isNoReport, isBare, unknownInRange, statusInRange, inRangeAs, bodyInRange, isExcepted}
+use Rattle.body.specs.Written.{writtenTo, statusBytes, bytesAs, bodyBytes, tailAs, tailBytes, refusalAs, bodyRefusal, unwritten, writtenAs, writtenOr, writeBody}
+use Rattle.body.proofs.Answered.{or-first, or-within, nothing-within, or-len, or-tail, or-written, nothing-before, nothing-behind, not-unwritten}
+use Rattle.body.proofs.Writing.{status-timed, fixed-short, tail-short}
 use Rattle.body.proofs.Built as built
 use Rattle.body.proofs.Found.{body-found}
 use Rattle.body.proofs.Times.{TimeOf, read-time, read-time-kept}
 use Rattle.body.proofs.ReadsBack.{comesBack, held, body-back, comment-back}
+use Rattle.body.proofs.TextBack.{TextOr18, spanned, message-front-long, message-back, status-back, message-short, status-short, text-shown-back, identifier-shown-back, message-tail, message-read-or-18, status-read-or-18}
 use Rattle.body.proofs.PositionBack.{cutBack, its-length, cut-back, behind-comment}
 
 -- ---- what is read, accepted or not
@@ -42,9 +49,12 @@ module _ (to : Callsign) (s : List ℕ) (from : ℕ) where
   pub read-refused-blank : (readBody to s from .refusal ≡ 0 → ⊥) → readBody to s from ≡ bodyRefused (readBody to s from .refusal)
   read-refused-blank = body-found to s from .blank
 
-  -- a comment is a place in the input
+  -- a comment or a text is a place in the input, and so is an identifier
   pub read-comment-within : readBody to s from .body .comment .at + readBody to s from .body .comment .len ≤ length s
   read-comment-within = body-found to s from .within
+
+  pub read-identifier-within : readBody to s from .body .identifier .at + readBody to s from .body .identifier .len ≤ length s
+  read-identifier-within = body-found to s from .identifier-within
 
   module _ (kept : Callsign) (no-call : readBody to s from .body .kind ≡ MicE → isBlankCall kept ≡ true) where
     -- beside any destination, a Mic-E body beside none, it is in range but for a Mic-E angle of 180 degrees and a position symbol
@@ -52,15 +62,13 @@ module _ (to : Callsign) (s : List ℕ) (from : ℕ) where
     pub read-range : bodyInRange (readBody to s from .body) kept ≡ not (isExcepted (readBody to s from .body))
     read-range = body-found to s from .range kept no-call
 
-    -- so it is written but for those two, 15, and an Unknown kind, 14
-    pub read-unwritten : writeBody (readBody to s from .body) kept .refusal ≡ cond (isExcepted (readBody to s from .body)) 15 (kindRefusal (readBody to s from .body .kind))
-    unfolding writeBody writtenAs unwritten
-    read-unwritten = rw read-range (turned (isExcepted (readBody to s from .body)))
-      where
-        turned : (t : Bool) → cond {A = BodyWritten} (not t) (writtenAs (kindRefusal (readBody to s from .body .kind)) (writtenTo (readBody to s from .body) kept) (bodyBytes (readBody to s from .body))) unwritten .refusal
-            ≡ cond t 15 (kindRefusal (readBody to s from .body .kind))
-        turned true = refl
-        turned false = refl
+    -- so it is written but for those two, 15, an Unknown kind, 14, and what is handed over with a message or a status, 18
+    pub read-unwritten : (text identifier : List ℕ)
+        → writeBody (readBody to s from .body) kept text identifier .refusal ≡ cond (isExcepted (readBody to s from .body)) 15 (bodyRefusal (readBody to s from .body) text identifier)
+    unfolding writeBody
+    read-unwritten text identifier =
+        let b = readBody to s from .body in
+        rw read-range (or-first (isExcepted b) (bodyRefusal b text identifier) (writtenTo b kept) (bodyBytes b) (tailBytes b identifier))
 
 -- ---- the time of what was read (document 02, R-3)
 
@@ -103,7 +111,7 @@ blank-inner-edges = read-inner-edges blankCall [] 0
 
 -- the blank body is in range, beside any destination
 pub blank-range : (to : Callsign) → bodyInRange blankBody to ≡ true
-unfolding blankBody noReport bodyInRange inRangeAs unknownInRange isNoPlace isNoLetter isNoReport messageNumber noTime isNoTime
+unfolding blankBody noReport noAddressee padTo zeros bodyInRange inRangeAs unknownInRange isBare isNoPlace isNoLetter isNoReport messageNumber noTime isNoTime
 blank-range to = refl
 
 -- ---- what is written
@@ -113,19 +121,53 @@ module _ (b : Body) (to : Callsign) where
   pub destination-range : bodyInRange b to ≡ true → inRange (writtenTo b to) ≡ inRange to
   destination-range = built.to-same b to
 
-  -- at most 27 bytes: those of a position with a time
-  pub fixed-at-most-27 : writeBody b to .len ≤ 27
-  unfolding writeBody writtenAs unwritten
-  fixed-at-most-27 = go (bodyInRange b to) refl
-    where
-      go : (t : Bool) → bodyInRange b to ≡ t → cond {A = BodyWritten} t (writtenAs (kindRefusal (b .kind)) (writtenTo b to) (bodyBytes b)) unwritten .len ≤ 27
-      go true e = fixed-short b to e
-      go false e = omega arith
+  module _ (text identifier : List ℕ) where
+    -- at most 27 bytes before the comment or text: those of a position with a time
+    pub fixed-at-most-27 : length (b .addressee) ≡ addresseeBytes → writeBody b to text identifier .len ≤ 27
+    unfolding writeBody
+    fixed-at-most-27 nine = go (bodyInRange b to) refl
+      where
+        go : (t : Bool) → bodyInRange b to ≡ t → cond t (writtenOr (bodyRefusal b text identifier) (writtenTo b to) (bodyBytes b) (tailBytes b identifier)) unwritten .len ≤ 27
+        go true e = or-len (bodyRefusal b text identifier) (writtenTo b to) (bodyBytes b) (tailBytes b identifier) 27 (fixed-short b to nine e)
+        go false e = nothing-before
 
-  -- the first `len` bytes are the fixed ones
-  pub fixed-bytes : bodyInRange b to ≡ true → take (writeBody b to .len) (writeBody b to .bytes) ≡ bodyBytes b
-  unfolding writeBody writtenAs padTo
-  fixed-bytes e = rw e (take-at (bodyBytes b) _ (length (bodyBytes b)) refl)
+    -- at most 6 behind it: `{` and an identifier
+    pub tail-at-most-6 : writeBody b to text identifier .«tail_len» ≤ 6
+    unfolding writeBody bodyRefusal tailBytes
+    tail-at-most-6 = go (bodyInRange b to) (b .kind)
+      where
+        go : (t : Bool) (k : Kind) → cond t (writtenOr (refusalAs k b text identifier) (writtenTo b to) (bodyBytes b) (tailAs k identifier)) unwritten .«tail_len» ≤ 6
+        go true k = or-tail (refusalAs k b text identifier) (writtenTo b to) (bodyBytes b) (tailAs k identifier) 6 (tail-short k b text identifier)
+        go false k = nothing-behind
+
+    -- what is in use lies within the arrays, whatever the record is
+    pub fixed-within : writeBody b to text identifier .len ≤ length (writeBody b to text identifier .bytes)
+    unfolding writeBody
+    fixed-within = picked (λ (w : BodyWritten) t. w .len ≤ length (w .bytes)) _ unwritten (or-within (bodyRefusal b text identifier) (writtenTo b to) (bodyBytes b) (tailBytes b identifier) .0) (nothing-within .0) (bodyInRange b to)
+
+    pub behind-within : writeBody b to text identifier .«tail_len» ≤ length (writeBody b to text identifier .tail)
+    unfolding writeBody
+    behind-within = picked (λ (w : BodyWritten) t. w .«tail_len» ≤ length (w .tail)) _ unwritten (or-within (bodyRefusal b text identifier) (writtenTo b to) (bodyBytes b) (tailBytes b identifier) .1) (nothing-within .1) (bodyInRange b to)
+
+    module _ (z : writeBody b to text identifier .refusal ≡ 0) where
+      as-written : writeBody b to text identifier ≡ writtenAs 0 (writtenTo b to) (bodyBytes b) (tailBytes b identifier)
+      unfolding writeBody
+      as-written = go (bodyInRange b to) z
+        where
+          go : (t : Bool) → cond t (writtenOr (bodyRefusal b text identifier) (writtenTo b to) (bodyBytes b) (tailBytes b identifier)) unwritten .refusal ≡ 0
+              → cond t (writtenOr (bodyRefusal b text identifier) (writtenTo b to) (bodyBytes b) (tailBytes b identifier)) unwritten ≡ writtenAs 0 (writtenTo b to) (bodyBytes b) (tailBytes b identifier)
+          go true e = or-written (bodyRefusal b text identifier) (writtenTo b to) (bodyBytes b) (tailBytes b identifier) e
+          go false e = absurd (not-unwritten e)
+
+      -- the first `len` bytes are those before the comment or text
+      pub fixed-bytes : take (writeBody b to text identifier .len) (writeBody b to text identifier .bytes) ≡ bodyBytes b
+      unfolding writtenAs padTo
+      fixed-bytes = rw as-written (take-at (bodyBytes b) _ (length (bodyBytes b)) refl)
+
+      -- and the first `tail_len` bytes of the tail those behind it
+      pub tail-bytes : take (writeBody b to text identifier .«tail_len») (writeBody b to text identifier .tail) ≡ tailBytes b identifier
+      unfolding writtenAs padTo
+      tail-bytes = rw as-written (take-at (tailBytes b identifier) _ (length (tailBytes b identifier)) refl)
 
 -- ---- a position as written reads back, with its time or without one, behind other bytes and beside any destination
 
@@ -154,6 +196,69 @@ module _ (b : Body) (to : Callsign) (k : b .kind ≡ Position) (e : bodyInRange 
 
   pub untimed-comment-place : isNoTime (b .time) ≡ true → length (bodyBytes b) ≡ 20
   untimed-comment-place h = its-length b to k e ∙ ap (λ (l : List ℕ). 20 + length l) (no-time-no-bytes (b .time) h)
+
+-- ---- a message and a status as written read back, behind other bytes and beside any destination (document 02, R-5)
+
+module _ (b : Body) (to : Callsign) (text identifier : List ℕ) (e : bodyInRange b to ≡ true) (fits : bodyRefusal b text identifier ≡ 0) (beside : Callsign) (before : List ℕ) where
+  -- addressee, text and identifier, which is nowhere where there is none
+  pub message-reads-back : b .kind ≡ Message → length (b .addressee) ≡ addresseeBytes
+      → readBody beside (before ++ (bodyBytes b ++ (text ++ tailBytes b identifier))) (length before)
+      ≡ bodyAccepted (bodyWith Message (record { at = length before + length (bodyBytes b); len = length text })
+      (identifierSpan (length before + length (bodyBytes b) + length text) (length identifier)) noTime (b .addressee))
+  unfolding bodyBytes bytesAs tailBytes tailAs bodyRefusal refusalAs
+  message-reads-back k nine = rw k (message-back (b .addressee) text identifier nine (rw k at fits) beside before)
+
+  -- time and text
+  pub status-reads-back : b .kind ≡ Status
+      → readBody beside (before ++ (bodyBytes b ++ (text ++ tailBytes b identifier))) (length before)
+      ≡ bodyAccepted (bodyWith Status (record { at = length before + length (bodyBytes b); len = length text }) noSpan (b .time) noAddressee)
+  unfolding bodyBytes bytesAs tailBytes tailAs bodyRefusal refusalAs bodyInRange inRangeAs statusInRange isBare statusTextRefusal
+  status-reads-back k =
+      let timed = status-timed b (rw k at e) in
+      let fine = passed (isStatusText (b .time) text) 0 18 0 (λ q. omega arith) (rw k at fits) in
+      rw (k, append-nil text) (status-back (b .time) text timed (fine .0) beside before)
+
+module _ (b : Body) (text identifier before : List ℕ) where
+  -- the bytes at the text's place
+  pub text-back : spanned (record { at = length before + length (bodyBytes b); len = length text }) (before ++ (bodyBytes b ++ (text ++ tailBytes b identifier))) ≡ text
+  text-back = text-shown-back before (bodyBytes b) text (tailBytes b identifier)
+
+  -- and at the identifier's
+  pub identifier-back : b .kind ≡ Message
+      → spanned (identifierSpan (length before + length (bodyBytes b) + length text) (length identifier)) (before ++ (bodyBytes b ++ (text ++ tailBytes b identifier))) ≡ identifier
+  identifier-back k = rw (message-tail b identifier k) (identifier-shown-back before (bodyBytes b) text identifier)
+
+-- the text is 11 bytes from the type byte of a message
+pub message-text-place : (b : Body) → b .kind ≡ Message → length (b .addressee) ≡ addresseeBytes → length (bodyBytes b) ≡ 11
+unfolding bodyBytes bytesAs
+message-text-place b k nine = rw k (message-front-long (b .addressee) nine)
+
+-- 8 from that of a status with a time, and 1 without
+pub status-text-place : (b : Body) → b .kind ≡ Status → length (bodyBytes b) ≡ 1 + length (timeText (b .time))
+unfolding bodyBytes bytesAs statusBytes
+status-text-place b k = rw k (omega arith)
+
+-- all of it, type byte and identifier too, has at most 84 bytes
+pub message-at-most-84 : (b : Body) (text identifier : List ℕ) → b .kind ≡ Message → length (b .addressee) ≡ addresseeBytes → bodyRefusal b text identifier ≡ 0
+    → length (bodyBytes b ++ (text ++ tailBytes b identifier)) ≤ 84
+unfolding bodyBytes bytesAs tailBytes tailAs bodyRefusal refusalAs
+message-at-most-84 b text identifier k nine fits = rw k (message-short (b .addressee) text identifier nine (rw k at fits))
+
+pub status-at-most-63 : (b : Body) (to : Callsign) (text identifier : List ℕ) → b .kind ≡ Status → bodyInRange b to ≡ true → bodyRefusal b text identifier ≡ 0
+    → length (bodyBytes b ++ (text ++ tailBytes b identifier)) ≤ 63
+unfolding bodyBytes bytesAs tailBytes tailAs bodyRefusal refusalAs bodyInRange inRangeAs statusInRange isBare statusTextRefusal
+status-at-most-63 b to text identifier k e fits =
+    let fine = passed (isStatusText (b .time) text) 0 18 0 (λ q. omega arith) (rw k at fits) in
+    rw (k, append-nil text) (status-short (b .time) text (status-timed b (rw k at e)) (fine .0))
+
+-- ---- every body that starts `:` or `>`: a message or a status, whose bytes are its parts joined and which is written again, or 18
+
+module _ (to : Callsign) (s : List ℕ) (from : ℕ) (h : from < length s) where
+  pub read-message-or-18 : getD s from 0 ≡ colon → TextOr18 s from h Message (readBody to s from)
+  read-message-or-18 = message-read-or-18 s from h to
+
+  pub read-status-or-18 : getD s from 0 ≡ greater → TextOr18 s from h Status (readBody to s from)
+  read-status-or-18 = status-read-or-18 s from h to
 
 -- ---- "A Mic-E body and destination as written, read by themselves, give back the Mic-E part of the record and the comment
 -- bytes, if latitude is a multiple of the width its blanks leave." They may stand behind other bytes. Document 02, R-1, "excepts

@@ -17,5 +17,5 @@ unique-blank r r′ = one-value r r′ blankBody
 pub unique-read : (to : Callsign) (s : List ℕ) (from : ℕ) (r r′ : BodyRead) → r ≡ readBody to s from → r′ ≡ readBody to s from → r ≡ r′
 unique-read to s from r r′ = one-value r r′ (readBody to s from)
 
-pub unique-write : (b : Body) (to : Callsign) (r r′ : BodyWritten) → r ≡ writeBody b to → r′ ≡ writeBody b to → r ≡ r′
-unique-write b to r r′ = one-value r r′ (writeBody b to)
+pub unique-write : (b : Body) (to : Callsign) (text identifier : List ℕ) (r r′ : BodyWritten) → r ≡ writeBody b to text identifier → r′ ≡ writeBody b to text identifier → r ≡ r′
+unique-write b to text identifier r r′ = one-value r r′ (writeBody b to text identifier)

@@ -16,7 +16,7 @@ use lib.Dec.{eqb}
 use lib.IntN.{ℤ}
 use lib.ListN.{length, take, drop, replicate, length-append, length-replicate, drop-of-length-le}
 use lib.Seq.{take-length, take-at, take-all, drop-at}
-use Rattle.laws.specs.Bytes.{bang, equals, slash, at-sign, backquote, apostrophe}
+use Rattle.laws.specs.Bytes.{bang, equals, slash, at-sign, backquote, apostrophe, colon}
 use Rattle.laws.specs.Lists.{padTo}
 use Rattle.laws.proofs.Picks.{and-failed, and-held, flag-set, flag-unset}
 use Rattle.laws.proofs.Lists.{drop-replicate}
@@ -34,19 +34,22 @@ use Rattle.time.proofs.Theorems.{no-time-no-bytes, a-time-seven-bytes}
 use Rattle.position.specs.declared.Place.{Place}
 use Rattle.position.specs.Position.{placeInRange, lettersAgree, positionFits, positionText, positionRefusal}
 use Rattle.position.proofs.Lengths.{position-length}
-use Rattle.mic_e.specs.declared.Message.{Message}
+use Rattle.mic_e.specs.declared.Message as mic-e
 use Rattle.mic_e.specs.declared.DestinationWritten.{DestinationWritten}
 use Rattle.mic_e.specs.Destination.{destinationBytes, destinationRefusal, writeDestination}
 use Rattle.mic_e.specs.Information.{informationBytes, informationOut, informationRefusal}
 use Rattle.mic_e.proofs.DestinationFacts.{destination-length}
 use Rattle.mic_e.proofs.Theorems.{information-length}
+use Rattle.message.specs.Message.{addresseeBytes, addresseeText, isText, identifierText, identifierRefusal, messageRefusal}
+use Rattle.message.specs.Status.{isStatusTime, statusTextRefusal}
+use Rattle.message.proofs.Theorems.{identifier-at-most-6, status-time-in-range}
 use Rattle.body.specs.declared.Kind.{Kind}
-use Rattle.body.specs.declared.Kind.the-variants.{Unknown, Position, MicE}
+use Rattle.body.specs.declared.Kind.the-variants.{Unknown, Position, MicE, Message, Status}
 use Rattle.body.specs.declared.Report.{Report}
 use Rattle.body.specs.declared.Body.{Body}
 use Rattle.body.specs.declared.BodyWritten.{BodyWritten}
-use Rattle.body.specs.Range.{isNoReport, isShort, motionInRange, unknownInRange, positionInRange, micEInRange, inRangeAs, bodyInRange}
-use Rattle.body.specs.Written.{micECall, toAs, writtenTo, informationOf, positionType, positionBytes, micEBytes, bytesAs, bodyBytes, kindRefusal, mostFixed, unwritten, writtenAs, writeBody}
+use Rattle.body.specs.Range.{isNoAddressee, isPlaceAlone, isReportAlone, isBare, isShort, motionInRange, unknownInRange, positionInRange, micEInRange, messageInRange, statusInRange, inRangeAs, bodyInRange}
+use Rattle.body.specs.Written.{micECall, toAs, writtenTo, informationOf, positionType, positionBytes, micEBytes, messageBytes, statusBytes, bytesAs, bodyBytes, tailAs, tailBytes, refusalAs, bodyRefusal, mostFixed, mostTail, unwritten, writtenAs, writtenOr, writeBody}
 use Rattle.body.proofs.Judged.{destination-judges, information-judges}
 
 -- ---- in range or not, from a chain of tests
@@ -67,9 +70,13 @@ test-held u t e p = sym (not-false u p) ∙ e
 pub ruleset judged = (out-of-range, in-range, test-failed, test-held, and-failed, and-held, flag-set, flag-unset)
 
 -- no bytes
-pub nothing-written : (to : Callsign) → record { refusal = 14; to = to; bytes = replicate mostFixed 0; len = 0 } ≡ writtenAs 14 to []
+pub nothing-written : (n : ℕ) (to : Callsign) → record { refusal = n; to = to; bytes = replicate mostFixed 0; tail = replicate mostTail 0; len = 0; «tail_len» = 0 } ≡ writtenAs n to [] []
 unfolding writtenAs padTo
-nothing-written to = refl
+nothing-written n to = refl
+
+pub no-tail : replicate {A = ℕ} mostTail 0 ≡ padTo mostTail 0 []
+unfolding padTo
+no-tail = refl
 
 -- a refusal of 15 told from its number
 module _ (t : Bool) (k : ℕ) where
@@ -99,7 +106,7 @@ module _ (messaging : Bool) (t : Time) (r : ℕ) where
   type-timed h w = rw (ne-eqb (t .form) 0 h) w
 
 -- no bytes, or seven
-time-short : (t : Time) → timeInRange t ≡ true → length (timeText t) ≤ 7
+pub time-short : (t : Time) → timeInRange t ≡ true → length (timeText t) ≤ 7
 unfolding timeInRange
 time-short t e =
     ⊎-elim
@@ -107,7 +114,7 @@ time-short t e =
     (λ i. omega (arith, a-time-seven-bytes t i))
     (or-either (isNoTime t) (isTime t) e)
 
-abbrev behind-type : List ℕ
+abbrev pub behind-type : List ℕ
 behind-type = replicate 26 0
 
 -- the zeros that are left behind the type byte and a time
@@ -139,15 +146,15 @@ module _ (k : ℕ) (x y left last : List ℕ) (n : ℕ) (sized : n ≡ length x)
       (sym (append-assoc (k ∷ x) y (replicate (27 - length (k ∷ (x ++ y))) 0)))
 
 -- k is the type byte, and t what the time's writer answers
-module _ (b : Body) (u : Bool) (e : u ≡ isNoReport (b .report)) (f : not u ≡ false) (k : ℕ) (t : Answer) (left : List ℕ)
+module _ (b : Body) (u : Bool) (e : u ≡ isPlaceAlone b) (f : not u ≡ false) (k : ℕ) (t : Answer) (left : List ℕ)
     (w : ends t left ≡ wrote (timeRefusal (b .time)) (timeText (b .time)) behind-type) where
   time-says : t .refusal ≡ cond (timeInRange (b .time)) 0 15
   unfolding timeRefusal
   time-says = refusal-is t left (timeText (b .time)) behind-type (timeRefusal (b .time)) w (λ z. omega (arith, time-short (b .time) (accepted-is (timeInRange (b .time)) 0 (sym z) refl)))
 
-  pub time-out : (r x : BodyWritten) → (t .refusal ≡ 0 → ⊥) → r ≡ unwritten → r ≡ cond (positionInRange b) x unwritten
+  pub time-out : (r y : BodyWritten) → (t .refusal ≡ 0 → ⊥) → r ≡ unwritten → r ≡ cond (positionInRange b) y unwritten
   unfolding positionInRange
-  time-out r x z q = rw (← e, not-false u f, refused-is (timeInRange (b .time)) (t .refusal) time-says z) q
+  time-out r y z q = rw (← e, not-false u f, refused-is (timeInRange (b .time)) (t .refusal) time-says z) q
 
   module _ (z : t .refusal ≡ 0) where
     timed : timeInRange (b .time) ≡ true
@@ -202,17 +209,17 @@ module _ (b : Body) (u : Bool) (e : u ≡ isNoReport (b .report)) (f : not u ≡
       unfolding positionRefusal
       position-says = refusal-is p last (positionText (b .place)) _ (positionRefusal (b .place)) v position-room
 
-      judged-by : (x : Bool) → fine ≡ x → positionInRange b ≡ x
+      judged-by : (y : Bool) → fine ≡ y → positionInRange b ≡ y
       unfolding positionInRange
-      judged-by x h = rw (← e, not-false u f, timed) h
+      judged-by y j = rw (← e, not-false u f, timed) j
 
-      pub position-out : (r x : BodyWritten) → (p .refusal ≡ 0 → ⊥) → r ≡ unwritten → r ≡ cond (positionInRange b) x unwritten
-      position-out r x z q = out-of-range (positionInRange b) r x unwritten (sym (judged-by false (refused-is fine (p .refusal) position-says z))) q
+      pub position-out : (r y : BodyWritten) → (p .refusal ≡ 0 → ⊥) → r ≡ unwritten → r ≡ cond (positionInRange b) y unwritten
+      position-out r y z q = out-of-range (positionInRange b) r y unwritten (sym (judged-by false (refused-is fine (p .refusal) position-says z))) q
 
-      module _ (y : p .refusal ≡ 0) where
+      module _ (yes : p .refusal ≡ 0) where
         accepts : positionRefusal (b .place) ≡ 0
         unfolding positionRefusal
-        accepts = sym position-says ∙ y
+        accepts = sym position-says ∙ yes
 
         position-last : last ≡ positionText (b .place) ++ drop 19 (zerosBehind (timeText (b .time)))
         position-last =
@@ -220,16 +227,17 @@ module _ (b : Body) (u : Bool) (e : u ≡ isNoReport (b .report)) (f : not u ≡
             ∙ ap₂ (λ (n : ℕ) (l : List ℕ). positionText (b .place) ++ drop n l) (position-length (b .place) accepts) lent
 
         pub position-written : (to : Callsign) → k ≡ positionType (b .messaging) (b .time)
-            → record { refusal = 0; to = to; bytes = putMid (1 + t .reported) (27 - (1 + t .reported)) (k ∷ (left ++ [])) last; len = 1 + t .reported + 19 }
-            ≡ cond (positionInRange b) (writtenAs 0 to (positionBytes (b .place) (b .messaging) (b .time))) unwritten
+            → record { refusal = 0; to = to; bytes = putMid (1 + t .reported) (27 - (1 + t .reported)) (k ∷ (left ++ [])) last; tail = replicate mostTail 0; len = 1 + t .reported + 19; «tail_len» = 0 }
+            ≡ cond (positionInRange b) (writtenAs 0 to (positionBytes (b .place) (b .messaging) (b .time)) []) unwritten
         unfolding writtenAs positionBytes
         position-written to q =
             let long : length (k ∷ (timeText (b .time) ++ positionText (b .place))) ≡ 1 + t .reported + 19 =
             omega (arith, reported, length-append (timeText (b .time)) (positionText (b .place)), position-length (b .place) accepts) in
             rw (
-              judged-by true (accepted-is fine (p .refusal) position-says y),
+              judged-by true (accepted-is fine (p .refusal) position-says yes),
               ← q,
               long,
+              no-tail,
               all-together k (timeText (b .time)) (positionText (b .place)) left last (t .reported) reported few (position-length (b .place) accepts) time-left position-last,
             )
 
@@ -274,7 +282,8 @@ module _ (place : Place) (report : Report) (w : Answer) (last : List ℕ)
         → call ≡ destinationBytes (place .latitude .0) (place .blanks) (report .message) (place .longitude .0)
         → to ≡ made (take 6 call) (ssidText (ssidOf 0))
         → k ≡ cond (report .current) backquote apostrophe
-        → record { refusal = 0; to = to; bytes = k ∷ (last ++ []); len = 9 } ≡ cond out unwritten (writtenAs 0 (micECall place report) (micEBytes place report))
+        → record { refusal = 0; to = to; bytes = k ∷ (last ++ []); tail = replicate mostTail 0; len = 9; «tail_len» = 0 }
+        ≡ cond out unwritten (writtenAs 0 (micECall place report) (micEBytes place report) [])
     unfolding writtenAs micECall micEBytes padTo ssidText ssidOf
     report-written call to k c t q =
         let six = destination-length (place .latitude .0) (place .blanks) (report .message) (place .longitude .0) in
@@ -282,7 +291,7 @@ module _ (place : Place) (report : Report) (w : Answer) (last : List ℕ)
         rw (inside, t, whole, c, ← q, after, information-length (informationOf place report))
 
 -- the destination's refusal, and its bytes without one
-module _ (latitude : ℤ) (blanks : ℕ) (message : Message) (longitude : ℤ) (d : DestinationWritten) (q : d ≡ writeDestination latitude blanks message longitude) where
+module _ (latitude : ℤ) (blanks : ℕ) (message : mic-e.Message) (longitude : ℤ) (d : DestinationWritten) (q : d ≡ writeDestination latitude blanks message longitude) where
   destination-says : eqb (d .refusal) 0 ≡ eqb (destinationRefusal latitude blanks longitude) 0
   unfolding writeDestination
   destination-says = rw q (go (eqb (destinationRefusal latitude blanks longitude) 0) refl)
@@ -300,12 +309,12 @@ module _ (latitude : ℤ) (blanks : ℕ) (message : Message) (longitude : ℤ) (
   unfolding writeDestination
   destination-is z = rw (q, sym destination-says ∙ eq-eqb (d .refusal) 0 z)
 
-module _ (b : Body) (to : Callsign) (u : Bool) (e : u ≡ isBlankCall to) (f : not u ≡ false) (g : b .messaging ≡ false)
-    (x : Bool) (k : x ≡ isNoTime (b .time)) (l : not x ≡ false) (v : Bool) (i : v ≡ lettersAgree (b .place)) (j : not v ≡ false) (d : DestinationWritten)
+module _ (b : Body) (to : Callsign) (u : Bool) (e : u ≡ isBlankCall to) (f : not u ≡ false) (x : Bool) (k : x ≡ isReportAlone b) (l : not x ≡ false)
+    (v : Bool) (i : v ≡ lettersAgree (b .place)) (j : not v ≡ false) (d : DestinationWritten)
     (q : d ≡ writeDestination (b .place .latitude .0) (b .place .blanks) (b .report .message) (b .place .longitude .0)) where
   left : micEInRange b to ≡ ((placeInRange (b .place) && isShort (b .place)) && motionInRange (b .report))
   unfolding micEInRange
-  left = rw (← e, not-false u f, g, ← k, not-false x l, ← i, not-false v j) (apart (placeInRange (b .place)) (isShort (b .place)) (motionInRange (b .report)))
+  left = rw (← e, not-false u f, ← k, not-false x l, ← i, not-false v j) (apart (placeInRange (b .place)) (isShort (b .place)) (motionInRange (b .report)))
     where
       apart : (x y z : Bool) → (x && (y && z)) ≡ ((x && y) && z)
       apart true y z = refl
@@ -329,38 +338,68 @@ module _ (b : Body) (to : Callsign) (u : Bool) (e : u ≡ isBlankCall to) (f : n
 
 -- ---- by the kind
 
-module _ (b : Body) (to : Callsign) where
-  written-by : (k : Kind) → b .kind ≡ k → writeBody b to ≡ cond (inRangeAs k b to) (writtenAs (kindRefusal k) (toAs k b to) (bytesAs k b)) unwritten
-  unfolding writeBody bodyInRange writtenTo bodyBytes
-  written-by k e = ap (λ (x : Kind). cond (inRangeAs x b to) (writtenAs (kindRefusal x) (toAs x b to) (bytesAs x b)) unwritten) e
+module _ (b : Body) (to : Callsign) (text identifier : List ℕ) where
+  written-by : (k : Kind) → b .kind ≡ k → writeBody b to text identifier ≡ cond (inRangeAs k b to) (writtenOr (refusalAs k b text identifier) (toAs k b to) (bytesAs k b) (tailAs k identifier)) unwritten
+  unfolding writeBody bodyInRange bodyRefusal writtenTo bodyBytes tailBytes
+  written-by k e = ap (λ (x : Kind). cond (inRangeAs x b to) (writtenOr (refusalAs x b text identifier) (toAs x b to) (bytesAs x b) (tailAs x identifier)) unwritten) e
 
   module _ (r : BodyWritten) where
-    pub write-unknown : b .kind ≡ Unknown → r ≡ cond (unknownInRange b) (writtenAs 14 to []) unwritten → r ≡ writeBody b to
-    unfolding inRangeAs toAs bytesAs kindRefusal
+    pub write-unknown : b .kind ≡ Unknown → r ≡ cond (unknownInRange b) (writtenAs 14 to [] []) unwritten → r ≡ writeBody b to text identifier
+    unfolding inRangeAs toAs bytesAs tailAs refusalAs writtenOr
     write-unknown k w = w ∙ sym (written-by Unknown k)
 
-    pub write-position : b .kind ≡ Position → r ≡ cond (positionInRange b) (writtenAs 0 to (positionBytes (b .place) (b .messaging) (b .time))) unwritten → r ≡ writeBody b to
-    unfolding inRangeAs toAs bytesAs kindRefusal
+    pub write-position : b .kind ≡ Position → r ≡ cond (positionInRange b) (writtenAs 0 to (positionBytes (b .place) (b .messaging) (b .time)) []) unwritten → r ≡ writeBody b to text identifier
+    unfolding inRangeAs toAs bytesAs tailAs refusalAs writtenOr
     write-position k w = w ∙ sym (written-by Position k)
 
-    pub write-mic-e : b .kind ≡ MicE → r ≡ cond (micEInRange b to) (writtenAs 0 (micECall (b .place) (b .report)) (micEBytes (b .place) (b .report))) unwritten → r ≡ writeBody b to
-    unfolding inRangeAs toAs bytesAs kindRefusal
+    pub write-mic-e : b .kind ≡ MicE → r ≡ cond (micEInRange b to) (writtenAs 0 (micECall (b .place) (b .report)) (micEBytes (b .place) (b .report)) []) unwritten → r ≡ writeBody b to text identifier
+    unfolding inRangeAs toAs bytesAs tailAs refusalAs writtenOr
     write-mic-e k w = w ∙ sym (written-by MicE k)
 
--- at most 27 bytes: those of a position with a time
+    pub write-message : b .kind ≡ Message → r ≡ cond (messageInRange b) (writtenOr (messageRefusal text identifier) to (messageBytes (b .addressee)) (identifierText identifier)) unwritten → r ≡ writeBody b to text identifier
+    unfolding inRangeAs toAs bytesAs tailAs refusalAs
+    write-message k w = w ∙ sym (written-by Message k)
+
+    pub write-status : b .kind ≡ Status → r ≡ cond (statusInRange b) (writtenOr (statusTextRefusal (b .time) text) to (statusBytes (b .time)) []) unwritten → r ≡ writeBody b to text identifier
+    unfolding inRangeAs toAs bytesAs tailAs refusalAs
+    write-status k w = w ∙ sym (written-by Status k)
+
+-- ---- how many bytes: at most 27 before the comment or text, those of a position with a time, and 6 behind it
+
+position-time-and-place : (b : Body) → positionInRange b ≡ true → (timeInRange (b .time) && positionFits (b .place)) ≡ true
+unfolding positionInRange
+position-time-and-place b e = and-second (isPlaceAlone b) _ e
+
 position-accepts : (b : Body) → positionInRange b ≡ true → positionRefusal (b .place) ≡ 0
-unfolding positionInRange positionRefusal
-position-accepts b e = rw (and-second (timeInRange (b .time)) (positionFits (b .place)) (and-second (isNoReport (b .report)) (timeInRange (b .time) && positionFits (b .place)) e))
+unfolding positionRefusal
+position-accepts b e = rw (and-second (timeInRange (b .time)) (positionFits (b .place)) (position-time-and-place b e))
 
 position-timed : (b : Body) → positionInRange b ≡ true → timeInRange (b .time) ≡ true
-unfolding positionInRange
-position-timed b e = and-first (timeInRange (b .time)) (positionFits (b .place)) (and-second (isNoReport (b .report)) (timeInRange (b .time) && positionFits (b .place)) e)
+position-timed b e = and-first (timeInRange (b .time)) (positionFits (b .place)) (position-time-and-place b e)
 
-pub fixed-short : (b : Body) (to : Callsign) → bodyInRange b to ≡ true → length (bodyBytes b) ≤ 27
-unfolding bodyInRange bodyBytes inRangeAs bytesAs positionBytes micEBytes
-fixed-short b to = go (b .kind)
+pub status-timed : (b : Body) → statusInRange b ≡ true → isStatusTime (b .time) ≡ true
+unfolding statusInRange
+status-timed b e = and-second (isNoAddressee b) _ (and-second (isBare b) _ e)
+
+pub fixed-short : (b : Body) (to : Callsign) → length (b .addressee) ≡ addresseeBytes → bodyInRange b to ≡ true → length (bodyBytes b) ≤ 27
+unfolding bodyInRange bodyBytes inRangeAs bytesAs positionBytes micEBytes messageBytes statusBytes addresseeText
+fixed-short b to nine = go (b .kind)
   where
     go : (k : Kind) → inRangeAs k b to ≡ true → length (bytesAs k b) ≤ 27
     go Unknown e = omega arith
     go Position e = omega (arith, length-append (timeText (b .time)) (positionText (b .place)), position-length (b .place) (position-accepts b e), time-short (b .time) (position-timed b e))
     go MicE e = omega (arith, information-length (informationOf (b .place) (b .report)))
+    go Message e = omega (arith, length-append (b .addressee) (colon ∷ []))
+    go Status e = omega (arith, time-short (b .time) (status-time-in-range (b .time) (status-timed b e)))
+
+pub tail-short : (k : Kind) (b : Body) (text identifier : List ℕ) → refusalAs k b text identifier ≡ 0 → length (tailAs k identifier) ≤ 6
+unfolding refusalAs tailAs messageRefusal
+tail-short Unknown b text identifier e = omega arith
+tail-short Position b text identifier e = omega arith
+tail-short MicE b text identifier e = omega arith
+tail-short Message b text identifier e = go (isText text) e
+  where
+    go : (t : Bool) → cond t (identifierRefusal identifier) 18 ≡ 0 → length (identifierText identifier) ≤ 6
+    go true z = identifier-at-most-6 identifier z
+    go false z = absurd (omega arith)
+tail-short Status b text identifier e = omega arith

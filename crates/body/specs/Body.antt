@@ -1,5 +1,5 @@
--- The body of a packet, by its first byte (document 01, 'Modules in port order', 5, and 'Numbers a refusal carries'; document 02, R-3).
--- It stands in the input from a place on, since its comment is a place in the whole input.
+-- The body of a packet, by its first byte (document 01, 'Modules in port order', 5, and 'Numbers a refusal carries'; document 02, R-3
+-- and R-5). It stands in the input from a place on, since its comment or text is a place in the whole input.
 -- Assumes nothing.
 use Prim.Native.Nat.{ℕ, _+_, _-_}
 use mathlib.Core.Bool.{Bool, true, false, cond, _||_}
@@ -12,7 +12,7 @@ use Rattle.callsign.specs.Range.{callPart}
 use Rattle.time.specs.declared.Time.{Time}
 use Rattle.time.specs.declared.TimeRead.{TimeRead}
 use Rattle.time.specs.declared.TimeRead.the-variants as time
-use Rattle.time.specs.Time.{noTime, timeBytes, readTime, timeNumber}
+use Rattle.time.specs.Time.{noTime, timeBytes, readTime, timeNumber, timeText}
 use Rattle.position.specs.declared.PositionRead.{PositionRead}
 use Rattle.position.specs.Position.{noPlace, fixedBytes, readPosition}
 use Rattle.mic_e.specs.declared.Destination.{Destination}
@@ -23,12 +23,18 @@ use Rattle.mic_e.specs.declared.InformationRead.the-variants as information
 use Rattle.mic_e.specs.declared.Message.the-variants.{M0}
 use Rattle.mic_e.specs.Destination.{readDestination, destinationNumber}
 use Rattle.mic_e.specs.Information.{readInformation, informationNumber}
-use Rattle.body.specs.declared.Kind.the-variants.{Unknown, Position, MicE}
+use Rattle.message.specs.declared.MessageRead.{MessageRead}
+use Rattle.message.specs.declared.StatusRead.{StatusRead}
+use Rattle.message.specs.declared.StatusRead.the-variants as status
+use Rattle.message.specs.Message.{addresseeBytes, noAddressee, readMessage}
+use Rattle.message.specs.Status.{readStatus, statusNumber}
+use Rattle.body.specs.declared.Kind.{Kind}
+use Rattle.body.specs.declared.Kind.the-variants.{Unknown, Position, MicE, Message, Status}
 use Rattle.body.specs.declared.Opening.{Opening}
 use Rattle.body.specs.declared.TimeAt.{TimeAt}
-use Rattle.body.specs.declared.Opening.the-variants.{Unported, Positioned, Mic, Other}
+use Rattle.body.specs.declared.Opening.the-variants.{Positioned, Mic, Addressed, Stated, Other}
 use Rattle.body.specs.declared.Report.{Report}
-use Rattle.body.specs.declared.Comment.{Comment}
+use Rattle.body.specs.declared.Span.{Span}
 use Rattle.body.specs.declared.Body.{Body}
 use Rattle.body.specs.declared.BodyRead.{BodyRead}
 
@@ -38,13 +44,27 @@ use Rattle.body.specs.declared.BodyRead.{BodyRead}
 unfoldable pub noReport : Report
 noReport = record { message = M0; speed = record { 0 = 0 }; course = record { 0 = 0 }; current = false }
 
--- no comment: no place, no length
-unfoldable pub noComment : Comment
-noComment = record { at = 0; len = 0 }
+-- no part of the input: no place, no length
+unfoldable pub noSpan : Span
+noSpan = record { at = 0; len = 0 }
+
+-- nothing but a kind, a comment or text, an identifier, a time and an addressee; "All parts of a position, letters and flag are 0"
+abbrev pub bodyWith : Kind → Span → Span → Time → List ℕ → Body
+bodyWith kind comment identifier time addressee =
+    record {
+      kind = kind;
+      place = noPlace;
+      time = time;
+      messaging = false;
+      report = noReport;
+      comment = comment;
+      identifier = identifier;
+      addressee = addressee;
+    }
 
 -- of Unknown kind nothing but the header is kept
 unfoldable pub blankBody : Body
-blankBody = record { kind = Unknown; place = noPlace; time = noTime; messaging = false; report = noReport; comment = noComment }
+blankBody = bodyWith Unknown noSpan noSpan noTime noAddressee
 
 -- ---- what reading gives
 
@@ -66,35 +86,36 @@ fileSeparator = 0x1c
 abbrev pub groupSeparator : ℕ
 groupSeparator = 0x1d
 
--- "7: body starts `:` `>` `/` `@`", of which R-3 takes the last two: "Bodies `/` and `@` carry seven bytes after the type byte";
--- "bodies starting `!` or `=`"; "Body 1c or backquote is current Mic-E, 1d or apostrophe old"
+-- "bodies starting `!` or `=`"; document 02, R-3: "Bodies `/` and `@` carry seven bytes after the type byte"; "Body 1c or backquote is
+-- current Mic-E, 1d or apostrophe old"; document 02, R-5, of messages and status lines: "Row 7 of document 01 loses `:` and `>`"
 unfoldable pub openingOf : ℕ → Opening
 openingOf b =
-    cond (eqb b colon || eqb b greater) Unported
-    (cond (eqb b bang) (Positioned false false)
+    cond (eqb b bang) (Positioned false false)
     (cond (eqb b equals) (Positioned true false)
     (cond (eqb b slash) (Positioned false true)
     (cond (eqb b at-sign) (Positioned true true)
     (cond (eqb b fileSeparator || eqb b backquote) (Mic true)
     (cond (eqb b groupSeparator || eqb b apostrophe) (Mic false)
-    Other))))))
+    (cond (eqb b colon) Addressed
+    (cond (eqb b greater) Stated
+    Other)))))))
 
 -- ---- what follows it
 
--- a comment from a place on: it goes to the end of the input
-unfoldable pub commentFrom : List ℕ → ℕ → Comment
-commentFrom s at = record { at = at; len = length s - at }
+-- from a place on: a comment, or a status's text, goes to the end of the input
+unfoldable pub spanFrom : List ℕ → ℕ → Span
+spanFrom s at = record { at = at; len = length s - at }
 
 -- a position that was read, with its time or none, and the comment behind it; "Parts a kind lacks are 0"
-unfoldable pub positionBody : PositionRead → Bool → Time → Comment → BodyRead
+unfoldable pub positionBody : PositionRead → Bool → Time → Span → BodyRead
 positionBody p messaging time comment =
     cond (eqb (p .refusal) 0)
-    (bodyAccepted (record { kind = Position; place = p .place; time = time; messaging = messaging; report = noReport; comment = comment }))
+    (bodyAccepted (record { kind = Position; place = p .place; time = time; messaging = messaging; report = noReport; comment = comment; identifier = noSpan; addressee = noAddressee }))
     (bodyRefused (p .refusal))
 
 -- a position from a place on, its 19 bytes and its comment
 unfoldable pub positionFrom : List ℕ → ℕ → Bool → Time → BodyRead
-positionFrom s at messaging time = positionBody (readPosition (drop at s)) messaging time (commentFrom s (at + fixedBytes))
+positionFrom s at messaging time = positionBody (readPosition (drop at s)) messaging time (spanFrom s (at + fixedBytes))
 
 -- a time, or none where none is asked for, and the place behind it
 abbrev pub timeFound : Time → ℕ → TimeAt
@@ -125,7 +146,7 @@ unfoldable pub positionedFrom : List ℕ → ℕ → Bool → Bool → BodyRead
 positionedFrom s at messaging timed = behindTime (timeAt s at timed) s messaging
 
 -- a Mic-E report, of a destination and of information that was read; its letters are those that the destination says
-unfoldable pub reportBody : Destination → InformationRead → Bool → Comment → BodyRead
+unfoldable pub reportBody : Destination → InformationRead → Bool → Span → BodyRead
 reportBody d (information.Read i) current comment =
     bodyAccepted (record {
       kind = MicE;
@@ -134,20 +155,40 @@ reportBody d (information.Read i) current comment =
       messaging = false;
       report = record { message = d .message; speed = i .speed; course = i .course; current = current };
       comment = comment;
+      identifier = noSpan;
+      addressee = noAddressee;
     })
 reportBody d information.Refused current comment = bodyRefused (informationNumber information.Refused)
 
 -- "Mic-E: 11, then 12"
-unfoldable pub micEBody : DestinationRead → List ℕ → Bool → Comment → BodyRead
+unfoldable pub micEBody : DestinationRead → List ℕ → Bool → Span → BodyRead
 micEBody (destination.Read d) info current comment = reportBody d (readInformation info (d .hundred) (d .west)) current comment
 micEBody destination.Refused info current comment = bodyRefused (destinationNumber destination.Refused)
 
--- what the first byte makes of the input from the place behind it on: a position, timed or not, or a report and its 8 bytes; of a
--- Mic-E destination "6 call characters, SSID ignored"
+-- "the identifier's place and length, 0 and 0 where there is none": it stands past the `{` that ends the text
+unfoldable pub identifierSpan : ℕ → ℕ → Span
+identifierSpan at len = cond (eqb len 0) noSpan (record { at = at + 1; len = len })
+
+-- a message that was read from a place on: its text is past the addressee and the `:`
+unfoldable pub messageBody : MessageRead → ℕ → BodyRead
+messageBody m at =
+    let text = at + (addresseeBytes + 1) in
+    cond (eqb (m .refusal) 0)
+    (bodyAccepted (bodyWith Message (record { at = text; len = m .text }) (identifierSpan (text + m .text) (m .identifier)) noTime (m .addressee)))
+    (bodyRefused (m .refusal))
+
+-- a status that was read from a place on: its text is past the time
+unfoldable pub statusBody : StatusRead → List ℕ → ℕ → BodyRead
+statusBody (status.Read t) s at = bodyAccepted (bodyWith Status (spanFrom s (at + length (timeText t))) noSpan t noAddressee)
+statusBody status.Refused s at = bodyRefused (statusNumber status.Refused)
+
+-- what the first byte makes of the input from the place behind it on: a position, timed or not, a report and its 8 bytes, a message or
+-- a status; of a Mic-E destination "6 call characters, SSID ignored"
 unfoldable pub bodyAfter : Opening → Callsign → List ℕ → ℕ → BodyRead
-bodyAfter Unported to s at = bodyRefused 7
 bodyAfter (Positioned messaging timed) to s at = positionedFrom s at messaging timed
-bodyAfter (Mic current) to s at = micEBody (readDestination (callPart to)) (drop at s) current (commentFrom s (at + 8))
+bodyAfter (Mic current) to s at = micEBody (readDestination (callPart to)) (drop at s) current (spanFrom s (at + 8))
+bodyAfter Addressed to s at = messageBody (readMessage (drop at s)) at
+bodyAfter Stated to s at = statusBody (readStatus (drop at s)) s at
 bodyAfter Other to s at = bodyAccepted blankBody
 
 -- "An empty body is Unknown."

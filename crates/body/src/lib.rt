@@ -1,17 +1,21 @@
-// The body of a packet, by its type byte: read from a place of the input on, and written with the destination that goes
-// with it.
+// The body of a packet, by its type byte: read from a place of the input on, and written around its text, with the destination that
+// goes with it.
 ghost use mathlib.Core.Path.{_≡_};
 ghost use mathlib.Core.Bool.{cond};
 ghost use mathlib.Core.List.{[]};
-ghost use Prim.Native.Nat.{_+_, _≤_};
+ghost use Prim.Native.Nat.{_+_, _^_, _≤_, _<_};
 ghost use lib.ListN.{length, drop};
 ghost use Rattle.callsign.specs.Range.{callPart};
+ghost use Rattle.time.specs.Time.{timeText};
 ghost use Rattle.mic_e.specs.Destination.{readDestination, destinationBytes};
 ghost use Rattle.mic_e.specs.Information.{readInformation, informationOut};
-ghost use Rattle.body.specs.Body.{noReport, blankBody, bodyAccepted, bodyRefused, openingOf, commentFrom, timeFound, timeRefused, timeAt, positionedFrom, reportBody, micEBody, readBody};
-ghost use Rattle.body.specs.Range.{isNoLetter, isNoPlace, isNoReport, unknownInRange, positionInRange, micEInRange};
-ghost use Rattle.body.specs.Written.{micECall, informationOf, positionType, positionBytes, micEBytes, unwritten, writtenAs, writeBody};
+ghost use Rattle.message.specs.Message.{readMessage, identifierText, messageRefusal};
+ghost use Rattle.message.specs.Status.{readStatus, statusTextRefusal};
+ghost use Rattle.body.specs.Body.{noReport, bodyWith, blankBody, bodyAccepted, bodyRefused, openingOf, spanFrom, timeFound, timeRefused, timeAt, positionedFrom, reportBody, micEBody, identifierSpan, messageBody, statusBody, readBody};
+ghost use Rattle.body.specs.Range.{isNoLetter, isNoPlace, isNoReport, isPlaceAlone, isReportAlone, isBare, unknownInRange, positionInRange, micEInRange, messageInRange, statusInRange};
+ghost use Rattle.body.specs.Written.{micECall, informationOf, positionType, positionBytes, micEBytes, messageBytes, statusBytes, unwritten, writtenAs, writtenOr, writeBody};
 use callsign::Callsign;
+use message::StatusRead;
 use mic_e::Course;
 use mic_e::Destination;
 use mic_e::DestinationRead;
@@ -28,6 +32,8 @@ pub enum Kind {
     Unknown,
     Position,
     MicE,
+    Message,
+    Status,
 }
 
 // What a Mic-E report adds to a place.
@@ -38,19 +44,22 @@ pub struct Report {
     pub current: bool,
 }
 
-// Where a comment stands in the input that was read, and its length. Writers ignore both.
+// Where a part of the input that was read stands, and its length. Writers ignore both.
 #[repr(C)]
-pub struct Comment {
+pub struct Span {
     pub at: usize,
     pub len: usize,
 }
 
-// A body by its parts. A part that the kind lacks is zero; a position may have a time.
+// A body by its parts. A part that the kind lacks is zero; a position or a status may have a time. The comment of a message or a
+// status is its text.
 pub struct Body {
     pub place: Place,
     pub report: Report,
-    pub comment: Comment,
+    pub comment: Span,
+    pub identifier: Span,
     pub time: Time,
+    pub addressee: [u8; 9],
     pub messaging: bool,
     pub kind: Kind,
 }
@@ -61,21 +70,25 @@ pub struct BodyRead {
     pub refusal: u8,
 }
 
-// What writing gives: the destination that goes with the body, and its first `len` bytes, from the type byte on; the other
-// bytes are zero. At 14 there are no bytes and the destination is kept, at 15 there is neither.
+// What writing gives: the destination that goes with the body, its first `len` bytes, from the type byte up to the comment, and the
+// `tail_len` bytes behind that, which only a message has; the other bytes are zero. At 14 and 18 there are no bytes and the
+// destination is kept, at 15 there is neither.
 pub struct BodyWritten {
     pub to: Callsign,
     pub bytes: [u8; 27],
+    pub tail: [u8; 6],
     pub len: usize,
+    pub tail_len: usize,
     pub refusal: u8,
 }
 
-// What a body's first byte says: a type that is not read, a position (messaging or not) without a time or with one, a Mic-E
-// report (current or old), or none of these.
+// What a body's first byte says: a position (messaging or not) without a time or with one, a Mic-E report (current or old), a message,
+// a status, or none of these.
 enum Opening {
-    Unported,
     Positioned { messaging: bool, timed: bool },
     Mic(bool),
+    Addressed,
+    Stated,
     Other,
 }
 
@@ -99,22 +112,31 @@ fn no_report() -> Report
     }
 }
 
-// The body with nothing in it, of Unknown kind.
-pub fn blank() -> Body
-    ensures { λ r. ⌜ r ≡ blankBody ⌝ }
+// A body of that kind with nothing but these parts.
+fn body_with(kind: Kind, comment: Span, identifier: Span, time: Time, addressee: [u8; 9]) -> Body
+    ensures { λ r. ⌜ r ≡ bodyWith kind comment identifier time addressee ⌝ }
 {
     let place = position::blank();
     let report = no_report();
-    let comment = Comment { at: 0, len: 0 };
-    let time = time::blank();
     Body {
         place,
         report,
         comment,
+        identifier,
         time,
+        addressee,
         messaging: false,
-        kind: Kind::Unknown,
+        kind,
     }
+}
+
+// The body with nothing in it, of Unknown kind.
+pub fn blank() -> Body
+    ensures { λ r. ⌜ r ≡ blankBody ⌝ }
+{
+    let comment = Span { at: 0, len: 0 };
+    let identifier = Span { at: 0, len: 0 };
+    body_with(Kind::Unknown, comment, identifier, time::blank(), [0; 9])
 }
 
 fn accepted(body: Body) -> BodyRead
@@ -136,7 +158,6 @@ fn opening_of(b: u8) -> Opening
     ensures { λ r. ⌜ r ≡ openingOf b ⌝ }
 {
     match b {
-        b':' | b'>' => Opening::Unported,
         b'!' => Opening::Positioned {
             messaging: false,
             timed: false,
@@ -155,6 +176,8 @@ fn opening_of(b: u8) -> Opening
         },
         0x1c | b'`' => Opening::Mic(true),
         0x1d | b'\'' => Opening::Mic(false),
+        b':' => Opening::Addressed,
+        b'>' => Opening::Stated,
         _ => Opening::Other,
     }
 }
@@ -216,16 +239,19 @@ fn read_position(s: &[u8], at: usize, messaging: bool, timed: bool) -> BodyRead
     let place = p.place;
     let report = no_report();
     let behind = start + 19;
-    let comment = Comment {
+    let comment = Span {
         at: behind,
         len: s.len() - behind,
     };
+    let identifier = Span { at: 0, len: 0 };
     let time = found.time;
     accepted(Body {
         place,
         report,
         comment,
+        identifier,
         time,
+        addressee: [0; 9],
         messaging,
         kind: Kind::Position,
     })
@@ -246,7 +272,7 @@ fn destination_of(to: Callsign) -> DestinationRead
 // A Mic-E report whose destination was read, and whose information starts at the place `at`.
 fn read_report(d: Destination, s: &[u8], at: usize, current: bool) -> BodyRead
     requires { ⌜ at ≤ length (now s) ⌝ }
-    ensures { λ r. ⌜ r ≡ reportBody d (readInformation (drop at (now (s .entry))) (d .hundred) (d .west)) current (commentFrom (now (s .entry)) (at + 8)) ⌝ }
+    ensures { λ r. ⌜ r ≡ reportBody d (readInformation (drop at (now (s .entry))) (d .hundred) (d .west)) current (spanFrom (now (s .entry)) (at + 8)) ⌝ }
 {
     let read = mic_e::read_information(&s[at..], d.hundred, d.west);
     match read {
@@ -273,16 +299,19 @@ fn read_report(d: Destination, s: &[u8], at: usize, current: bool) -> BodyRead
                 current,
             };
             let behind = at + 8;
-            let comment = Comment {
+            let comment = Span {
                 at: behind,
                 len: s.len() - behind,
             };
+            let identifier = Span { at: 0, len: 0 };
             let time = time::blank();
             accepted(Body {
                 place,
                 report,
                 comment,
+                identifier,
                 time,
+                addressee: [0; 9],
                 messaging: false,
                 kind: Kind::MicE,
             })
@@ -293,12 +322,73 @@ fn read_report(d: Destination, s: &[u8], at: usize, current: bool) -> BodyRead
 // A Mic-E report: its destination, and then its information from the place `at` on.
 fn read_mic_e(to: Callsign, s: &[u8], at: usize, current: bool) -> BodyRead
     requires { ⌜ at ≤ length (now s) ⌝ }
-    ensures { λ r. ⌜ r ≡ micEBody (readDestination (callPart to)) (drop at (now (s .entry))) current (commentFrom (now (s .entry)) (at + 8)) ⌝ }
+    ensures { λ r. ⌜ r ≡ micEBody (readDestination (callPart to)) (drop at (now (s .entry))) current (spanFrom (now (s .entry)) (at + 8)) ⌝ }
 {
     let read = destination_of(to);
     match read {
         DestinationRead::Refused => refused(11),
         DestinationRead::Read(d) => read_report(d, s, at, current),
+    }
+}
+
+// Where an identifier of `len` bytes stands behind a text that ends at the place `at`, past its `{`; nowhere where it has none.
+fn identifier_span(at: usize, len: usize) -> Span
+    requires { ⌜ at + len < 2 ^ 64 ⌝ }
+    ensures { λ r. ⌜ r ≡ identifierSpan at len ⌝ }
+{
+    if len == 0 {
+        return Span { at: 0, len: 0 };
+    }
+    Span { at: at + 1, len }
+}
+
+// A message whose bytes behind the type byte start at the place `at`.
+fn read_message(s: &[u8], at: usize) -> BodyRead
+    requires { ⌜ at ≤ length (now s) ⌝ }
+    ensures { λ r. ⌜ r ≡ messageBody (readMessage (drop at (now (s .entry)))) at ⌝ }
+{
+    let m = message::read_message(&s[at..]);
+    if m.refusal != 0 {
+        return refused(m.refusal);
+    }
+    let start = at + 10;
+    let comment = Span {
+        at: start,
+        len: m.text,
+    };
+    let identifier = identifier_span(start + m.text, m.identifier);
+    let addressee = m.addressee;
+    accepted(body_with(Kind::Message, comment, identifier, time::blank(), addressee))
+}
+
+// The place behind a time that stands at the place `at`, or that place where there is no time.
+fn behind_time(t: Time, at: usize) -> usize
+    requires { ⌜ at + length (timeText t) < 2 ^ 64 ⌝ }
+    ensures { λ r. ⌜ r ≡ at + length (timeText t) ⌝ }
+{
+    if t.form == 0 {
+        return at;
+    }
+    at + 7
+}
+
+// A status whose bytes behind the type byte start at the place `at`.
+fn read_status(s: &[u8], at: usize) -> BodyRead
+    requires { ⌜ at ≤ length (now s) ⌝ }
+    ensures { λ r. ⌜ r ≡ statusBody (readStatus (drop at (now (s .entry)))) (now (s .entry)) at ⌝ }
+{
+    let read = message::read_status(&s[at..]);
+    match read {
+        StatusRead::Refused => refused(18),
+        StatusRead::Read(time) => {
+            let start = behind_time(time, at);
+            let comment = Span {
+                at: start,
+                len: s.len() - start,
+            };
+            let identifier = Span { at: 0, len: 0 };
+            accepted(body_with(Kind::Status, comment, identifier, time, [0; 9]))
+        }
     }
 }
 
@@ -312,9 +402,10 @@ pub fn read(to: Callsign, s: &[u8], from: usize) -> BodyRead
     }
     let opening = opening_of(s[from]);
     match opening {
-        Opening::Unported => refused(7),
         Opening::Positioned { messaging, timed } => read_position(s, from + 1, messaging, timed),
         Opening::Mic(current) => read_mic_e(to, s, from + 1, current),
+        Opening::Addressed => read_message(s, from + 1),
+        Opening::Stated => read_status(s, from + 1),
         Opening::Other => accepted(blank()),
     }
 }
@@ -373,41 +464,79 @@ fn is_no_report(m: Report) -> bool
     !m.current
 }
 
+// Whether there is neither a report nor an addressee.
+fn is_place_alone(b: Body) -> bool
+    ensures { λ r. ⌜ r ≡ isPlaceAlone b ⌝ }
+{
+    if !is_no_report(b.report) {
+        return false;
+    }
+    let addressee = b.addressee;
+    message::is_blank(addressee)
+}
+
+// Whether there is no messaging, no time and no addressee.
+fn is_report_alone(b: Body) -> bool
+    ensures { λ r. ⌜ r ≡ isReportAlone b ⌝ }
+{
+    if b.messaging {
+        return false;
+    }
+    if !time::is_blank(b.time) {
+        return false;
+    }
+    let addressee = b.addressee;
+    message::is_blank(addressee)
+}
+
+// Whether there is neither a place nor a report, and no flag.
+fn is_bare(b: Body) -> bool
+    ensures { λ r. ⌜ r ≡ isBare b ⌝ }
+{
+    if !is_no_place(b.place) {
+        return false;
+    }
+    if b.messaging {
+        return false;
+    }
+    is_no_report(b.report)
+}
+
 // ---- written: each part is judged by what writes it
+
+fn refused_to(n: u8, to: Callsign) -> BodyWritten
+    ensures { λ r. ⌜ r ≡ writtenAs n to [] [] ⌝ }
+{
+    BodyWritten {
+        to,
+        bytes: [0; 27],
+        tail: [0; 6],
+        len: 0,
+        tail_len: 0,
+        refusal: n,
+    }
+}
 
 fn unwritten() -> BodyWritten
     ensures { λ r. ⌜ r ≡ unwritten ⌝ }
 {
-    let to = callsign::blank();
-    BodyWritten {
-        to,
-        bytes: [0; 27],
-        len: 0,
-        refusal: 15,
-    }
+    refused_to(15, callsign::blank())
 }
 
 fn write_unknown(b: Body, to: Callsign) -> BodyWritten
-    ensures { λ r. ⌜ r ≡ cond (unknownInRange b) (writtenAs 14 to []) unwritten ⌝ }
+    ensures { λ r. ⌜ r ≡ cond (unknownInRange b) (writtenAs 14 to [] []) unwritten ⌝ }
 {
-    if !is_no_place(b.place) {
-        return unwritten();
-    }
-    if b.messaging {
-        return unwritten();
-    }
-    if !is_no_report(b.report) {
+    if !is_bare(b) {
         return unwritten();
     }
     if !time::is_blank(b.time) {
         return unwritten();
     }
-    BodyWritten {
-        to,
-        bytes: [0; 27],
-        len: 0,
-        refusal: 14,
+    let addressee = b.addressee;
+    if !message::is_blank(addressee) {
+        return unwritten();
     }
+    refused_to(14, to)
 }
 
 // The type byte of a body whose flag is set, or not.
@@ -431,9 +560,9 @@ fn position_type(messaging: bool, time: Time) -> u8
 }
 
 fn write_position(b: Body, to: Callsign) -> BodyWritten
-    ensures { λ r. ⌜ r ≡ cond (positionInRange b) (writtenAs 0 to (positionBytes (b .place) (b .messaging) (b .time))) unwritten ⌝ }
+    ensures { λ r. ⌜ r ≡ cond (positionInRange b) (writtenAs 0 to (positionBytes (b .place) (b .messaging) (b .time)) []) unwritten ⌝ }
 {
-    if !is_no_report(b.report) {
+    if !is_place_alone(b) {
         return unwritten();
     }
     let mut bytes = [0u8; 27];
@@ -450,7 +579,9 @@ fn write_position(b: Body, to: Callsign) -> BodyWritten
     BodyWritten {
         to,
         bytes,
+        tail: [0; 6],
         len: behind + 19,
+        tail_len: 0,
         refusal: 0,
     }
 }
@@ -458,7 +589,7 @@ fn write_position(b: Body, to: Callsign) -> BodyWritten
 // The information of a Mic-E report behind its type byte, with the characters of its destination.
 fn write_report(place: Place, report: Report, call: [u8; 6]) -> BodyWritten
     requires { ⌜ call ≡ destinationBytes (place .latitude .0) (place .blanks) (report .message) (place .longitude .0) ⌝ }
-    ensures { λ r. ⌜ r ≡ cond (informationOut (informationOf place report)) unwritten (writtenAs 0 (micECall place report) (micEBytes place report)) ⌝ }
+    ensures { λ r. ⌜ r ≡ cond (informationOut (informationOf place report)) unwritten (writtenAs 0 (micECall place report) (micEBytes place report) []) ⌝ }
 {
     let longitude = place.longitude;
     let speed = report.speed;
@@ -480,21 +611,20 @@ fn write_report(place: Place, report: Report, call: [u8; 6]) -> BodyWritten
     BodyWritten {
         to,
         bytes,
+        tail: [0; 6],
         len: 9,
+        tail_len: 0,
         refusal: 0,
     }
 }
 
 fn write_mic_e(b: Body, to: Callsign) -> BodyWritten
-    ensures { λ r. ⌜ r ≡ cond (micEInRange b to) (writtenAs 0 (micECall (b .place) (b .report)) (micEBytes (b .place) (b .report))) unwritten ⌝ }
+    ensures { λ r. ⌜ r ≡ cond (micEInRange b to) (writtenAs 0 (micECall (b .place) (b .report)) (micEBytes (b .place) (b .report)) []) unwritten ⌝ }
 {
     if !callsign::is_blank(to) {
         return unwritten();
     }
-    if b.messaging {
-        return unwritten();
-    }
-    if !time::is_blank(b.time) {
+    if !is_report_alone(b) {
         return unwritten();
     }
     let place = b.place;
@@ -513,15 +643,86 @@ fn write_mic_e(b: Body, to: Callsign) -> BodyWritten
     write_report(place, report, call)
 }
 
-// Writes the body of a record with the destination `to`: the destination that goes with it, and its fixed bytes; or 15, or 14
-// for an Unknown kind. A Mic-E body has its destination built, and its record has none.
-pub fn write(b: Body, to: Callsign) -> BodyWritten
-    ensures { λ r. ⌜ r ≡ writeBody b to ⌝ }
+// A message to that addressee, around its text; or 18 for a text or an identifier that it may not have.
+fn write_addressed(addressee: [u8; 9], to: Callsign, text: &[u8], identifier: &[u8]) -> BodyWritten
+    ensures { λ r. ⌜ r ≡ writtenOr (messageRefusal (now (text .entry)) (now (identifier .entry))) to (messageBytes addressee) (identifierText (now (identifier .entry))) ⌝ }
+{
+    if !message::is_text(text) {
+        return refused_to(18, to);
+    }
+    let mut tail = [0u8; 6];
+    let w = message::write_identifier(identifier, &mut tail);
+    if w.refusal != 0 {
+        return refused_to(18, to);
+    }
+    let mut bytes = [0u8; 27];
+    bytes[0] = b':';
+    let front = message::front(addressee);
+    let len = buffer::put(&front, &mut bytes, 1);
+    BodyWritten {
+        to,
+        bytes,
+        tail,
+        len,
+        tail_len: w.reported,
+        refusal: 0,
+    }
+}
+
+fn write_message(b: Body, to: Callsign, text: &[u8], identifier: &[u8]) -> BodyWritten
+    ensures { λ r. ⌜ r ≡ cond (messageInRange b) (writtenOr (messageRefusal (now (text .entry)) (now (identifier .entry))) to (messageBytes (b .addressee)) (identifierText (now (identifier .entry)))) unwritten ⌝ }
+{
+    if !is_bare(b) {
+        return unwritten();
+    }
+    if !time::is_blank(b.time) {
+        return unwritten();
+    }
+    let addressee = b.addressee;
+    write_addressed(addressee, to, text, identifier)
+}
+
+fn write_status(b: Body, to: Callsign, text: &[u8]) -> BodyWritten
+    ensures { λ r. ⌜ r ≡ cond (statusInRange b) (writtenOr (statusTextRefusal (b .time) (now (text .entry))) to (statusBytes (b .time)) []) unwritten ⌝ }
+{
+    if !is_bare(b) {
+        return unwritten();
+    }
+    let addressee = b.addressee;
+    if !message::is_blank(addressee) {
+        return unwritten();
+    }
+    let mut bytes = [0u8; 27];
+    bytes[0] = b'>';
+    let t = message::write_status_time(b.time, &mut bytes[1..]);
+    if t.refusal != 0 {
+        return unwritten();
+    }
+    if !message::is_status_text(b.time, text) {
+        return refused_to(18, to);
+    }
+    BodyWritten {
+        to,
+        bytes,
+        tail: [0; 6],
+        len: 1 + t.reported,
+        tail_len: 0,
+        refusal: 0,
+    }
+}
+
+// Writes the body of a record with the destination `to`: the destination that goes with it, and its bytes around the comment or text;
+// or 15, 14 for an Unknown kind, or 18 for a text or an identifier that the kind may not have. A Mic-E body has its destination built,
+// and its record has none. Only a message takes the identifier, where an empty one is none.
+pub fn write(b: Body, to: Callsign, text: &[u8], identifier: &[u8]) -> BodyWritten
+    ensures { λ r. ⌜ r ≡ writeBody b to (now (text .entry)) (now (identifier .entry)) ⌝ }
 {
     let kind = b.kind;
     match kind {
         Kind::Unknown => write_unknown(b, to),
         Kind::Position => write_position(b, to),
         Kind::MicE => write_mic_e(b, to),
+        Kind::Message => write_message(b, to, text, identifier),
+        Kind::Status => write_status(b, to, text),
     }
 }

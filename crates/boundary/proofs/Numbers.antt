@@ -14,6 +14,8 @@ unfolding kindAt kindNumber
 kind-kept kind.Unknown = (refl, refl)
 kind-kept kind.Position = (refl, refl)
 kind-kept kind.MicE = (refl, refl)
+kind-kept kind.Message = (refl, refl)
+kind-kept kind.Status = (refl, refl)
 
 pub message-kept : (m : Message) → (messageAt (messageNumber m) ≡ m) × (leb (messageNumber m) mostMessage ≡ true)
 unfolding messageAt messageNumber

@@ -22,7 +22,17 @@ unfolding reportInC
 report-in-c r message e = rw e
 
 pub body-in-c : (b : Body) (report : CReport) (kind : ℕ) → report ≡ reportInC (b .report) → kind ≡ kindNumber (b .kind)
-    → record { place = b .place; report = report; comment = b .comment; time = b .time; messaging = b .messaging; kind = kind } ≡ bodyInC b
+    → record {
+      place = b .place;
+      report = report;
+      comment = b .comment;
+      identifier = b .identifier;
+      time = b .time;
+      addressee = b .addressee;
+      messaging = b .messaging;
+      kind = kind;
+    }
+    ≡ bodyInC b
 unfolding bodyInC
 body-in-c b report kind e h = rw (e, h)
 
@@ -39,7 +49,17 @@ unfolding reportMeant
 report-meant r message e = rw e
 
 pub body-meant : (b : CBody) (report : Report) (kind : Kind) → report ≡ reportMeant (b .report) → kind ≡ kindAt (b .kind)
-    → record { place = b .place; report = report; comment = b .comment; time = b .time; messaging = b .messaging; kind = kind } ≡ bodyMeant b
+    → record {
+      place = b .place;
+      report = report;
+      comment = b .comment;
+      identifier = b .identifier;
+      time = b .time;
+      addressee = b .addressee;
+      messaging = b .messaging;
+      kind = kind;
+    }
+    ≡ bodyMeant b
 unfolding bodyMeant
 body-meant b report kind e h = rw (e, h)
 

@@ -12,7 +12,8 @@ use Rattle.header.specs.declared.Hop.{Hop}
 use Rattle.header.specs.Header.{blankHeader, headerOf, pathOf, blankHop}
 use Rattle.mic_e.specs.Message.{messageNumber}
 use Rattle.time.specs.Time.{noTime}
-use Rattle.body.specs.Body.{noReport, noComment, blankBody}
+use Rattle.message.specs.Message.{noAddressee}
+use Rattle.body.specs.Body.{noReport, noSpan, blankBody}
 use Rattle.packet.specs.declared.Record.{Record}
 use Rattle.packet.specs.Record.{blankRecord}
 use Rattle.boundary.specs.declared.CRecord.{CRecord}
@@ -49,7 +50,9 @@ allZero =
         place = record { latitude = record { 0 = pos 0 }; longitude = record { 0 = pos 0 }; blanks = 0; table = 0; code = 0; south = false; west = false };
         report = record { speed = record { 0 = 0 }; course = record { 0 = 0 }; message = 0; current = false };
         comment = record { at = 0; len = 0 };
+        identifier = record { at = 0; len = 0 };
         time = record { day = 0; hour = 0; minute = 0; second = 0; form = 0 };
+        addressee = replicate 9 0;
         messaging = false;
         kind = 0;
       };
@@ -57,7 +60,7 @@ allZero =
 
 -- "A refused decode returns the blank record: Unknown kind, all lengths and numbers 0."
 pub blank-is-zeros : recordInC blankRecord ≡ allZero
-unfolding recordInC bodyInC reportInC blankRecord blankBody noReport noComment noTime kindNumber messageNumber blankHeader headerOf pathOf blankHop blankCall made joined padTo
+unfolding recordInC bodyInC reportInC blankRecord blankBody noReport noSpan noAddressee noTime kindNumber messageNumber blankHeader headerOf pathOf blankHop blankCall made joined padTo
 blank-is-zeros = refl
 
 pub zeros-are-blank : recordMeant allZero ≡ blankRecord

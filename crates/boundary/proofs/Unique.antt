@@ -30,16 +30,16 @@ module _ (s : List ℕ) (r r′ : CRead) where
   unique-tusselgro-read-frame = one-value r r′ (readInC (readFrame s))
 
 module _ (out : List ℕ) (a a′ : Answer) (o o′ : List ℕ) where
-  module _ (r : CRecord) (comment : List ℕ) where
-    pub unique-tusselgro-write-text : ends a o ≡ wrote (textRefusalInC r comment) (textBytes (recordMeant r) comment) out
-        → ends a′ o′ ≡ wrote (textRefusalInC r comment) (textBytes (recordMeant r) comment) out
+  module _ (r : CRecord) (comment identifier : List ℕ) where
+    pub unique-tusselgro-write-text : ends a o ≡ wrote (textRefusalInC r comment identifier) (textBytes (recordMeant r) comment identifier) out
+        → ends a′ o′ ≡ wrote (textRefusalInC r comment identifier) (textBytes (recordMeant r) comment identifier) out
         → (a ≡ a′) × (o ≡ o′)
-    unique-tusselgro-write-text = one-end a a′ o o′ (wrote (textRefusalInC r comment) (textBytes (recordMeant r) comment) out)
+    unique-tusselgro-write-text = one-end a a′ o o′ (wrote (textRefusalInC r comment identifier) (textBytes (recordMeant r) comment identifier) out)
 
-    pub unique-tusselgro-write-frame : ends a o ≡ wrote (frameRefusalInC r comment) (frameBytes (recordMeant r) comment) out
-        → ends a′ o′ ≡ wrote (frameRefusalInC r comment) (frameBytes (recordMeant r) comment) out
+    pub unique-tusselgro-write-frame : ends a o ≡ wrote (frameRefusalInC r comment identifier) (frameBytes (recordMeant r) comment identifier) out
+        → ends a′ o′ ≡ wrote (frameRefusalInC r comment identifier) (frameBytes (recordMeant r) comment identifier) out
         → (a ≡ a′) × (o ≡ o′)
-    unique-tusselgro-write-frame = one-end a a′ o o′ (wrote (frameRefusalInC r comment) (frameBytes (recordMeant r) comment) out)
+    unique-tusselgro-write-frame = one-end a a′ o o′ (wrote (frameRefusalInC r comment identifier) (frameBytes (recordMeant r) comment identifier) out)
 
   pub unique-tusselgro-list-motion : (speed course : ℕ) → ends a o ≡ listed (motionRefusal speed course) (motionFields speed course) out
       → ends a′ o′ ≡ listed (motionRefusal speed course) (motionFields speed course) out

@@ -25,28 +25,36 @@ passed-or r u n e f = rw (← e, not-false u f)
 refused-with : (r : CRecord) (u : Bool) (a : Answer) (n : ℕ) (bytes out : List ℕ) → u ≡ isKnown (r .body) → not u ≡ true → a ≡ refusedBy 15 → ends a out ≡ wrote (refusedOr r n) bytes out
 refused-with r u a n bytes out e f h = passed-on a 15 (refusedOr r n) bytes out h (λ z. omega arith) (refused-or r u n e f)
 
--- either writer: its refusal and its bytes
-module _ (refusal : Record → List ℕ → ℕ) (bytes : Record → List ℕ → List ℕ) where
-  written-with : (r : CRecord) (u : Bool) (s : Record) (w : Wrote) (comment out : List ℕ) → u ≡ isKnown (r .body) → not u ≡ false → s ≡ recordMeant r
-      → w ≡ wrote (refusal s comment) (bytes s comment) out
-      → w ≡ wrote (refusedOr r (refusal (recordMeant r) comment)) (bytes (recordMeant r) comment) out
-  written-with r u s w comment out e f h q =
-      q ∙ ap (λ (x : Record). wrote (refusal x comment) (bytes x comment) out) h
-      ∙ ap (λ (n : ℕ). wrote n (bytes (recordMeant r) comment) out) (sym (passed-or r u (refusal (recordMeant r) comment) e f))
+-- either writer, of what is handed over with the record: its refusal and its bytes
+module _ (refusal : Record → ℕ) (bytes : Record → List ℕ) where
+  written-with : (r : CRecord) (u : Bool) (s : Record) (w : Wrote) (out : List ℕ) → u ≡ isKnown (r .body) → not u ≡ false → s ≡ recordMeant r
+      → w ≡ wrote (refusal s) (bytes s) out
+      → w ≡ wrote (refusedOr r (refusal (recordMeant r))) (bytes (recordMeant r)) out
+  written-with r u s w out e f h q =
+      q ∙ ap (λ (x : Record). wrote (refusal x) (bytes x) out) h
+      ∙ ap (λ (n : ℕ). wrote n (bytes (recordMeant r)) out) (sym (passed-or r u (refusal (recordMeant r)) e f))
 
-module _ (r : CRecord) (u : Bool) (comment out : List ℕ) (e : u ≡ isKnown (r .body)) where
-  pub text-unknown : (a : Answer) → not u ≡ true → a ≡ refusedBy 15 → ends a out ≡ wrote (textRefusalInC r comment) (textBytes (recordMeant r) comment) out
+module _ (r : CRecord) (u : Bool) (comment identifier out : List ℕ) (e : u ≡ isKnown (r .body)) where
+  pub text-unknown : (a : Answer) → not u ≡ true → a ≡ refusedBy 15
+      → ends a out ≡ wrote (textRefusalInC r comment identifier) (textBytes (recordMeant r) comment identifier) out
   unfolding textRefusalInC
-  text-unknown a f h = refused-with r u a (textRefusal (recordMeant r) comment) (textBytes (recordMeant r) comment) out e f h
+  text-unknown a f h = refused-with r u a (textRefusal (recordMeant r) comment identifier) (textBytes (recordMeant r) comment identifier) out e f h
 
-  pub frame-unknown : (a : Answer) → not u ≡ true → a ≡ refusedBy 15 → ends a out ≡ wrote (frameRefusalInC r comment) (frameBytes (recordMeant r) comment) out
+  pub frame-unknown : (a : Answer) → not u ≡ true → a ≡ refusedBy 15
+      → ends a out ≡ wrote (frameRefusalInC r comment identifier) (frameBytes (recordMeant r) comment identifier) out
   unfolding frameRefusalInC
-  frame-unknown a f h = refused-with r u a (frameRefusal (recordMeant r) comment) (frameBytes (recordMeant r) comment) out e f h
+  frame-unknown a f h = refused-with r u a (frameRefusal (recordMeant r) comment identifier) (frameBytes (recordMeant r) comment identifier) out e f h
 
-  pub text-known : (s : Record) (w : Wrote) → not u ≡ false → s ≡ recordMeant r → w ≡ wrote (textRefusal s comment) (textBytes s comment) out → w ≡ wrote (textRefusalInC r comment) (textBytes (recordMeant r) comment) out
+  pub text-known : (s : Record) (w : Wrote) → not u ≡ false → s ≡ recordMeant r
+      → w ≡ wrote (textRefusal s comment identifier) (textBytes s comment identifier) out
+      → w ≡ wrote (textRefusalInC r comment identifier) (textBytes (recordMeant r) comment identifier) out
   unfolding textRefusalInC
-  text-known s w f h q = written-with textRefusal textBytes r u s w comment out e f h q
+  text-known s w f h q =
+      written-with (λ (x : Record). textRefusal x comment identifier) (λ (x : Record). textBytes x comment identifier) r u s w out e f h q
 
-  pub frame-known : (s : Record) (w : Wrote) → not u ≡ false → s ≡ recordMeant r → w ≡ wrote (frameRefusal s comment) (frameBytes s comment) out → w ≡ wrote (frameRefusalInC r comment) (frameBytes (recordMeant r) comment) out
+  pub frame-known : (s : Record) (w : Wrote) → not u ≡ false → s ≡ recordMeant r
+      → w ≡ wrote (frameRefusal s comment identifier) (frameBytes s comment identifier) out
+      → w ≡ wrote (frameRefusalInC r comment identifier) (frameBytes (recordMeant r) comment identifier) out
   unfolding frameRefusalInC
-  frame-known s w f h q = written-with frameRefusal frameBytes r u s w comment out e f h q
+  frame-known s w f h q =
+      written-with (λ (x : Record). frameRefusal x comment identifier) (λ (x : Record). frameBytes x comment identifier) r u s w out e f h q

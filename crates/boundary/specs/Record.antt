@@ -30,7 +30,9 @@ bodyInC b =
       place = b .place;
       report = reportInC (b .report);
       comment = b .comment;
+      identifier = b .identifier;
       time = b .time;
+      addressee = b .addressee;
       messaging = b .messaging;
       kind = kindNumber (b .kind);
     }
@@ -56,7 +58,9 @@ bodyMeant b =
       place = b .place;
       report = reportMeant (b .report);
       comment = b .comment;
+      identifier = b .identifier;
       time = b .time;
+      addressee = b .addressee;
       messaging = b .messaging;
       kind = kindAt (b .kind);
     }
@@ -74,9 +78,9 @@ unfoldable pub refusedOr : CRecord → ℕ → ℕ
 refusedOr r n = cond (isKnown (r .body)) n 15
 
 -- of a line
-unfoldable pub textRefusalInC : CRecord → List ℕ → ℕ
-textRefusalInC r comment = refusedOr r (textRefusal (recordMeant r) comment)
+unfoldable pub textRefusalInC : CRecord → List ℕ → List ℕ → ℕ
+textRefusalInC r comment identifier = refusedOr r (textRefusal (recordMeant r) comment identifier)
 
 -- of a frame
-unfoldable pub frameRefusalInC : CRecord → List ℕ → ℕ
-frameRefusalInC r comment = refusedOr r (frameRefusal (recordMeant r) comment)
+unfoldable pub frameRefusalInC : CRecord → List ℕ → List ℕ → ℕ
+frameRefusalInC r comment identifier = refusedOr r (frameRefusal (recordMeant r) comment identifier)

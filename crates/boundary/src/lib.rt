@@ -14,9 +14,9 @@ ghost use Rattle.packet.specs.Written.{textBytes, frameBytes};
 ghost use Rattle.boundary.specs.Numbers.{kindNumber, kindAt};
 ghost use Rattle.boundary.specs.Record.{reportInC, bodyInC, readInC, isKnown, reportMeant, bodyMeant, recordMeant, textRefusalInC, frameRefusalInC};
 use body::Body;
-use body::Comment;
 use body::Kind;
 use body::Report;
+use body::Span;
 use header::Header;
 use lonlat::Latitude;
 use lonlat::Longitude;
@@ -43,8 +43,10 @@ pub struct CReport {
 pub struct CBody {
     pub place: Place,
     pub report: CReport,
-    pub comment: Comment,
+    pub comment: Span,
+    pub identifier: Span,
     pub time: Time,
+    pub addressee: [u8; 9],
     pub messaging: bool,
     pub kind: u8,
 }
@@ -72,6 +74,8 @@ fn kind_number(k: Kind) -> u8
         Kind::Unknown => 0,
         Kind::Position => 1,
         Kind::MicE => 2,
+        Kind::Message => 3,
+        Kind::Status => 4,
     }
 }
 
@@ -83,6 +87,12 @@ fn kind_at(n: u8) -> Kind
     }
     if n == 2 {
         return Kind::MicE;
+    }
+    if n == 3 {
+        return Kind::Message;
+    }
+    if n == 4 {
+        return Kind::Status;
     }
     Kind::Unknown
 }
@@ -110,14 +120,18 @@ fn body_in_c(b: Body) -> CBody
     let place = b.place;
     let report = report_in_c(b.report);
     let comment = b.comment;
+    let identifier = b.identifier;
     let time = b.time;
+    let addressee = b.addressee;
     let k = b.kind;
     let kind = kind_number(k);
     CBody {
         place,
         report,
         comment,
+        identifier,
         time,
+        addressee,
         messaging: b.messaging,
         kind,
     }
@@ -140,7 +154,7 @@ fn read_in_c(p: PacketRead) -> CRead
 fn is_known(b: CBody) -> bool
     ensures { λ a. ⌜ a ≡ isKnown b ⌝ }
 {
-    if 2 < b.kind {
+    if 4 < b.kind {
         return false;
     }
     let report = b.report;
@@ -167,13 +181,17 @@ fn body_meant(b: CBody) -> Body
     let place = b.place;
     let report = report_meant(b.report);
     let comment = b.comment;
+    let identifier = b.identifier;
     let time = b.time;
+    let addressee = b.addressee;
     let kind = kind_at(b.kind);
     Body {
         place,
         report,
         comment,
+        identifier,
         time,
+        addressee,
         messaging: b.messaging,
         kind,
     }
@@ -212,30 +230,37 @@ pub extern "C" fn tusselgro_read_frame(frame: &[u8]) -> CRead
     read(frame, true)
 }
 
-// Writes a record and a comment as a line of text; refused with 15, 14, 1 or 16. The record's comment is ignored.
+// Writes a record with its comment, or its text and identifier, as a line of text; refused with 15, 14, 18, 1 or 16. Where the record
+// says that they stood is ignored. Only a message takes the identifier; an empty one is none.
 #[no_mangle]
-pub extern "C" fn tusselgro_write_text(r: CRecord, comment: &[u8], out: &mut [u8]) -> buffer::Answer
-    ensures { λ a. ⌜ ends a (now (out .exit)) ≡ wrote (textRefusalInC r (now (comment .entry))) (textBytes (recordMeant r) (now (comment .entry))) (now (out .entry)) ⌝ }
+pub extern "C" fn tusselgro_write_text(
+    r: CRecord,
+    comment: &[u8],
+    identifier: &[u8],
+    out: &mut [u8],
+) -> buffer::Answer
+    ensures { λ a. ⌜ ends a (now (out .exit)) ≡ wrote (textRefusalInC r (now (comment .entry)) (now (identifier .entry))) (textBytes (recordMeant r) (now (comment .entry)) (now (identifier .entry))) (now (out .entry)) ⌝ }
 {
     if !is_known(r.body) {
         return buffer::refused(15);
     }
-    packet::write_text(record_meant(r), comment, out)
+    packet::write_text(record_meant(r), comment, identifier, out)
 }
 
-// Writes a record and a comment as an AX.25 frame; refused with 15, 14, 13, 1 or 16. The record's comment is ignored.
+// The same as an AX.25 frame; refused with 15, 14, 18, 13, 1 or 16.
 #[no_mangle]
 pub extern "C" fn tusselgro_write_frame(
     r: CRecord,
     comment: &[u8],
+    identifier: &[u8],
     out: &mut [u8],
 ) -> buffer::Answer
-    ensures { λ a. ⌜ ends a (now (out .exit)) ≡ wrote (frameRefusalInC r (now (comment .entry))) (frameBytes (recordMeant r) (now (comment .entry))) (now (out .entry)) ⌝ }
+    ensures { λ a. ⌜ ends a (now (out .exit)) ≡ wrote (frameRefusalInC r (now (comment .entry)) (now (identifier .entry))) (frameBytes (recordMeant r) (now (comment .entry)) (now (identifier .entry))) (now (out .entry)) ⌝ }
 {
     if !is_known(r.body) {
         return buffer::refused(15);
     }
-    packet::write_frame(record_meant(r), comment, out)
+    packet::write_frame(record_meant(r), comment, identifier, out)
 }
 
 // ---- fields

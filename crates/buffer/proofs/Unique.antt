@@ -22,6 +22,12 @@ module _ (r r′ : Answer) (o o′ : List ℕ) where
   pub unique-write : (bytes out : List ℕ) → ends r o ≡ wrote 0 bytes out → ends r′ o′ ≡ wrote 0 bytes out → (r ≡ r′) × (o ≡ o′)
   unique-write bytes out e e′ = one-end r r′ o o′ (wrote 0 bytes out) e e′
 
+  pub unique-write-three : (limit : ℕ) (head middle tail out : List ℕ)
+      → ends r o ≡ wrote (overBy limit (head ++ (middle ++ tail))) (head ++ (middle ++ tail)) out
+      → ends r′ o′ ≡ wrote (overBy limit (head ++ (middle ++ tail))) (head ++ (middle ++ tail)) out
+      → (r ≡ r′) × (o ≡ o′)
+  unique-write-three limit head middle tail out e e′ = one-end r r′ o o′ (wrote (overBy limit (head ++ (middle ++ tail))) (head ++ (middle ++ tail)) out) e e′
+
   pub unique-write-two : (limit : ℕ) (head tail out : List ℕ)
       → ends r o ≡ wrote (overBy limit (head ++ tail)) (head ++ tail) out
       → ends r′ o′ ≡ wrote (overBy limit (head ++ tail)) (head ++ tail) out

@@ -1,9 +1,9 @@
 -- Laws of `wrote`: what each answer of a writer must show, and that two results that meet one promise are equal.
 -- Assumes nothing.
 use mathlib.Core.Path.{_≡_, refl, sym, ap, _∙_}
-use mathlib.Core.List.{List, [], _++_}
+use mathlib.Core.List.{List, [], _++_, append-assoc}
 use Prim.Native.Nat.{ℕ, zero, suc, _+_, _<_, _≤_}
-use lib.ListN.{length, drop}
+use lib.ListN.{length, drop, length-append}
 use lib.Seq.{paste, take-at, take-length, drop-append-add, drop-drop}
 use borrow.Author.Tests.{lt-ltb, le-ltb}
 use Rattle.buffer.specs.declared.Answer.{Answer}
@@ -50,11 +50,18 @@ put-after p d s at e = rw (take-at p d at (sym e), take-length s, e, drop-append
 pub put-first : (d s : List ℕ) → paste d 0 s (length s) ≡ s ++ drop (length s) d
 put-first d s = put-after [] d s 0 refl
 
-pub put-both : (a b out o₁ o₂ : List ℕ) → o₁ ≡ paste out 0 a (length a) → o₂ ≡ paste o₁ (length a) b (length b) → o₂ ≡ (a ++ b) ++ drop (length a + length b) out
-put-both a b out o₁ o₂ e f =
-    f ∙ ap (λ (o : List ℕ). paste o (length a) b (length b)) (e ∙ put-first out a)
-    ∙ put-after a (drop (length a) out) b (length a) refl
-    ∙ ap (λ (r : List ℕ). (a ++ b) ++ r) (drop-drop (length b) (length a) out)
+-- one piece more behind those that stand at the front of out
+put-behind : (p s out o o′ : List ℕ) (at : ℕ) → at ≡ length p → o ≡ p ++ drop at out → o′ ≡ paste o at s (length s) → o′ ≡ (p ++ s) ++ drop (at + length s) out
+put-behind p s out o o′ at k e f =
+    f ∙ ap (λ (x : List ℕ). paste x at s (length s)) e ∙ put-after p (drop at out) s at k ∙ ap (λ (r : List ℕ). (p ++ s) ++ r) (drop-drop (length s) at out)
+
+pub put-all : (a b c out o₁ o₂ o₃ : List ℕ)
+    → o₁ ≡ paste out 0 a (length a) → o₂ ≡ paste o₁ (length a) b (length b) → o₃ ≡ paste o₂ (length a + length b) c (length c)
+    → o₃ ≡ (a ++ (b ++ c)) ++ drop (length a + length b + length c) out
+put-all a b c out o₁ o₂ o₃ e f g =
+    let both = put-behind a b out o₁ o₂ (length a) refl (e ∙ put-first out a) f in
+    put-behind (a ++ b) c out o₂ o₃ (length a + length b) (sym (length-append a b)) both g
+    ∙ ap (λ (l : List ℕ). l ++ drop (length a + length b + length c) out) (append-assoc a b c)
 
 -- ---- the limit
 

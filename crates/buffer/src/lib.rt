@@ -74,25 +74,37 @@ pub fn write(bytes: &[u8], out: &mut [u8]) -> Answer
     done(n)
 }
 
-// Writes head and then tail to the front of out, at most `limit` bytes: over it answers 1, without room 16,
-// and either leaves out alone.
-pub fn write_two(limit: usize, head: &[u8], tail: &[u8], out: &mut [u8]) -> Answer
-    ensures { λ r. ⌜ ends r (now (out .exit)) ≡ wrote (overBy limit (now (head .entry) ++ now (tail .entry))) (now (head .entry) ++ now (tail .entry)) (now (out .entry)) ⌝ }
+// Writes head, middle and tail to the front of out, one behind the other and at most `limit` bytes: over it answers 1, without room
+// 16, and either leaves out alone.
+pub fn write_three(limit: usize, head: &[u8], middle: &[u8], tail: &[u8], out: &mut [u8]) -> Answer
+    ensures { λ r. ⌜ ends r (now (out .exit)) ≡ wrote (overBy limit (now (head .entry) ++ (now (middle .entry) ++ now (tail .entry)))) (now (head .entry) ++ (now (middle .entry) ++ now (tail .entry))) (now (out .entry)) ⌝ }
 {
     let n = head.len();
-    let m = tail.len();
+    let m = middle.len();
+    let k = tail.len();
     if limit < n {
         return refused(1);
     }
     if limit - n < m {
         return refused(1);
     }
-    if out.len() < n + m {
-        return no_room(n + m);
+    if limit - n - m < k {
+        return refused(1);
+    }
+    if out.len() < n + m + k {
+        return no_room(n + m + k);
     }
     copy(head, out, 0);
-    copy(tail, out, n);
-    done(n + m)
+    copy(middle, out, n);
+    copy(tail, out, n + m);
+    done(n + m + k)
+}
+
+// Writes head and tail in the same way.
+pub fn write_two(limit: usize, head: &[u8], tail: &[u8], out: &mut [u8]) -> Answer
+    ensures { λ r. ⌜ ends r (now (out .exit)) ≡ wrote (overBy limit (now (head .entry) ++ now (tail .entry))) (now (head .entry) ++ now (tail .entry)) (now (out .entry)) ⌝ }
+{
+    write_three(limit, head, tail, b"", out)
 }
 
 // ---- pieces, each put into out at the place `at`; the place behind it is answered

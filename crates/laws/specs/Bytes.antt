@@ -111,6 +111,15 @@ smallQ = 0x71
 abbrev pub smallZ : ℕ
 smallZ = 0x7a
 
+abbrev pub brace : ℕ
+brace = 0x7b
+
+abbrev pub bar : ℕ
+bar = 0x7c
+
+abbrev pub tilde : ℕ
+tilde = 0x7e
+
 abbrev pub carriageReturn : ℕ
 carriageReturn = 0x0d
 

@@ -1,11 +1,12 @@
--- A header in a scratch array, the body's bytes behind it, and then the comment: what the code leaves at each answer.
+-- A header in a scratch array, the body's bytes behind it, and then the text and what follows it: what the code leaves at each answer.
+-- The longest header, 178 bytes, and the most that a body has before its text, 27, are the 205 bytes of the scratch.
 -- Assumes nothing.
 use mathlib.Core.Path.{_≡_, refl, sym, ap, _∙_}
 use mathlib.Core.Bool.{Bool, true, false, cond}
 use mathlib.Core.List.{List, _++_}
 use Prim.Native.Nat.{ℕ, _+_, _≤_}
 use native.Mathlib.Omega.{arith}
-use lib.ListN.{length, take, drop, replicate, length-append, length-drop, length-take}
+use lib.ListN.{length, take, drop, replicate, length-append, length-drop}
 use lib.Seq.{length-take-le}
 use Rattle.buffer.specs.declared.Answer.{Answer}
 use Rattle.buffer.specs.Wrote.{Wrote, ends, refusedBy, overBy, wrote}
@@ -34,7 +35,7 @@ module _ (framed : Bool) (h : Header) (out : List ℕ) (w : Wrote) where
   unfolding headRefusal headBytes
   head-plain e q = rw e q
 
-head-short : (framed : Bool) (h : Header) → headRefusal framed h ≡ 0 → length (headBytes framed h) ≤ 178
+pub head-short : (framed : Bool) (h : Header) → headRefusal framed h ≡ 0 → length (headBytes framed h) ≤ 178
 unfolding headRefusal headBytes headerTextRefusal
 head-short true h e = let s : length (headerFrame h) ≤ 72 = frame-at-most-72 h e in omega arith
 head-short false h e = text-at-most-178 h (fine (headerInRange h) e)
@@ -55,10 +56,10 @@ module _ (framed : Bool) (h : Header) (w : Answer) (head : List ℕ) (e : ends w
   says : w .refusal ≡ headRefusal framed h
   says = refusal-is w head (headBytes framed h) scratch (headRefusal framed h) e room
 
-  pub behind-refused : (body comment out : List ℕ) (a : Answer) → (w .refusal ≡ 0 → ⊥) → a ≡ refusedBy (w .refusal) → ends a out ≡ wroteBehind framed h body comment out
+  pub behind-refused : (body text tail out : List ℕ) (a : Answer) → (w .refusal ≡ 0 → ⊥) → a ≡ refusedBy (w .refusal) → ends a out ≡ wroteBehind framed h body text tail out
   unfolding wroteBehind
-  behind-refused body comment out a z f =
-      let bytes = (headBytes framed h ++ body) ++ comment in
+  behind-refused body text tail out a z f =
+      let bytes = (headBytes framed h ++ body) ++ (text ++ tail) in
       passed-on a (w .refusal) (orElse (headRefusal framed h) (overBy mostBytes bytes)) bytes out f z
       (ap (λ (n : ℕ). orElse n (overBy mostBytes bytes)) (sym says) ∙ or-first (w .refusal) (overBy mostBytes bytes) z)
 
@@ -94,18 +95,10 @@ module _ (framed : Bool) (h : Header) (w : Answer) (head : List ℕ) (e : ends w
     pub behind-long : m ≡ length (take m later)
     behind-long = sym (length-take-le m later behind-within)
 
-    pub behind-written : (comment out last : List ℕ) (a : Answer) → ends a last ≡ wrote (overBy mostBytes (take m later ++ comment)) (take m later ++ comment) out
-        → ends a last ≡ wroteBehind framed h body comment out
+    pub behind-written : (text tail out last : List ℕ) (a : Answer) → ends a last ≡ wrote (overBy mostBytes (take m later ++ (text ++ tail))) (take m later ++ (text ++ tail)) out
+        → ends a last ≡ wroteBehind framed h body text tail out
     unfolding wroteBehind
-    behind-written comment out last a f = rw (or-none (headRefusal framed h) _ none, ← front) f
-
--- a body's bytes in use, of the 27
-module _ (bytes : List ℕ) (n : ℕ) (h : n ≤ 27) where
-  pub piece-within : length bytes ≡ 27 → n ≤ length bytes
-  piece-within e = omega arith
-
-  pub piece-short : length (take n bytes) ≤ 27
-  piece-short = omega (arith, length-take n bytes)
+    behind-written text tail out last a f = rw (or-none (headRefusal framed h) _ none, ← front) f
 
 -- ---- a body that is refused
 

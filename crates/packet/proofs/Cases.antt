@@ -22,9 +22,10 @@ use Rattle.lonlat.specs.Latitude.{blanksIn, restBlank, countedDigits, latitudeW
 use Rattle.lonlat.specs.Longitude.{longitudeWith, longitudeIn, readLongitude, eastOrWest, longitudeText}
 use Rattle.time.specs.Time.{noTime, isPresent, timeText}
 use Rattle.position.specs.Position.{isNumeric, isUncompressed, withLongitude, withLatitude, readPosition, positionText}
+use Rattle.message.specs.Message.{noAddressee}
 use Rattle.body.specs.declared.Kind.the-variants.{Position}
-use Rattle.body.specs.Body.{noReport, openingOf, commentFrom, positionBody, positionFrom, timeAt, behindTime, positionedFrom, bodyAfter, readBody}
-use Rattle.body.specs.Written.{toAs, writtenTo, positionType, positionBytes, bytesAs, bodyBytes}
+use Rattle.body.specs.Body.{noSpan, noReport, openingOf, spanFrom, positionBody, positionFrom, timeAt, behindTime, positionedFrom, bodyAfter, readBody}
+use Rattle.body.specs.Written.{toAs, writtenTo, positionType, positionBytes, bytesAs, bodyBytes, tailAs, tailBytes}
 use Rattle.packet.specs.declared.Record.{Record}
 use Rattle.packet.specs.Packet.{keptTo, recordOf, packetOf, packetAfter, readAnyText, readText}
 use Rattle.packet.specs.Written.{writtenHeader, bytesOf, textBytes}
@@ -47,12 +48,14 @@ P11-record =
         messaging = false;
         report = noReport;
         comment = record { at = 31; len = 0 };
+        identifier = noSpan;
+        addressee = noAddressee;
       };
     }
 
 pub P11-read : readText P11-line ≡ record { refusal = 0; «record» = P11-record }
 unfolding
-    readText readAnyText packetAfter packetOf recordOf keptTo readBody openingOf bodyAfter positionedFrom timeAt behindTime positionFrom positionBody commentFrom readHeaderText
+    readText readAnyText packetAfter packetOf recordOf keptTo readBody openingOf bodyAfter positionedFrom timeAt behindTime positionFrom positionBody spanFrom readHeaderText
     readBefore readRoute withHops starsOf pathOf headerOf unlessRefused headerAccepted firstOf othersOf fields onFirst textHops hopThen
     before readHop isQ hopOf readCall readUnstarred parted callAccepted indexOf utf8 characters after within isZero made
     joined padTo carried anyHeard readPosition isUncompressed isNumeric withLatitude withLongitude
@@ -60,9 +63,9 @@ unfolding
     lastAs numberAfter numberOf degreesOf minutesOf hundredthsOf valueOf sizeOf fits angleIn signedOf
 P11-read = refl
 
-pub P11-written : textBytes P11-record [] ≡ P11-line
+pub P11-written : textBytes P11-record [] [] ≡ P11-line
 unfolding
-    textBytes bytesOf bodyBytes bytesAs positionType positionBytes noTime isPresent timeText writtenHeader writtenTo toAs positionText latitudeText longitudeText
+    textBytes bytesOf bodyBytes bytesAs tailBytes tailAs positionType positionBytes noTime isPresent timeText writtenHeader writtenTo toAs positionText latitudeText longitudeText
     blankedPlaces northOrSouth eastOrWest isMinus textOf placesOf digitsOf digitOf lastAs headerText routeText hopsText
     hopsOf anyHeard callText callPart ssidPart withStar made joined padTo pathOf
 P11-written = refl

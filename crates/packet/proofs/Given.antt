@@ -1,5 +1,5 @@
 -- What reading a packet gives, refused or not: a blank record at a refusal, a record in range but for two cases, angles that are the
--- inner edges of their boxes, and a comment within the input.
+-- inner edges of their boxes, and a comment and an identifier within the input.
 -- Assumes nothing.
 use mathlib.Core.Path.{_≡_, refl}
 use mathlib.Core.Bool.{Bool, true, false, not, cond}
@@ -22,11 +22,11 @@ use Rattle.header.proofs.Answers.{blank-header-range}
 use Rattle.header.proofs.InRange.{from-fine, to-fine, path-fine}
 use Rattle.header.proofs.Theorems.{any-text-is-in-range, frame-is-in-range}
 use Rattle.body.specs.declared.Kind.{Kind}
-use Rattle.body.specs.declared.Kind.the-variants.{Unknown, Position, MicE}
+use Rattle.body.specs.declared.Kind.the-variants.{Unknown, Position, MicE, Message, Status}
 use Rattle.body.specs.declared.BodyRead.{BodyRead}
-use Rattle.body.specs.Body.{noComment, blankBody, readBody}
+use Rattle.body.specs.Body.{noSpan, blankBody, readBody}
 use Rattle.body.specs.Range.{exceptedAs, isExcepted}
-use Rattle.body.proofs.Theorems.{read-comment-within, read-range, blank-range, InnerEdges, read-inner-edges, blank-inner-edges}
+use Rattle.body.proofs.Theorems.{read-comment-within, read-identifier-within, read-range, blank-range, InnerEdges, read-inner-edges, blank-inner-edges}
 use Rattle.packet.specs.declared.Record.{Record}
 use Rattle.packet.specs.declared.PacketRead.{PacketRead}
 use Rattle.packet.specs.Record.{blankRecord, packetRefused}
@@ -61,29 +61,37 @@ kept-range : (k : Kind) (to : Callsign) → inRange to ≡ true → inRange (kep
 unfolding keptTo
 kept-range Unknown to e = e
 kept-range Position to e = e
+kept-range Message to e = e
+kept-range Status to e = e
 kept-range MicE to e = blank-call-range
 
 kept-blank : (k : Kind) (to : Callsign) → k ≡ MicE → isBlankCall (keptTo k to) ≡ true
 unfolding keptTo isBlankCall blankCall made joined padTo zeros
 kept-blank k to e = rw e
 
--- a record that reading gives: its range, its boxes, and its comment within so many bytes
+-- a record that reading gives: its range, its boxes, and its comment and identifier within so many bytes
 pub record Given (size : ℕ) (r : Record) : Type 0 where
   pub range : recordInRange r ≡ not (isExcepted (r .body))
   pub edges : InnerEdges (r .body)
   pub within : r .body .comment .at + r .body .comment .len ≤ size
+  pub identifier-within : r .body .identifier .at + r .body .identifier .len ≤ size
 
-blank-body : (size : ℕ) → (not (isExcepted blankBody) ≡ true) × (blankBody .comment .at + blankBody .comment .len ≤ size)
-unfolding blankBody noComment isExcepted exceptedAs
-blank-body size = (refl, omega arith)
+blank-body : not (isExcepted blankBody) ≡ true
+unfolding blankBody isExcepted exceptedAs
+blank-body = refl
+
+blank-spans : (size : ℕ) → (blankBody .comment .at + blankBody .comment .len ≤ size) × (blankBody .identifier .at + blankBody .identifier .len ≤ size)
+unfolding blankBody noSpan
+blank-spans size = (omega arith, omega arith)
 
 blank-given : (size : ℕ) → Given size blankRecord
 unfolding blankRecord recordInRange
 blank-given size =
     record {
-      range = rw (blank-header-range, blank-range (blankHeader .to), blank-body size .0);
+      range = rw (blank-header-range, blank-range (blankHeader .to), blank-body);
       edges = blank-inner-edges;
-      within = blank-body size .1;
+      within = blank-spans size .0;
+      identifier-within = blank-spans size .1;
     }
 
 module _ (h : HeaderRead) (s : List ℕ) (e : headerInRange (h .header) ≡ true) where
@@ -104,6 +112,7 @@ module _ (h : HeaderRead) (s : List ℕ) (e : headerInRange (h .header) ≡ true
         range = rw header-fine (read-range (h .header .to) s (h .body) kept (kept-blank (b .body .kind) (h .header .to)));
         edges = read-inner-edges (h .header .to) s (h .body);
         within = read-comment-within (h .header .to) s (h .body);
+        identifier-within = read-identifier-within (h .header .to) s (h .body);
       }
 
   pub after-given : Given (length s) (packetAfter h s .«record»)

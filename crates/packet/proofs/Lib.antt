@@ -4,6 +4,7 @@ pub mod Behind
 pub mod Lines
 pub mod Given
 pub mod Times
+pub mod Texts
 pub mod Marks
 pub mod Theorems
 pub mod Cases

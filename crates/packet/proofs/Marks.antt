@@ -23,7 +23,7 @@ use Rattle.header.proofs.Kept.{headerTyped, Kept}
 use Rattle.header.proofs.Marks.{unmarked, twice-unmarked, unmarked-in-range, unmarked-text, unmarked-frame, unmarked-frame-refusal}
 use Rattle.header.proofs.Theorems.{any-text-is-kept, frame-has-no-mark, blank-has-no-mark}
 use Rattle.body.specs.declared.Kind.{Kind}
-use Rattle.body.specs.declared.Kind.the-variants.{Unknown, Position, MicE}
+use Rattle.body.specs.declared.Kind.the-variants.{Unknown, Position, MicE, Message, Status}
 use Rattle.body.specs.declared.Body.{Body}
 use Rattle.body.specs.declared.BodyRead.{BodyRead}
 use Rattle.body.specs.Body.{readBody}
@@ -46,15 +46,17 @@ body-range : (k : Kind) (b : Body) (to : Callsign) → inRangeAs k b (unmarkedCa
 unfolding inRangeAs micEInRange
 body-range Unknown b to = refl
 body-range Position b to = refl
+body-range Message b to = refl
+body-range Status b to = refl
 body-range MicE b to = rw (mark-of-blank false to)
 
 same-range : (r : Record) → recordInRange (unmarkedRecord r) ≡ recordInRange r
 unfolding recordInRange unmarkedRecord bodyInRange
 same-range r = rw (unmarked-in-range (r .header)) (ap (λ (b : Bool). headerInRange (r .header) && b) (unfold unmarked headerOf in body-range (r .body .kind) (r .body) (r .header .to)))
 
-same-refusal : (r : Record) → recordRefusal (unmarkedRecord r) ≡ recordRefusal r
+same-refusal : (r : Record) (text identifier : List ℕ) → recordRefusal (unmarkedRecord r) text identifier ≡ recordRefusal r text identifier
 unfolding recordRefusal rangeRefusal
-same-refusal r = rw (same-range r) (unfold unmarkedRecord in refl)
+same-refusal r text identifier = rw (same-range r) (unfold unmarkedRecord in refl)
 
 -- ---- the header that is written
 
@@ -68,6 +70,8 @@ unfolding toAs
 same-written Unknown b h = same-to h (unmarkedCall (h .to)) ∙ (unfold unmarked headerOf markedAs in refl)
 same-written Position b h = same-to h (unmarkedCall (h .to)) ∙ (unfold unmarked headerOf markedAs in refl)
 same-written MicE b h = same-to h (toAs MicE b (h .to))
+same-written Message b h = same-to h (unmarkedCall (h .to)) ∙ (unfold unmarked headerOf markedAs in refl)
+same-written Status b h = same-to h (unmarkedCall (h .to)) ∙ (unfold unmarked headerOf markedAs in refl)
 
 same-header : (r : Record) → unmarked (writtenHeader (unmarkedRecord r)) ≡ unmarked (writtenHeader r)
 unfolding writtenHeader writtenTo unmarkedRecord
@@ -79,22 +83,22 @@ same-of f e r = alike-without unmarked f e (writtenHeader (unmarkedRecord r)) (w
 
 -- ---- what is written
 
-module _ (r : Record) (comment : List ℕ) where
-  pub unmarked-text-bytes : textBytes (unmarkedRecord r) comment ≡ textBytes r comment
+module _ (r : Record) (text identifier : List ℕ) where
+  pub unmarked-text-bytes : textBytes (unmarkedRecord r) text identifier ≡ textBytes r text identifier
   unfolding textBytes bytesOf
   unmarked-text-bytes = rw (same-of headerText unmarked-text r) (unfold unmarkedRecord in refl)
 
-  pub unmarked-frame-bytes : frameBytes (unmarkedRecord r) comment ≡ frameBytes r comment
+  pub unmarked-frame-bytes : frameBytes (unmarkedRecord r) text identifier ≡ frameBytes r text identifier
   unfolding frameBytes bytesOf
   unmarked-frame-bytes = rw (same-of headerFrame unmarked-frame r) (unfold unmarkedRecord in refl)
 
-  pub unmarked-refusal-of-text : textRefusal (unmarkedRecord r) comment ≡ textRefusal r comment
+  pub unmarked-refusal-of-text : textRefusal (unmarkedRecord r) text identifier ≡ textRefusal r text identifier
   unfolding textRefusal
-  unmarked-refusal-of-text = rw (same-refusal r, unmarked-text-bytes)
+  unmarked-refusal-of-text = rw (same-refusal r text identifier, unmarked-text-bytes)
 
-  pub unmarked-refusal-of-frame : frameRefusal (unmarkedRecord r) comment ≡ frameRefusal r comment
+  pub unmarked-refusal-of-frame : frameRefusal (unmarkedRecord r) text identifier ≡ frameRefusal r text identifier
   unfolding frameRefusal
-  unmarked-refusal-of-frame = rw (same-refusal r, same-of headerFrameRefusal unmarked-frame-refusal r, unmarked-frame-bytes)
+  unmarked-refusal-of-frame = rw (same-refusal r text identifier, same-of headerFrameRefusal unmarked-frame-refusal r, unmarked-frame-bytes)
 
 -- ---- a frame read
 
@@ -107,6 +111,8 @@ kept-unmarked : (k : Kind) (h : Header) → unmarked h ≡ h → unmarked (heade
 unfolding keptTo
 kept-unmarked Unknown h e = e
 kept-unmarked Position h e = e
+kept-unmarked Message h e = e
+kept-unmarked Status h e = e
 kept-unmarked MicE h e = blank-to h ∙ ap (λ (g : Header). headerTo g blankCall) e
 
 pub unmarked-blank-record : unmarkedRecord blankRecord ≡ blankRecord

@@ -1,4 +1,5 @@
--- The crate's theorems: what is read, the boxes of it, the marks of dropped zeros, its time, and what of it is not written.
+-- The crate's theorems: what is read, the boxes of it, the marks of dropped zeros, its time, messages and status
+-- lines, and what of it is not written.
 -- Assumes nothing.
 use mathlib.Core.Path.{_≡_, refl, ap, _∙_}
 use mathlib.Core.Bool.{Bool, true, false, not, cond}
@@ -6,13 +7,16 @@ use mathlib.Core.List.{List}
 use Prim.Native.Nat.{ℕ, _+_, _≤_}
 use lib.Dec.{ltb}
 use lib.ListN.{length}
+use Rattle.laws.specs.Bytes.{colon, greater}
 use Rattle.laws.proofs.Unique.{alike-without}
 use Rattle.buffer.specs.Wrote.{overBy, wrote}
 use Rattle.header.specs.Text.{readHeaderText, readTextHeader}
 use Rattle.header.specs.Frame.{readFrameHeader}
 use Rattle.header.specs.Range.{frameRefusal as headerFrameRefusal}
+use Rattle.message.specs.Message.{addresseeBytes}
+use Rattle.body.specs.declared.Kind.the-variants.{Message, Status}
 use Rattle.body.specs.Range.{isExcepted}
-use Rattle.body.specs.Written.{kindRefusal}
+use Rattle.body.specs.Written.{bodyRefusal}
 use Rattle.body.proofs.Theorems.{InnerEdges}
 use Rattle.packet.specs.declared.Record.{Record}
 use Rattle.packet.specs.Record.{blankRecord, packetRefused}
@@ -23,6 +27,7 @@ use Rattle.packet.specs.Written.{writtenHeader, textBytes, frameBytes, o
 use Rattle.packet.proofs.Order.{or-or}
 use Rattle.packet.proofs.Given.{Given, after-blank, refused-first, any-text-given, text-given, frame-given}
 use Rattle.packet.proofs.Times.{TimeKept, any-text-time-kept, text-time-kept, frame-time-kept}
+use Rattle.packet.proofs.Texts.{PacketText, Starts, any-text-message, any-text-status, text-message, text-status, frame-message, frame-status, message-line-short, message-line-fits, message-frame-fits, status-line-fits, status-frame-fits}
 use Rattle.packet.proofs.Marks.{unmarkedRecord, unmarked-text-bytes, unmarked-frame-bytes, unmarked-refusal-of-text, unmarked-refusal-of-frame, unmarked-blank-record, unmarked-frame-record, LineKept, any-text-line-kept, text-line-kept}
 
 -- ---- "A refused decode returns the blank record"
@@ -50,7 +55,7 @@ text-range s = text-given s .range
 pub frame-range : (s : List ℕ) → recordInRange (readFrame s .«record») ≡ not (isExcepted (readFrame s .«record» .body))
 frame-range s = frame-given s .range
 
--- ---- a comment is a place in the input
+-- ---- a comment or a text is a place in the input
 
 pub any-text-comment-within : (s : List ℕ) → readAnyText s .«record» .body .comment .at + readAnyText s .«record» .body .comment .len ≤ length s
 any-text-comment-within s = any-text-given s .within
@@ -60,6 +65,17 @@ text-comment-within s = text-given s .within
 
 pub frame-comment-within : (s : List ℕ) → readFrame s .«record» .body .comment .at + readFrame s .«record» .body .comment .len ≤ length s
 frame-comment-within s = frame-given s .within
+
+-- ---- so is an identifier (document 02, R-5)
+
+pub any-text-identifier-within : (s : List ℕ) → readAnyText s .«record» .body .identifier .at + readAnyText s .«record» .body .identifier .len ≤ length s
+any-text-identifier-within s = any-text-given s .identifier-within
+
+pub text-identifier-within : (s : List ℕ) → readText s .«record» .body .identifier .at + readText s .«record» .body .identifier .len ≤ length s
+text-identifier-within s = text-given s .identifier-within
+
+pub frame-identifier-within : (s : List ℕ) → readFrame s .«record» .body .identifier .at + readFrame s .«record» .body .identifier .len ≤ length s
+frame-identifier-within s = frame-given s .identifier-within
 
 -- ---- document 02, R-1: "the digits we print are the inner edge" of the page's boxes
 
@@ -91,12 +107,12 @@ pub blank-has-no-mark : unmarkedRecord blankRecord ≡ blankRecord
 blank-has-no-mark = unmarked-blank-record
 
 -- "Writers ignore it": of records that differ in marks alone, answer and buffer are the same
-module _ (r r′ : Record) (e : unmarkedRecord r ≡ unmarkedRecord r′) (comment out : List ℕ) where
-  pub marks-move-no-text : wrote (textRefusal r comment) (textBytes r comment) out ≡ wrote (textRefusal r′ comment) (textBytes r′ comment) out
-  marks-move-no-text = alike-without unmarkedRecord (λ x. wrote (textRefusal x comment) (textBytes x comment) out) (λ x. rw (unmarked-refusal-of-text x comment, unmarked-text-bytes x comment)) r r′ e
+module _ (r r′ : Record) (e : unmarkedRecord r ≡ unmarkedRecord r′) (text identifier out : List ℕ) where
+  pub marks-move-no-text : wrote (textRefusal r text identifier) (textBytes r text identifier) out ≡ wrote (textRefusal r′ text identifier) (textBytes r′ text identifier) out
+  marks-move-no-text = alike-without unmarkedRecord (λ x. wrote (textRefusal x text identifier) (textBytes x text identifier) out) (λ x. rw (unmarked-refusal-of-text x text identifier, unmarked-text-bytes x text identifier)) r r′ e
 
-  pub marks-move-no-frame : wrote (frameRefusal r comment) (frameBytes r comment) out ≡ wrote (frameRefusal r′ comment) (frameBytes r′ comment) out
-  marks-move-no-frame = alike-without unmarkedRecord (λ x. wrote (frameRefusal x comment) (frameBytes x comment) out) (λ x. rw (unmarked-refusal-of-frame x comment, unmarked-frame-bytes x comment)) r r′ e
+  pub marks-move-no-frame : wrote (frameRefusal r text identifier) (frameBytes r text identifier) out ≡ wrote (frameRefusal r′ text identifier) (frameBytes r′ text identifier) out
+  marks-move-no-frame = alike-without unmarkedRecord (λ x. wrote (frameRefusal x text identifier) (frameBytes x text identifier) out) (λ x. rw (unmarked-refusal-of-frame x text identifier, unmarked-frame-bytes x text identifier)) r r′ e
 
 -- ---- document 02, R-3: "two digits each, zeros kept"
 
@@ -110,7 +126,50 @@ text-time-is-kept = text-time-kept
 pub frame-time-is-kept : (s : List ℕ) → TimeKept s (readFrameHeader s) (readFrame s .«record»)
 frame-time-is-kept = frame-time-kept
 
--- ---- which read records are not written: 15 for those two, 14 for Unknown, 1 over 512 bytes, and no other
+-- ---- document 02, R-5: messages and status lines
+
+-- where a header was read and the body behind it starts `:`, the packet is a message whose bytes from there on are its parts joined, and
+-- which is written again with its text and its identifier; or it is refused with 18
+pub any-text-message-or-18 : (s : List ℕ) → Starts colon s (readHeaderText s) → PacketText Message s (readHeaderText s) (readAnyText s)
+any-text-message-or-18 = any-text-message
+
+pub text-message-or-18 : (s : List ℕ) → Starts colon s (readTextHeader s) → PacketText Message s (readTextHeader s) (readText s)
+text-message-or-18 = text-message
+
+pub frame-message-or-18 : (s : List ℕ) → Starts colon s (readFrameHeader s) → PacketText Message s (readFrameHeader s) (readFrame s)
+frame-message-or-18 = frame-message
+
+-- where it starts `>`, the same of a status
+pub any-text-status-or-18 : (s : List ℕ) → Starts greater s (readHeaderText s) → PacketText Status s (readHeaderText s) (readAnyText s)
+any-text-status-or-18 = any-text-status
+
+pub text-status-or-18 : (s : List ℕ) → Starts greater s (readTextHeader s) → PacketText Status s (readTextHeader s) (readText s)
+text-status-or-18 = text-status
+
+pub frame-status-or-18 : (s : List ℕ) → Starts greater s (readFrameHeader s) → PacketText Status s (readFrameHeader s) (readFrame s)
+frame-status-or-18 = frame-status
+
+-- the longest line with a message has 262 bytes: 178 of header and 84 of body
+pub message-at-most-262 : (r : Record) (text identifier : List ℕ) → recordRefusal r text identifier ≡ 0 → r .body .kind ≡ Message → length (r .body .addressee) ≡ addresseeBytes
+    → length (textBytes r text identifier) ≤ 262
+message-at-most-262 = message-line-short
+
+-- so neither is ever refused with 1
+module _ (r : Record) (text identifier : List ℕ) (z : recordRefusal r text identifier ≡ 0) where
+  pub message-is-never-too-long : r .body .kind ≡ Message → length (r .body .addressee) ≡ addresseeBytes → textRefusal r text identifier ≡ 0
+  message-is-never-too-long = message-line-fits r text identifier z
+
+  pub message-frame-is-never-too-long : r .body .kind ≡ Message → length (r .body .addressee) ≡ addresseeBytes → headerFrameRefusal (writtenHeader r) ≡ 0 → frameRefusal r text identifier ≡ 0
+  message-frame-is-never-too-long = message-frame-fits r text identifier z
+
+  pub status-is-never-too-long : r .body .kind ≡ Status → textRefusal r text identifier ≡ 0
+  status-is-never-too-long = status-line-fits r text identifier z
+
+  pub status-frame-is-never-too-long : r .body .kind ≡ Status → headerFrameRefusal (writtenHeader r) ≡ 0 → frameRefusal r text identifier ≡ 0
+  status-frame-is-never-too-long = status-frame-fits r text identifier z
+
+-- ---- which read records are not written: 15 for those two, 14 for Unknown, 18 for what is handed over with a message or
+-- a status, 1 over 512 bytes, and no other
 
 given-range : {size : ℕ} {r : Record} → Given size r → rangeRefusal r ≡ cond (isExcepted (r .body)) 15 0
 unfolding rangeRefusal
@@ -121,31 +180,31 @@ given-range {size} {r} g = rw (g .range) (turned (isExcepted (r .body)))
     turned false = refl
 
 module _ {size : ℕ} {r : Record} (g : Given size r) where
-  given-refusal : (n : ℕ) → orElse (recordRefusal r) n ≡ orElse (cond (isExcepted (r .body)) 15 0) (orElse (kindRefusal (r .body .kind)) n)
+  given-refusal : (text identifier : List ℕ) (n : ℕ) → orElse (recordRefusal r text identifier) n ≡ orElse (cond (isExcepted (r .body)) 15 0) (orElse (bodyRefusal (r .body) text identifier) n)
   unfolding recordRefusal
-  given-refusal n = or-or (rangeRefusal r) (kindRefusal (r .body .kind)) n ∙ ap (λ (k : ℕ). orElse k (orElse (kindRefusal (r .body .kind)) n)) (given-range g)
+  given-refusal text identifier n = or-or (rangeRefusal r) (bodyRefusal (r .body) text identifier) n ∙ ap (λ (k : ℕ). orElse k (orElse (bodyRefusal (r .body) text identifier) n)) (given-range g)
 
-  given-text : (comment : List ℕ) → textRefusal r comment
-      ≡ orElse (cond (isExcepted (r .body)) 15 0) (orElse (kindRefusal (r .body .kind)) (overBy mostBytes (textBytes r comment)))
+  given-text : (text identifier : List ℕ) → textRefusal r text identifier
+      ≡ orElse (cond (isExcepted (r .body)) 15 0) (orElse (bodyRefusal (r .body) text identifier) (overBy mostBytes (textBytes r text identifier)))
   unfolding textRefusal
-  given-text comment = given-refusal (overBy mostBytes (textBytes r comment))
+  given-text text identifier = given-refusal text identifier (overBy mostBytes (textBytes r text identifier))
 
-pub any-text-unwritten : (s comment : List ℕ) → textRefusal (readAnyText s .«record») comment
+pub any-text-unwritten : (s text identifier : List ℕ) → textRefusal (readAnyText s .«record») text identifier
     ≡ orElse (cond (isExcepted (readAnyText s .«record» .body)) 15 0)
-    (orElse (kindRefusal (readAnyText s .«record» .body .kind)) (overBy mostBytes (textBytes (readAnyText s .«record») comment)))
+    (orElse (bodyRefusal (readAnyText s .«record» .body) text identifier) (overBy mostBytes (textBytes (readAnyText s .«record») text identifier)))
 any-text-unwritten s = given-text (any-text-given s)
 
-pub text-unwritten : (s comment : List ℕ) → textRefusal (readText s .«record») comment
+pub text-unwritten : (s text identifier : List ℕ) → textRefusal (readText s .«record») text identifier
     ≡ orElse (cond (isExcepted (readText s .«record» .body)) 15 0)
-    (orElse (kindRefusal (readText s .«record» .body .kind)) (overBy mostBytes (textBytes (readText s .«record») comment)))
+    (orElse (bodyRefusal (readText s .«record» .body) text identifier) (overBy mostBytes (textBytes (readText s .«record») text identifier)))
 text-unwritten s = given-text (text-given s)
 
 -- the same of a frame, where 13 stands before 1
-pub frame-unwritten : (s comment : List ℕ) → frameRefusal (readFrame s .«record») comment
+pub frame-unwritten : (s text identifier : List ℕ) → frameRefusal (readFrame s .«record») text identifier
     ≡ orElse (cond (isExcepted (readFrame s .«record» .body)) 15 0)
-    (orElse (kindRefusal (readFrame s .«record» .body .kind))
-    (orElse (headerFrameRefusal (writtenHeader (readFrame s .«record»))) (overBy mostBytes (frameBytes (readFrame s .«record») comment))))
+    (orElse (bodyRefusal (readFrame s .«record» .body) text identifier)
+    (orElse (headerFrameRefusal (writtenHeader (readFrame s .«record»))) (overBy mostBytes (frameBytes (readFrame s .«record») text identifier))))
 unfolding frameRefusal
-frame-unwritten s comment =
+frame-unwritten s text identifier =
     let r = readFrame s .«record» in
-    given-refusal (frame-given s) (orElse (headerFrameRefusal (writtenHeader r)) (overBy mostBytes (frameBytes r comment)))
+    given-refusal (frame-given s) text identifier (orElse (headerFrameRefusal (writtenHeader r)) (overBy mostBytes (frameBytes r text identifier)))

@@ -32,19 +32,19 @@ unique-read-text s r r′ = one-value r r′ (readText s)
 pub unique-read-frame : (s : List ℕ) (r r′ : PacketRead) → r ≡ readFrame s → r′ ≡ readFrame s → r ≡ r′
 unique-read-frame s r r′ = one-value r r′ (readFrame s)
 
-module _ (r : Record) (comment out : List ℕ) (a a′ : Answer) (o o′ : List ℕ) where
-  pub unique-write : (framed : Bool) → ends a o ≡ cond framed (wrote (frameRefusal r comment) (frameBytes r comment) out) (wrote (textRefusal r comment) (textBytes r comment) out)
-      → ends a′ o′ ≡ cond framed (wrote (frameRefusal r comment) (frameBytes r comment) out) (wrote (textRefusal r comment) (textBytes r comment) out)
+module _ (r : Record) (text identifier out : List ℕ) (a a′ : Answer) (o o′ : List ℕ) where
+  pub unique-write : (framed : Bool) → ends a o ≡ cond framed (wrote (frameRefusal r text identifier) (frameBytes r text identifier) out) (wrote (textRefusal r text identifier) (textBytes r text identifier) out)
+      → ends a′ o′ ≡ cond framed (wrote (frameRefusal r text identifier) (frameBytes r text identifier) out) (wrote (textRefusal r text identifier) (textBytes r text identifier) out)
       → (a ≡ a′) × (o ≡ o′)
   unique-write framed e e′ =
-      one-end a a′ o o′ (cond framed (wrote (frameRefusal r comment) (frameBytes r comment) out) (wrote (textRefusal r comment) (textBytes r comment) out)) e e′
+      one-end a a′ o o′ (cond framed (wrote (frameRefusal r text identifier) (frameBytes r text identifier) out) (wrote (textRefusal r text identifier) (textBytes r text identifier) out)) e e′
 
-  pub unique-write-text : ends a o ≡ wrote (textRefusal r comment) (textBytes r comment) out
-      → ends a′ o′ ≡ wrote (textRefusal r comment) (textBytes r comment) out
+  pub unique-write-text : ends a o ≡ wrote (textRefusal r text identifier) (textBytes r text identifier) out
+      → ends a′ o′ ≡ wrote (textRefusal r text identifier) (textBytes r text identifier) out
       → (a ≡ a′) × (o ≡ o′)
-  unique-write-text e e′ = one-end a a′ o o′ (wrote (textRefusal r comment) (textBytes r comment) out) e e′
+  unique-write-text e e′ = one-end a a′ o o′ (wrote (textRefusal r text identifier) (textBytes r text identifier) out) e e′
 
-  pub unique-write-frame : ends a o ≡ wrote (frameRefusal r comment) (frameBytes r comment) out
-      → ends a′ o′ ≡ wrote (frameRefusal r comment) (frameBytes r comment) out
+  pub unique-write-frame : ends a o ≡ wrote (frameRefusal r text identifier) (frameBytes r text identifier) out
+      → ends a′ o′ ≡ wrote (frameRefusal r text identifier) (frameBytes r text identifier) out
       → (a ≡ a′) × (o ≡ o′)
-  unique-write-frame e e′ = one-end a a′ o o′ (wrote (frameRefusal r comment) (frameBytes r comment) out) e e′
+  unique-write-frame e e′ = one-end a a′ o o′ (wrote (frameRefusal r text identifier) (frameBytes r text identifier) out) e e′

@@ -14,7 +14,7 @@ use Rattle.header.specs.Header.{mostBytes}
 use Rattle.header.specs.Text.{readHeaderText}
 use Rattle.header.specs.Frame.{readFrameHeader}
 use Rattle.body.specs.declared.Kind.{Kind}
-use Rattle.body.specs.declared.Kind.the-variants.{Unknown, Position, MicE}
+use Rattle.body.specs.declared.Kind.the-variants.{Unknown, Position, MicE, Message, Status}
 use Rattle.body.specs.declared.Body.{Body}
 use Rattle.body.specs.declared.BodyRead.{BodyRead}
 use Rattle.body.specs.Body.{readBody}
@@ -26,11 +26,13 @@ use Rattle.packet.specs.Record.{packetRefused}
 abbrev pub headerTo : Header → Callsign → Header
 headerTo h to = record { from = h .from; to = to; path = h .path }
 
--- "a Mic-E record has no destination"
+-- "a Mic-E record has no destination"; messages and status lines "keep their destination"
 unfoldable pub keptTo : Kind → Callsign → Callsign
 keptTo Unknown to = to
 keptTo Position to = to
 keptTo MicE to = blankCall
+keptTo Message to = to
+keptTo Status to = to
 
 -- the record of a header and a body
 unfoldable pub recordOf : Header → Body → Record

@@ -19,8 +19,8 @@ headBytes framed h = cond framed (headerFrame h) (headerText h)
 unfoldable pub headRefusal : Bool → Header → ℕ
 headRefusal framed h = cond framed (headerFrameRefusal h) (headerTextRefusal h)
 
--- that header, a body's bytes and a comment, unless the header is refused or they are over the limit
-unfoldable pub wroteBehind : Bool → Header → List ℕ → List ℕ → List ℕ → Wrote
-wroteBehind framed h body comment out =
-    let bytes = (headBytes framed h ++ body) ++ comment in
+-- that header, a body's bytes, a text and what stands behind it, unless the header is refused or they are over the limit
+unfoldable pub wroteBehind : Bool → Header → List ℕ → List ℕ → List ℕ → List ℕ → Wrote
+wroteBehind framed h body text tail out =
+    let bytes = (headBytes framed h ++ body) ++ (text ++ tail) in
     wrote (orElse (headRefusal framed h) (overBy mostBytes bytes)) bytes out

@@ -1,5 +1,6 @@
--- The bytes of a record and a comment, as a line of text and as a frame, and which refusal comes first: "Writing: 15, 14,
--- 13 (AX.25 only; destination, source, hops in order), 1, 16." (document 01, 'Numbers a refusal carries')
+-- The bytes of a record with its comment, or its text and identifier, as a line of text and as a frame, and which refusal comes first:
+-- "Writing: 15, 14, 13 (AX.25 only; destination, source, hops in order), 1, 16." (document 01, 'Numbers a refusal carries'); 18 "next
+-- after 14" (document 02, R-5).
 -- Assumes nothing.
 use Prim.Native.Nat.{ℕ, zero, suc}
 use mathlib.Core.List.{List, _++_}
@@ -9,7 +10,7 @@ use Rattle.header.specs.Header.{mostBytes}
 use Rattle.header.specs.Text.{headerText}
 use Rattle.header.specs.Frame.{headerFrame}
 use Rattle.header.specs.Range.{frameRefusal as headerFrameRefusal}
-use Rattle.body.specs.Written.{writtenTo, bodyBytes, kindRefusal}
+use Rattle.body.specs.Written.{writtenTo, bodyBytes, tailBytes, bodyRefusal}
 use Rattle.packet.specs.declared.Record.{Record}
 use Rattle.packet.specs.Range.{rangeRefusal}
 use Rattle.packet.specs.Packet.{headerTo}
@@ -20,17 +21,17 @@ use Rattle.packet.specs.Packet.{headerTo}
 unfoldable pub writtenHeader : Record → Header
 writtenHeader r = headerTo (r .header) (writtenTo (r .body) (r .header .to))
 
--- the header's bytes, the body's and the comment's
-unfoldable pub bytesOf : List ℕ → Record → List ℕ → List ℕ
-bytesOf head r comment = (head ++ bodyBytes (r .body)) ++ comment
+-- the header's bytes, the body's, the comment's or text's, and the identifier's
+unfoldable pub bytesOf : List ℕ → Record → List ℕ → List ℕ → List ℕ
+bytesOf head r text identifier = (head ++ bodyBytes (r .body)) ++ (text ++ tailBytes (r .body) identifier)
 
 -- of a line
-unfoldable pub textBytes : Record → List ℕ → List ℕ
-textBytes r comment = bytesOf (headerText (writtenHeader r)) r comment
+unfoldable pub textBytes : Record → List ℕ → List ℕ → List ℕ
+textBytes r text identifier = bytesOf (headerText (writtenHeader r)) r text identifier
 
 -- of a frame
-unfoldable pub frameBytes : Record → List ℕ → List ℕ
-frameBytes r comment = bytesOf (headerFrame (writtenHeader r)) r comment
+unfoldable pub frameBytes : Record → List ℕ → List ℕ → List ℕ
+frameBytes r text identifier = bytesOf (headerFrame (writtenHeader r)) r text identifier
 
 -- ---- the refusals
 
@@ -39,15 +40,15 @@ unfoldable pub orElse : ℕ → ℕ → ℕ
 orElse zero n = n
 orElse (suc k) n = suc k
 
--- 15, then 14
-unfoldable pub recordRefusal : Record → ℕ
-recordRefusal r = orElse (rangeRefusal r) (kindRefusal (r .body .kind))
+-- 15, then 14 or 18
+unfoldable pub recordRefusal : Record → List ℕ → List ℕ → ℕ
+recordRefusal r text identifier = orElse (rangeRefusal r) (bodyRefusal (r .body) text identifier)
 
--- 15, 14, 1
-unfoldable pub textRefusal : Record → List ℕ → ℕ
-textRefusal r comment = orElse (recordRefusal r) (overBy mostBytes (textBytes r comment))
+-- 15, 14, 18, 1
+unfoldable pub textRefusal : Record → List ℕ → List ℕ → ℕ
+textRefusal r text identifier = orElse (recordRefusal r text identifier) (overBy mostBytes (textBytes r text identifier))
 
 -- a header in range that cannot go into AX.25 is 13
-unfoldable pub frameRefusal : Record → List ℕ → ℕ
-frameRefusal r comment =
-    orElse (recordRefusal r) (orElse (headerFrameRefusal (writtenHeader r)) (overBy mostBytes (frameBytes r comment)))
+unfoldable pub frameRefusal : Record → List ℕ → List ℕ → ℕ
+frameRefusal r text identifier =
+    orElse (recordRefusal r text identifier) (orElse (headerFrameRefusal (writtenHeader r)) (overBy mostBytes (frameBytes r text identifier)))

@@ -2,7 +2,7 @@
 ghost use mathlib.Core.Path.{_≡_};
 ghost use mathlib.Core.Bool.{cond};
 ghost use Prim.Native.Nat.{_≤_};
-ghost use lib.ListN.{take};
+ghost use lib.ListN.{length};
 ghost use Rattle.header.specs.Text.{readTextHeader};
 ghost use Rattle.header.specs.Frame.{readFrameHeader};
 ghost use Rattle.header.specs.Range.{textRefusal as headerTextRefusal};
@@ -12,7 +12,6 @@ ghost use Rattle.packet.specs.Packet.{headerTo, keptTo, recordOf, packet
 ghost use Rattle.packet.specs.Written.{textBytes, frameBytes, orElse, textRefusal, frameRefusal};
 ghost use Rattle.packet.specs.Private.{headBytes, headRefusal, wroteBehind};
 use body::Body;
-use body::BodyWritten;
 use body::Kind;
 use callsign::Callsign;
 use header::Header;
@@ -68,6 +67,8 @@ fn kept_to(kind: Kind, to: Callsign) -> Callsign
         Kind::Unknown => to,
         Kind::Position => to,
         Kind::MicE => callsign::blank(),
+        Kind::Message => to,
+        Kind::Status => to,
     }
 }
 
@@ -155,53 +156,63 @@ fn refused_beside(h: Header, n: u8) -> buffer::Answer
     buffer::refused(n)
 }
 
-// Writes a header, at most 178 bytes, the body that was written, at most 27, and a comment.
+// Writes a header, at most 178 bytes, the body up to its text, at most 27, the text, and what stands behind it.
 fn write_behind(
     h: Header,
-    b: BodyWritten,
     framed: bool,
-    comment: &[u8],
+    body: &[u8],
+    text: &[u8],
+    tail: &[u8],
     out: &mut [u8],
 ) -> buffer::Answer
-    requires { ⌜ b .len ≤ 27 ⌝ }
-    ensures { λ a. ⌜ ends a (now (out .exit)) ≡ wroteBehind framed h (take (b .len) (b .bytes)) (now (comment .entry)) (now (out .entry)) ⌝ }
+    requires { ⌜ length (now body) ≤ 27 ⌝ }
+    ensures { λ a. ⌜ ends a (now (out .exit)) ≡ wroteBehind framed h (now (body .entry)) (now (text .entry)) (now (tail .entry)) (now (out .entry)) ⌝ }
 {
     let mut bytes = [0u8; 205];
     let w = write_header(h, framed, &mut bytes);
     if w.refusal != 0 {
         return buffer::refused(w.refusal);
     }
-    let fixed = b.bytes;
-    let n = b.len;
-    let m = buffer::put(&fixed[..n], &mut bytes, w.reported);
-    buffer::write_two(MOST, &bytes[..m], comment, out)
+    let m = buffer::put(body, &mut bytes, w.reported);
+    buffer::write_three(MOST, &bytes[..m], text, tail, out)
 }
 
-// Writes a record and a comment as an AX.25 frame where framed, else as a line of text; refused with 15, 14, 13 (a frame alone),
-// 1 or 16. The record's comment is ignored.
-pub fn write(r: Record, framed: bool, comment: &[u8], out: &mut [u8]) -> buffer::Answer
-    ensures { λ a. ⌜ ends a (now (out .exit)) ≡ cond framed (wrote (frameRefusal r (now (comment .entry))) (frameBytes r (now (comment .entry))) (now (out .entry))) (wrote (textRefusal r (now (comment .entry))) (textBytes r (now (comment .entry))) (now (out .entry))) ⌝ }
+// Writes a record with its comment, or its text and identifier, as an AX.25 frame where framed, else as a line of text; refused with 15,
+// 14, 18, 13 (a frame alone), 1 or 16. Where the record says that they stood is ignored. Only a message takes the identifier; an empty
+// one is none.
+pub fn write(
+    r: Record,
+    framed: bool,
+    text: &[u8],
+    identifier: &[u8],
+    out: &mut [u8],
+) -> buffer::Answer
+    ensures { λ a. ⌜ ends a (now (out .exit)) ≡ cond framed (wrote (frameRefusal r (now (text .entry)) (now (identifier .entry))) (frameBytes r (now (text .entry)) (now (identifier .entry))) (now (out .entry))) (wrote (textRefusal r (now (text .entry)) (now (identifier .entry))) (textBytes r (now (text .entry)) (now (identifier .entry))) (now (out .entry))) ⌝ }
 {
-    let b = body::write(r.body, r.header.to);
+    let b = body::write(r.body, r.header.to, text, identifier);
     let mut header = r.header;
     let to = b.to;
     header.to = to;
     if b.refusal != 0 {
         return refused_beside(header, b.refusal);
     }
-    write_behind(header, b, framed, comment, out)
+    let bytes = b.bytes;
+    let n = b.len;
+    let tail = b.tail;
+    let k = b.tail_len;
+    write_behind(header, framed, &bytes[..n], text, &tail[..k], out)
 }
 
-// Writes a record and a comment as a line of text; refused with 15, 14, 1 or 16.
-pub fn write_text(r: Record, comment: &[u8], out: &mut [u8]) -> buffer::Answer
-    ensures { λ a. ⌜ ends a (now (out .exit)) ≡ wrote (textRefusal r (now (comment .entry))) (textBytes r (now (comment .entry))) (now (out .entry)) ⌝ }
+// Writes a record as a line of text; refused with 15, 14, 18, 1 or 16.
+pub fn write_text(r: Record, text: &[u8], identifier: &[u8], out: &mut [u8]) -> buffer::Answer
+    ensures { λ a. ⌜ ends a (now (out .exit)) ≡ wrote (textRefusal r (now (text .entry)) (now (identifier .entry))) (textBytes r (now (text .entry)) (now (identifier .entry))) (now (out .entry)) ⌝ }
 {
-    write(r, false, comment, out)
+    write(r, false, text, identifier, out)
 }
 
-// Writes a record and a comment as an AX.25 frame; refused with 15, 14, 13, 1 or 16.
-pub fn write_frame(r: Record, comment: &[u8], out: &mut [u8]) -> buffer::Answer
-    ensures { λ a. ⌜ ends a (now (out .exit)) ≡ wrote (frameRefusal r (now (comment .entry))) (frameBytes r (now (comment .entry))) (now (out .entry)) ⌝ }
+// Writes a record as an AX.25 frame; refused with 15, 14, 18, 13, 1 or 16.
+pub fn write_frame(r: Record, text: &[u8], identifier: &[u8], out: &mut [u8]) -> buffer::Answer
+    ensures { λ a. ⌜ ends a (now (out .exit)) ≡ wrote (frameRefusal r (now (text .entry)) (now (identifier .entry))) (frameBytes r (now (text .entry)) (now (identifier .entry))) (now (out .entry)) ⌝ }
 {
-    write(r, true, comment, out)
+    write(r, true, text, identifier, out)
 }

@@ -2,10 +2,16 @@
 -- Assumes nothing.
 use mathlib.Core.Path.{_≡_}
 use mathlib.Core.Bool.{Bool, false}
+use mathlib.Core.List.{List}
 use Prim.Native.Nat.{ℕ, _<_, _≤_}
-use borrow.Author.Tests.{le-leb, lt-leb}
+use native.Mathlib.Omega.{arith}
+use borrow.Author.Tests.{eq-eqb, ne-eqb, le-leb, lt-leb}
 use lib.IntN.{ℤ, pos}
-use lib.ListN.{replicate}
+use lib.ListN.{length, replicate}
+use Rattle.laws.proofs.Lists.{elements, elements-all}
+use Rattle.buffer.specs.declared.Answer.{Answer}
+use Rattle.buffer.specs.Wrote.{Wrote, ends, refusedBy, wrote}
+use Rattle.buffer.proofs.Wrote.{passed-on}
 use Rattle.callsign.specs.declared.Callsign.{Callsign}
 use Rattle.callsign.specs.declared.AddressWritten.{AddressWritten}
 use Rattle.callsign.specs.declared.Field.{Field}
@@ -33,8 +39,12 @@ use Rattle.mic_e.specs.declared.InformationRead.the-variants as information
 use Rattle.mic_e.specs.Message.{messageNumber, messageAt, mostMessage}
 use Rattle.mic_e.specs.Destination.{destinationNumber, writeDestination}
 use Rattle.mic_e.specs.Information.{informationNumber}
+use Rattle.message.specs.declared.StatusRead.{StatusRead}
+use Rattle.message.specs.declared.StatusRead.the-variants as status
+use Rattle.message.specs.Message.{addresseeBytes, messageRefusal, messageText}
+use Rattle.message.specs.Status.{statusNumber}
 use Rattle.parts.specs.declared.CLongitudeRead.{CLongitudeRead}
-use Rattle.parts.specs.Parts.{fieldAt, mostField, addressFor, latitudeInC, noLongitude, longitudeInC, timeInC, destinationInC, destinationFor, informationInC}
+use Rattle.parts.specs.Parts.{fieldAt, mostField, addressFor, latitudeInC, noLongitude, longitudeInC, timeInC, destinationInC, destinationFor, informationInC, messageRefusalFor, statusInC}
 
 -- ---- callsigns and addresses
 
@@ -150,3 +160,29 @@ module _ (q a : InformationRead) (e : q ≡ a) where
       ≡ informationInC a
   unfolding informationInC informationNumber
   information-refused f = rw (← e, f)
+
+-- ---- messages and status lines
+
+pub nine-bytes : (s : List ℕ) → length s ≡ addresseeBytes → elements 0 s 0 addresseeBytes ≡ s
+nine-bytes s h = elements-all 0 s addresseeBytes h
+
+module _ (addressee text identifier out : List ℕ) where
+  pub not-nine : (a : Answer) → (length addressee ≡ addresseeBytes → ⊥) → a ≡ refusedBy 18
+      → ends a out ≡ wrote (messageRefusalFor addressee text identifier) (messageText addressee text identifier) out
+  unfolding messageRefusalFor
+  not-nine a n e = passed-on a 18 (messageRefusalFor addressee text identifier) (messageText addressee text identifier) out e (λ z. omega arith) (rw (ne-eqb (length addressee) addresseeBytes n))
+
+  pub to-nine : (nine : List ℕ) (w : Wrote) → length addressee ≡ addresseeBytes → nine ≡ addressee
+      → w ≡ wrote (messageRefusal text identifier) (messageText nine text identifier) out
+      → w ≡ wrote (messageRefusalFor addressee text identifier) (messageText addressee text identifier) out
+  unfolding messageRefusalFor
+  to-nine nine w h e q = rw (eq-eqb (length addressee) addresseeBytes h, ← e) q
+
+module _ (q a : StatusRead) (e : q ≡ a) where
+  pub status-read : (t : Time) → q ≡ status.Read t → record { time = t; refusal = 0 } ≡ statusInC a
+  unfolding statusInC statusNumber
+  status-read t f = rw (← e, f)
+
+  pub status-refused : (t : Time) → q ≡ status.Refused → t ≡ noTime → record { time = t; refusal = 18 } ≡ statusInC a
+  unfolding statusInC statusNumber
+  status-refused t f z = rw (← e, f, z)

@@ -27,12 +27,16 @@ use Rattle.mic_e.specs.declared.Information.{Information}
 use Rattle.mic_e.specs.declared.DestinationWritten.{DestinationWritten}
 use Rattle.mic_e.specs.Destination.{readDestination}
 use Rattle.mic_e.specs.Information.{readInformation, informationRefusal, informationBytes}
+use Rattle.message.specs.declared.MessageRead.{MessageRead}
+use Rattle.message.specs.Message.{readMessage, messageText}
+use Rattle.message.specs.Status.{readStatus, statusRefusal, statusText}
 use Rattle.parts.specs.declared.CLatitudeRead.{CLatitudeRead}
 use Rattle.parts.specs.declared.CLongitudeRead.{CLongitudeRead}
 use Rattle.parts.specs.declared.CTimeRead.{CTimeRead}
 use Rattle.parts.specs.declared.CDestinationRead.{CDestinationRead}
 use Rattle.parts.specs.declared.CInformationRead.{CInformationRead}
-use Rattle.parts.specs.Parts.{addressFor, latitudeInC, longitudeInC, timeInC, destinationInC, destinationFor, informationInC}
+use Rattle.parts.specs.declared.CStatusRead.{CStatusRead}
+use Rattle.parts.specs.Parts.{addressFor, latitudeInC, longitudeInC, timeInC, destinationInC, destinationFor, informationInC, messageRefusalFor, statusInC}
 
 module _ (s : List ℕ) where
   pub unique-tusselgro-read-callsign : (r r′ : CallRead) → r ≡ readText s → r′ ≡ readText s → r ≡ r′
@@ -59,6 +63,12 @@ module _ (s : List ℕ) where
   pub unique-tusselgro-read-information : (hundred west : Bool) → (r r′ : CInformationRead) → r ≡ informationInC (readInformation s hundred west) → r′ ≡ informationInC (readInformation s hundred west) → r ≡ r′
   unique-tusselgro-read-information hundred west r r′ = one-value r r′ (informationInC (readInformation s hundred west))
 
+  pub unique-tusselgro-read-message : (r r′ : MessageRead) → r ≡ readMessage s → r′ ≡ readMessage s → r ≡ r′
+  unique-tusselgro-read-message r r′ = one-value r r′ (readMessage s)
+
+  pub unique-tusselgro-read-status : (r r′ : CStatusRead) → r ≡ statusInC (readStatus s) → r′ ≡ statusInC (readStatus s) → r ≡ r′
+  unique-tusselgro-read-status r r′ = one-value r r′ (statusInC (readStatus s))
+
 module _ (out : List ℕ) (a a′ : Answer) (o o′ : List ℕ) where
   pub unique-tusselgro-write-callsign : (call : Callsign) (starred : Bool) → ends a o ≡ wrote (rangeRefusal call) (withStar (textOf call) starred) out → ends a′ o′ ≡ wrote (rangeRefusal call) (withStar (textOf call) starred) out → (a ≡ a′) × (o ≡ o′)
   unique-tusselgro-write-callsign call starred = one-end a a′ o o′ (wrote (rangeRefusal call) (withStar (textOf call) starred) out)
@@ -77,6 +87,14 @@ module _ (out : List ℕ) (a a′ : Answer) (o o′ : List ℕ) where
 
   pub unique-tusselgro-write-information : (information : Information) → ends a o ≡ wrote (informationRefusal information) (informationBytes information) out → ends a′ o′ ≡ wrote (informationRefusal information) (informationBytes information) out → (a ≡ a′) × (o ≡ o′)
   unique-tusselgro-write-information information = one-end a a′ o o′ (wrote (informationRefusal information) (informationBytes information) out)
+
+  pub unique-tusselgro-write-message : (addressee text identifier : List ℕ) → ends a o ≡ wrote (messageRefusalFor addressee text identifier) (messageText addressee text identifier) out
+      → ends a′ o′ ≡ wrote (messageRefusalFor addressee text identifier) (messageText addressee text identifier) out
+      → (a ≡ a′) × (o ≡ o′)
+  unique-tusselgro-write-message addressee text identifier = one-end a a′ o o′ (wrote (messageRefusalFor addressee text identifier) (messageText addressee text identifier) out)
+
+  pub unique-tusselgro-write-status : (time : Time) (text : List ℕ) → ends a o ≡ wrote (statusRefusal time text) (statusText time text) out → ends a′ o′ ≡ wrote (statusRefusal time text) (statusText time text) out → (a ≡ a′) × (o ≡ o′)
+  unique-tusselgro-write-status time text = one-end a a′ o o′ (wrote (statusRefusal time text) (statusText time text) out)
 
 pub unique-tusselgro-write-address : (call : Callsign) (field : ℕ) (last : Bool) (r r′ : AddressWritten) → r ≡ addressFor call field last → r′ ≡ addressFor call field last → r ≡ r′
 unique-tusselgro-write-address call field last r r′ = one-value r r′ (addressFor call field last)

@@ -3,9 +3,10 @@
 -- Assumes nothing.
 use Prim.Native.Nat.{ℕ}
 use mathlib.Core.Bool.{Bool, false, cond}
+use mathlib.Core.List.{List}
 use lib.Dec.{eqb, leb}
 use lib.IntN.{ℤ, pos}
-use lib.ListN.{replicate}
+use lib.ListN.{length, replicate}
 use Rattle.callsign.specs.declared.Callsign.{Callsign}
 use Rattle.callsign.specs.declared.AddressWritten.{AddressWritten}
 use Rattle.callsign.specs.declared.Field.{Field}
@@ -28,11 +29,16 @@ use Rattle.mic_e.specs.declared.InformationRead.the-variants as information
 use Rattle.mic_e.specs.Message.{messageNumber, messageAt, mostMessage}
 use Rattle.mic_e.specs.Destination.{destinationNumber, writeDestination}
 use Rattle.mic_e.specs.Information.{informationNumber}
+use Rattle.message.specs.declared.StatusRead.{StatusRead}
+use Rattle.message.specs.declared.StatusRead.the-variants as status
+use Rattle.message.specs.Message.{addresseeBytes, messageRefusal}
+use Rattle.message.specs.Status.{statusNumber}
 use Rattle.parts.specs.declared.CLatitudeRead.{CLatitudeRead}
 use Rattle.parts.specs.declared.CLongitudeRead.{CLongitudeRead}
 use Rattle.parts.specs.declared.CTimeRead.{CTimeRead}
 use Rattle.parts.specs.declared.CDestinationRead.{CDestinationRead}
 use Rattle.parts.specs.declared.CInformationRead.{CInformationRead}
+use Rattle.parts.specs.declared.CStatusRead.{CStatusRead}
 
 -- ---- callsigns and addresses
 
@@ -123,3 +129,14 @@ informationInC information.Refused =
       };
       refusal = informationNumber information.Refused;
     }
+
+-- ---- messages and status lines
+
+-- 18 for an addressee that has not "nine addressee characters", and for a text or an identifier that no message has
+unfoldable pub messageRefusalFor : List ℕ → List ℕ → List ℕ → ℕ
+messageRefusalFor addressee text identifier = cond (eqb (length addressee) addresseeBytes) (messageRefusal text identifier) 18
+
+-- the time of a status, or none
+unfoldable pub statusInC : StatusRead → CStatusRead
+statusInC (status.Read t) = record { time = t; refusal = statusNumber (status.Read t) }
+statusInC status.Refused = record { time = noTime; refusal = statusNumber status.Refused }

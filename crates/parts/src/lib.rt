@@ -1,7 +1,8 @@
 // The way in for C and Rust to the parts of a packet, for a plug-in that moves over one by one: callsigns, addresses, angles, times,
-// positions and Mic-E fields read and written, as functions of the C ABI. It is a library of its own, since what two functions
-// share is compiled less well into each. No function asks more of its caller than its C type says.
+// positions, Mic-E fields, messages and status lines read and written, as functions of the C ABI. It is a library of its own, since
+// what two functions share is compiled less well into each. No function asks more of its caller than its C type says.
 ghost use mathlib.Core.Path.{_≡_};
+ghost use lib.ListN.{length};
 ghost use Rattle.buffer.specs.Wrote.{ends, wrote};
 ghost use Rattle.callsign.specs.Text.{readText};
 ghost use Rattle.callsign.specs.Range.{rangeRefusal, textOf, withStar};
@@ -12,7 +13,9 @@ ghost use Rattle.time.specs.Time.{readTime, timeRefusal, timeText};
 ghost use Rattle.position.specs.Position.{readPosition, positionRefusal, positionText};
 ghost use Rattle.mic_e.specs.Destination.{readDestination};
 ghost use Rattle.mic_e.specs.Information.{readInformation, informationRefusal, informationBytes};
-ghost use Rattle.parts.specs.Parts.{fieldAt, addressFor, latitudeInC, noLongitude, longitudeInC, timeInC, destinationInC, destinationFor, informationInC};
+ghost use Rattle.message.specs.Message.{addresseeBytes, readMessage, messageText};
+ghost use Rattle.message.specs.Status.{readStatus, statusRefusal, statusText};
+ghost use Rattle.parts.specs.Parts.{fieldAt, addressFor, latitudeInC, noLongitude, longitudeInC, timeInC, destinationInC, destinationFor, informationInC, messageRefusalFor, statusInC};
 use callsign::AddressRead;
 use callsign::AddressWritten;
 use callsign::CallRead;
@@ -22,6 +25,8 @@ use lonlat::Latitude;
 use lonlat::LatitudeRead;
 use lonlat::Longitude;
 use lonlat::LongitudeRead;
+use message::MessageRead;
+use message::StatusRead;
 use mic_e::Course;
 use mic_e::DestinationRead;
 use mic_e::DestinationWritten;
@@ -353,4 +358,67 @@ pub extern "C" fn tusselgro_write_information(
     ensures { λ r. ⌜ ends r (now (out .exit)) ≡ wrote (informationRefusal information) (informationBytes information) (now (out .entry)) ⌝ }
 {
     mic_e::write_information(information, out)
+}
+
+// ---- messages and status lines
+
+// Reads a message from the byte behind its type byte on; refused with 18.
+#[no_mangle]
+pub extern "C" fn tusselgro_read_message(bytes: &[u8]) -> MessageRead
+    ensures { λ r. ⌜ r ≡ readMessage (now (bytes .entry)) ⌝ }
+{
+    message::read_message(bytes)
+}
+
+// The bytes of an addressee as an array, which no function of the C ABI can take.
+fn nine(s: &[u8]) -> [u8; 9]
+    requires { ⌜ length (now s) ≡ addresseeBytes ⌝ }
+    ensures { λ r. ⌜ r ≡ now (s .entry) ⌝ }
+{
+    [s[0], s[1], s[2], s[3], s[4], s[5], s[6], s[7], s[8]]
+}
+
+// Writes a message, from the byte behind its type byte on; refused with 18, also for an addressee that has not nine bytes, or 16.
+#[no_mangle]
+pub extern "C" fn tusselgro_write_message(
+    addressee: &[u8],
+    text: &[u8],
+    identifier: &[u8],
+    out: &mut [u8],
+) -> buffer::Answer
+    ensures { λ r. ⌜ ends r (now (out .exit)) ≡ wrote (messageRefusalFor (now (addressee .entry)) (now (text .entry)) (now (identifier .entry))) (messageText (now (addressee .entry)) (now (text .entry)) (now (identifier .entry))) (now (out .entry)) ⌝ }
+{
+    if addressee.len() != 9 {
+        return buffer::refused(18);
+    }
+    message::write_message(nine(addressee), text, identifier, out)
+}
+
+// What reading a status gives: 0 and its time, or none; or the refusal's number and zeros.
+#[repr(C)]
+pub struct CStatusRead {
+    pub time: Time,
+    pub refusal: u8,
+}
+
+// Reads a status from the byte behind its type byte on; its text is what follows the time. Refused with 18.
+#[no_mangle]
+pub extern "C" fn tusselgro_read_status(bytes: &[u8]) -> CStatusRead
+    ensures { λ r. ⌜ r ≡ statusInC (readStatus (now (bytes .entry))) ⌝ }
+{
+    match message::read_status(bytes) {
+        StatusRead::Read(time) => CStatusRead { time, refusal: 0 },
+        StatusRead::Refused => {
+            let time = time::blank();
+            CStatusRead { time, refusal: 18 }
+        }
+    }
+}
+
+// Writes a status, from the byte behind its type byte on; refused with 15, 18 or 16.
+#[no_mangle]
+pub extern "C" fn tusselgro_write_status(time: Time, text: &[u8], out: &mut [u8]) -> buffer::Answer
+    ensures { λ r. ⌜ ends r (now (out .exit)) ≡ wrote (statusRefusal time (now (text .entry))) (statusText time (now (text .entry))) (now (out .entry)) ⌝ }
+{
+    message::write_status(time, text, out)
 }

@@ -1,6 +1,4 @@
 // Request W: a record made by hand, written as a line or a frame.
-use body::Body;
-use header::Header;
 use numbers::Count;
 use packet::Record;
 use words::Bytes;
@@ -9,27 +7,28 @@ fn write_into(
     r: Record,
     framed: bool,
     comment: &[u8],
+    identifier: &[u8],
     buffer: &mut [u8],
     room: usize,
 ) -> buffer::Answer {
     if buffer.len() < room {
         return buffer::no_room(room);
     }
-    packet::write(r, framed, comment, &mut buffer[..room])
+    packet::write(r, framed, comment, identifier, &mut buffer[..room])
 }
 
-// A record of two parts, written.
+// A record written with what is handed over with it.
 fn written(
-    header: Header,
-    body: Body,
+    r: Record,
     framed: bool,
     room: usize,
     comment: &[u8],
+    identifier: &[u8],
     out: &mut [u8],
     at: usize,
 ) -> usize {
     let mut buffer = [0xaau8; 600];
-    let w = write_into(Record { header, body }, framed, comment, &mut buffer, room);
+    let w = write_into(r, framed, comment, identifier, &mut buffer, room);
     words::whole(w, lines::cut(&buffer, room), out, at)
 }
 
@@ -40,7 +39,15 @@ fn unwritten(room: usize, out: &mut [u8], at: usize) -> usize {
 }
 
 // The words of the record
-fn made(framed: bool, room: usize, comment: &[u8], s: &[u8], out: &mut [u8], at: usize) -> usize {
+fn made(
+    framed: bool,
+    room: usize,
+    comment: &[u8],
+    identifier: &[u8],
+    s: &[u8],
+    out: &mut [u8],
+    at: usize,
+) -> usize {
     let told = ask::body_word(s);
     if !told.good {
         return at;
@@ -52,28 +59,45 @@ fn made(framed: bool, room: usize, comment: &[u8], s: &[u8], out: &mut [u8], at:
     if !told.held {
         return unwritten(room, out, at);
     }
-    written(named.header, told.body, framed, room, comment, out, at)
+    let header = named.header;
+    let body = told.body;
+    written(
+        Record { header, body },
+        framed,
+        room,
+        comment,
+        identifier,
+        out,
+        at,
+    )
 }
 
-// `COMMENT` and what follows
-fn commented(framed: bool, room: usize, s: &[u8], out: &mut [u8], at: usize) -> usize {
+// What is handed over with the record, `COMMENT` before its words and `[id=HEX]` behind them
+fn handed_over(framed: bool, room: usize, s: &[u8], out: &mut [u8], at: usize) -> usize {
     let mut comment = [0u8; 2048];
     let read = words::hex(lines::first(s), &mut comment);
     let Bytes::Are(n) = read else {
+        return at;
+    };
+    let s = lines::rest(s);
+    let mut identifier = [0u8; 2048];
+    let read = ask::identifier_word(s, &mut identifier);
+    let Bytes::Are(k) = read else {
         return at;
     };
     made(
         framed,
         room,
         lines::cut(&comment, n),
-        lines::rest(s),
+        lines::cut(&identifier, k),
+        s,
         out,
         at,
     )
 }
 
 // `W WHERE ROOM COMMENT KIND FLAG FROM TO HOPS LAT LON BLANKS TABLE CODE MESSAGE SPEED COURSE`, and `[letters=XY] [zeros=BITS]
-// [time=TIME]`
+// [time=TIME] [addressee=HEX] [id=HEX]`
 pub fn answer(s: &[u8], out: &mut [u8], at: usize) -> usize {
     let form = words::either(lines::first(s), b"text", b"frame");
     if 1 < form {
@@ -84,5 +108,5 @@ pub fn answer(s: &[u8], out: &mut [u8], at: usize) -> usize {
     let Count::Is(room) = read else {
         return at;
     };
-    commented(form == 1, room as usize, lines::rest(s), out, at)
+    handed_over(form == 1, room as usize, lines::rest(s), out, at)
 }

@@ -22,10 +22,9 @@ use Rattle.callsign.specs.Range.{textLen}
 use Rattle.position.specs.declared.Place.{Place}
 use Rattle.header.specs.declared.Path.{Path}
 use Rattle.body.specs.declared.Kind.{Kind}
-use Rattle.body.specs.declared.Kind.the-variants.{Unknown, Position, MicE}
 use Rattle.packet.specs.declared.Record.{Record}
 use Rattle.packet.specs.declared.PacketRead.{PacketRead}
-use Rattle.row.specs.Row.{orPoint, callField, toField, heardAmong, heardHops, angleFields, placeFields, recordFields, refusedFields, rowFields, spaced, rowOf, widthOf}
+use Rattle.row.specs.Row.{absent, orPoint, callField, toField, heardAmong, heardHops, angleFields, absentAngles, placeFields, recordFields, refusedFields, rowFields, spaced, rowOf, widthOf}
 
 -- ---- fields with a byte behind each
 
@@ -63,31 +62,20 @@ angles-width p y z d e h k =
     let w : length (decimal (p .longitude .0)) ≤ 11 = rw (← e) k in
     omega arith
 
-module _ (kind : Kind) (p : Place) where
-  pub no-place-width : kind ≡ Unknown → widthOf (placeFields kind p) ≤ 24
-  unfolding placeFields widthOf
-  no-place-width e = rw e (omega arith)
+pub absent-width : widthOf absentAngles ≤ 24
+unfolding absentAngles widthOf
+absent-width = omega arith
 
-  pub position-width : kind ≡ Position → widthOf (angleFields p) ≤ 24 → widthOf (placeFields kind p) ≤ 24
-  unfolding placeFields
-  position-width e h = rw e h
+pub no-to-width : length absent ≤ 16
+no-to-width = omega arith
 
-  pub mic-e-width : kind ≡ MicE → widthOf (angleFields p) ≤ 24 → widthOf (placeFields kind p) ≤ 24
-  unfolding placeFields
-  mic-e-width e h = rw e h
+-- by the kind; k is what it is
+module _ (kind k : Kind) (is : kind ≡ k) where
+  pub place-width : (p : Place) → widthOf (placeFields k p) ≤ 24 → widthOf (placeFields kind p) ≤ 24
+  place-width p h = rw is h
 
-module _ (kind : Kind) (to : Callsign) where
-  pub to-width-unknown : kind ≡ Unknown → length (callField to) ≤ 16 → length (toField kind to) ≤ 16
-  unfolding toField
-  to-width-unknown e h = rw e h
-
-  pub to-width-position : kind ≡ Position → length (callField to) ≤ 16 → length (toField kind to) ≤ 16
-  unfolding toField
-  to-width-position e h = rw e h
-
-  pub to-width-none : kind ≡ MicE → length (toField kind to) ≤ 16
-  unfolding toField
-  to-width-none e = rw e (omega arith)
+  pub to-width : (to : Callsign) → length (toField k to) ≤ 16 → length (toField kind to) ≤ 16
+  to-width to h = rw is h
 
 -- ---- the row
 

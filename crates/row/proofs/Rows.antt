@@ -19,12 +19,12 @@ use Rattle.callsign.specs.declared.Callsign.{Callsign}
 use Rattle.position.specs.declared.Place.{Place}
 use Rattle.header.specs.declared.Path.{Path}
 use Rattle.body.specs.declared.Kind.{Kind}
-use Rattle.body.specs.declared.Kind.the-variants.{Unknown, Position, MicE}
+use Rattle.body.specs.declared.Kind.the-variants.{Unknown, Position, MicE, Message, Status}
 use Rattle.packet.specs.declared.Record.{Record}
 use Rattle.packet.specs.declared.PacketRead.{PacketRead}
 use Rattle.packet.specs.Packet.{readText}
 use Rattle.row.proofs.Fits.{row-fits}
-use Rattle.row.specs.Row.{callField, toField, heardAmong, heardHops, angleFields, placeFields, recordFields, refusedFields, rowFields, spaced, rowOf, row}
+use Rattle.row.specs.Row.{callField, toField, heardAmong, heardHops, angleFields, absentAngles, placeFields, recordFields, refusedFields, rowFields, spaced, rowOf, row}
 
 -- ---- one field
 
@@ -36,18 +36,9 @@ same-field f g field other after e p = p ∙ ap (λ (l : List ℕ). addedAll f (
 pub number-put : (f g h : Filled) (z : ℤ) (after : ℕ) → SFits w32 z → g ≡ added f (decimal (toZ w32 (ofZ w32 z))) → h ≡ added g (after ∷ []) → h ≡ addedAll f (decimal z ∷ (after ∷ []) ∷ [])
 number-put f g h z after s e k = two-added f g h (decimal z) (after ∷ []) (e ∙ ap (λ (y : ℤ). added f (decimal y)) (back z s)) k
 
-module _ (kind : Kind) (to : Callsign) where
-  pub to-unknown : kind ≡ Unknown → callField to ≡ toField kind to
-  unfolding toField
-  to-unknown e = rw e
-
-  pub to-position : kind ≡ Position → callField to ≡ toField kind to
-  unfolding toField
-  to-position e = rw e
-
-  pub to-none : kind ≡ MicE → dash ∷ [] ≡ toField kind to
-  unfolding toField
-  to-none e = rw e
+-- the destination by the kind; k is what it is
+pub to-put : (kind k : Kind) (to : Callsign) (f g : Filled) (after : ℕ) → kind ≡ k → g ≡ addedAll f (toField k to ∷ (after ∷ []) ∷ []) → g ≡ addedAll f (toField kind to ∷ (after ∷ []) ∷ [])
+to-put kind k to f g after is p = rw is p
 
 -- ---- several
 
@@ -71,25 +62,18 @@ angles-put f g h place y z d e p q =
     (ap (λ (u : ℤ). decimal u ∷ (space ∷ []) ∷ decimal z ∷ (lineFeed ∷ []) ∷ []) d
     ∙ ap (λ (u : ℤ). decimal (place .latitude .0) ∷ (space ∷ []) ∷ decimal u ∷ (lineFeed ∷ []) ∷ []) e) p q
 
-module _ (f g : Filled) (kind : Kind) (place : Place) where
-  pub place-unknown : kind ≡ Unknown → g ≡ addedAll f ((dash ∷ space ∷ dash ∷ []) ∷ (lineFeed ∷ []) ∷ []) → g ≡ addedAll f (spaced (placeFields kind place))
-  unfolding spaced placeFields
-  place-unknown e p = rw e p
-
-  pub place-position : kind ≡ Position → g ≡ addedAll f (spaced (angleFields place)) → g ≡ addedAll f (spaced (placeFields kind place))
-  unfolding placeFields
-  place-position e p = rw e p
-
-  pub place-mic-e : kind ≡ MicE → g ≡ addedAll f (spaced (angleFields place)) → g ≡ addedAll f (spaced (placeFields kind place))
-  unfolding placeFields
-  place-mic-e e p = rw e p
+-- the place by the kind; k is what it is
+pub place-put : (kind k : Kind) (place : Place) (f g : Filled) → kind ≡ k → g ≡ addedAll f (spaced (placeFields k place)) → g ≡ addedAll f (spaced (placeFields kind place))
+place-put kind k place f g is p = rw is p
 
 -- a field and a space in front of others
 before-place : (kind : Kind) (place : Place) (field : List ℕ) → field ∷ (space ∷ []) ∷ spaced (placeFields kind place) ≡ spaced (field ∷ placeFields kind place)
-unfolding spaced placeFields angleFields
+unfolding spaced placeFields angleFields absentAngles
 before-place Unknown place field = refl
 before-place Position place field = refl
 before-place MicE place field = refl
+before-place Message place field = refl
+before-place Status place field = refl
 
 pub record-put : (r : Record) (f g h k l : Filled)
     → g ≡ addedAll f (callField (r .header .from) ∷ (space ∷ []) ∷ [])

@@ -1,6 +1,7 @@
 -- The row of the listing for a line (document 01, 'Values for the bench'): "Output: line, answer, source, destination, hops,
 -- heard hops, latitude, longitude." "`-` is absent; an accepted empty callsign prints `.`." A refused line has no hops; a
--- Mic-E record has no destination; the Unknown kind has no place.
+-- Mic-E record has no destination. Document 02, R-5: line 2 "then answers `2 0 N0CALL APRS 0 0 - -`": a message and a status line
+-- keep their destination and have no place, as the Unknown kind.
 -- Assumes nothing.
 use Prim.Native.Nat.{ℕ, zero, suc, _+_}
 use mathlib.Core.Bool.{cond}
@@ -16,7 +17,7 @@ use Rattle.position.specs.declared.Place.{Place}
 use Rattle.header.specs.declared.Hop.{Hop}
 use Rattle.header.specs.declared.Path.{Path}
 use Rattle.body.specs.declared.Kind.{Kind}
-use Rattle.body.specs.declared.Kind.the-variants.{Unknown, Position, MicE}
+use Rattle.body.specs.declared.Kind.the-variants.{Unknown, Position, MicE, Message, Status}
 use Rattle.packet.specs.declared.Record.{Record}
 use Rattle.packet.specs.declared.PacketRead.{PacketRead}
 use Rattle.packet.specs.Packet.{readText}
@@ -41,6 +42,8 @@ unfoldable pub toField : Kind → Callsign → List ℕ
 toField Unknown to = callField to
 toField Position to = callField to
 toField MicE to = absent
+toField Message to = callField to
+toField Status to = callField to
 
 unfoldable pub heardAmong : List Hop → ℕ
 heardAmong [] = zero
@@ -54,11 +57,17 @@ heardHops p = heardAmong (take (p .count) (p .hops))
 unfoldable pub angleFields : Place → List (List ℕ)
 angleFields p = decimal (p .latitude .0) ∷ decimal (p .longitude .0) ∷ []
 
--- as document 01 prints it, `- -`: the Unknown kind has no place
+-- as both documents print it where there is no place: `- -`
+unfoldable pub absentAngles : List (List ℕ)
+absentAngles = (dash ∷ space ∷ dash ∷ []) ∷ []
+
+-- a position and a Mic-E report have a place, the other kinds have none
 unfoldable pub placeFields : Kind → Place → List (List ℕ)
-placeFields Unknown p = (dash ∷ space ∷ dash ∷ []) ∷ []
+placeFields Unknown p = absentAngles
 placeFields Position p = angleFields p
 placeFields MicE p = angleFields p
+placeFields Message p = absentAngles
+placeFields Status p = absentAngles
 
 -- "source, destination, hops, heard hops, latitude, longitude" of an accepted line
 unfoldable pub recordFields : Record → List (List ℕ)

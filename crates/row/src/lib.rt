@@ -65,6 +65,8 @@ fn put_to(kind: Kind, to: Callsign, row: &mut [u8], at: usize) -> usize
         Kind::Unknown => put_call(to, row, at),
         Kind::Position => put_call(to, row, at),
         Kind::MicE => put_text(b"-", b' ', row, at),
+        Kind::Message => put_call(to, row, at),
+        Kind::Status => put_call(to, row, at),
     }
 }
 
@@ -110,7 +112,7 @@ fn put_angles(place: Place, row: &mut [u8], at: usize) -> usize
     put_number(place.longitude.0, b'\n', row, end)
 }
 
-// The same, where the kind has a place; the Unknown kind has none.
+// The same, where the kind has a place: a position, timed or not, or Mic-E.
 fn put_place(kind: Kind, place: Place, row: &mut [u8], at: usize) -> usize
     ensures { λ r. ⌜ filled (now (row .exit)) r ≡ addedAll (filled (now (row .entry)) at) (spaced (placeFields kind place)) ⌝ }
     ensures { λ _. ⌜ widthOf (placeFields kind place) ≤ 24 ⌝ }
@@ -119,6 +121,8 @@ fn put_place(kind: Kind, place: Place, row: &mut [u8], at: usize) -> usize
         Kind::Unknown => put_text(b"- -", b'\n', row, at),
         Kind::Position => put_angles(place, row, at),
         Kind::MicE => put_angles(place, row, at),
+        Kind::Message => put_text(b"- -", b'\n', row, at),
+        Kind::Status => put_text(b"- -", b'\n', row, at),
     }
 }
 

@@ -1,9 +1,9 @@
 // A record in words, and written again: `KIND from= to= hops= lat= lon= blanks= table= code= flag= message= speed= course= comment=
-// text= frame= letters= zeros= time=`. Part of the programs inspect and bench.
+// text= frame= letters= zeros= time= addressee= id=`. Part of the programs inspect and bench.
 use body::Body;
-use body::Comment;
 use body::Kind;
 use body::Report;
+use body::Span;
 use callsign::Callsign;
 use header::Header;
 use header::Hop;
@@ -19,6 +19,8 @@ fn kind(k: Kind, out: &mut [u8], at: usize) -> usize {
         Kind::Unknown => buffer::put(b"0 unknown", out, at),
         Kind::Position => buffer::put(b"0 position", out, at),
         Kind::MicE => buffer::put(b"0 mic-e", out, at),
+        Kind::Message => buffer::put(b"0 message", out, at),
+        Kind::Status => buffer::put(b"0 status", out, at),
     }
 }
 
@@ -82,13 +84,12 @@ fn message(m: Message, out: &mut [u8], at: usize) -> usize {
     buffer::put(b"unknown", out, at)
 }
 
-// Only Mic-E has a message.
+// What a Mic-E report says; no other kind does.
 fn message_of(k: Kind, m: Message, out: &mut [u8], at: usize) -> usize {
     let end = buffer::put(b" message=", out, at);
     match k {
-        Kind::Unknown => buffer::put_byte(b'-', out, end),
-        Kind::Position => buffer::put_byte(b'-', out, end),
         Kind::MicE => message(m, out, end),
+        _ => buffer::put_byte(b'-', out, end),
     }
 }
 
@@ -98,10 +99,10 @@ fn motion(r: Report, out: &mut [u8], at: usize) -> usize {
     words::count(b" course=", r.course.0 as usize, out, end)
 }
 
-// The comment's place and length.
-fn comment(c: Comment, out: &mut [u8], at: usize) -> usize {
-    let end = words::count(b" comment=", c.at, out, at);
-    words::count(b"+", c.len, out, end)
+// The place and length of a part of the input.
+fn span(label: &[u8], s: Span, out: &mut [u8], at: usize) -> usize {
+    let end = words::count(label, s.at, out, at);
+    words::count(b"+", s.len, out, end)
 }
 
 // What stands behind the header.
@@ -114,7 +115,7 @@ fn body(b: Body, out: &mut [u8], at: usize) -> usize {
     end = symbol(p, b.messaging | report.current, out, end);
     end = message_of(k, word, out, end);
     end = motion(report, out, end);
-    comment(b.comment, out, end)
+    span(b" comment=", b.comment, out, end)
 }
 
 // ---- written again
@@ -135,17 +136,24 @@ fn written(
     words::labelled(b":", lines::cut(bytes, w.reported), plain, out, end)
 }
 
-// The record written again, both ways, with the comment that it was read with.
-fn again(r: Record, comment: &[u8], plain: bool, out: &mut [u8], at: usize) -> usize {
+// The record written again, both ways, with the comment, or the text and the identifier, that it was read with.
+fn again(
+    r: Record,
+    comment: &[u8],
+    identifier: &[u8],
+    plain: bool,
+    out: &mut [u8],
+    at: usize,
+) -> usize {
     let mut bytes = [0u8; 512];
-    let w = packet::write_text(r, comment, &mut bytes);
+    let w = packet::write_text(r, comment, identifier, &mut bytes);
     let end = written(b" text=", w, &bytes, plain, out, at);
-    let w = packet::write_frame(r, comment, &mut bytes);
+    let w = packet::write_frame(r, comment, identifier, &mut bytes);
     written(b" frame=", w, &bytes, plain, out, end)
 }
 
-fn comment_in(c: Comment, line: &[u8]) -> &[u8] {
-    lines::cut(lines::tail(line, c.at), c.len)
+fn part(s: Span, line: &[u8]) -> &[u8] {
+    lines::cut(lines::tail(line, s.at), s.len)
 }
 
 // ---- words of the change requests, in their order
@@ -159,9 +167,9 @@ fn sides(p: Place, out: &mut [u8], at: usize) -> usize {
 fn letters(k: Kind, p: Place, out: &mut [u8], at: usize) -> usize {
     let end = buffer::put(b" letters=", out, at);
     match k {
-        Kind::Unknown => buffer::put(b"--", out, end),
         Kind::Position => sides(p, out, end),
         Kind::MicE => sides(p, out, end),
+        _ => buffer::put(b"--", out, end),
     }
 }
 
@@ -199,18 +207,48 @@ fn time(t: Time, out: &mut [u8], at: usize) -> usize {
     words::labelled(b" time=", lines::cut(&text, w.reported), true, out, at)
 }
 
-// A record in words, from the answer 0 on. The words of a later request go behind them.
+// How many bytes of an addressee stand before the spaces that it ends in.
+fn unpadded(addressee: [u8; 9]) -> usize {
+    let mut n: usize = 9;
+    while 0 < n {
+        if addressee[n - 1] != b' ' {
+            return n;
+        }
+        n -= 1;
+    }
+    n
+}
+
+// The addressee without those spaces; only a message has one.
+fn addressee(k: Kind, a: [u8; 9], plain: bool, out: &mut [u8], at: usize) -> usize {
+    let n = unpadded(a);
+    match k {
+        Kind::Message => words::labelled(b" addressee=", lines::cut(&a, n), plain, out, at),
+        _ => buffer::put(b" addressee=-", out, at),
+    }
+}
+
+// All of them. The words of a later request go behind them.
+fn requested(h: Header, b: Body, plain: bool, out: &mut [u8], at: usize) -> usize {
+    let k = b.kind;
+    let a = b.addressee;
+    let mut end = letters(k, b.place, out, at);
+    end = zeros(h, out, end);
+    end = time(b.time, out, end);
+    end = addressee(k, a, plain, out, end);
+    span(b" id=", b.identifier, out, end)
+}
+
+// A record in words, from the answer 0 on.
 pub fn record(r: Record, line: &[u8], plain: bool, out: &mut [u8], at: usize) -> usize {
     let h = r.header;
     let b = r.body;
     let k = b.kind;
-    let p = b.place;
-    let c = b.comment;
+    let text = part(b.comment, line);
+    let identifier = part(b.identifier, line);
     let mut end = kind(k, out, at);
     end = header(h, plain, out, end);
     end = body(b, out, end);
-    end = again(r, comment_in(c, line), plain, out, end);
-    end = letters(k, p, out, end);
-    end = zeros(h, out, end);
-    time(b.time, out, end)
+    end = again(r, text, identifier, plain, out, end);
+    requested(h, b, plain, out, end)
 }

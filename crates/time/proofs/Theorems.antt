@@ -18,7 +18,7 @@ use Rattle.laws.proofs.Tests.{and-first, and-second, passed, picked}
 use Rattle.numbers.specs.Numbers.{numberOf}
 use Rattle.time.specs.declared.Time.{Time}
 use Rattle.time.specs.declared.TimeRead.the-variants.{Read, Refused}
-use Rattle.time.specs.Time.{isClock, noTime, isNoTime, isTime, timeBytes, timeOf, timeIn, readTime, sevenBytes, presentText, timeText, timeInRange}
+use Rattle.time.specs.Time.{isClock, noTime, isNoTime, isTime, isPresent, timeBytes, timeOf, timeIn, readTime, sevenBytes, presentText, timeText, timeInRange}
 use Rattle.time.proofs.Tests.{Day, Clock, of-two-forms, no-letter, time-present, placed-on-day, placed-by-clock}
 use Rattle.time.proofs.Digits.{digits-back, seven-long, seven-digits, seven-say}
 
@@ -149,11 +149,15 @@ pub no-time-no-bytes : (t : Time) → isNoTime t ≡ true → timeText t ≡ []
 unfolding timeText
 no-time-no-bytes t e = rw (no-letter t e)
 
-pub a-time-seven-bytes : (t : Time) → isTime t ≡ true → length (timeText t) ≡ timeBytes
+-- with a letter there are seven, whatever the numbers are
+pub present-seven-bytes : (t : Time) → isPresent t ≡ true → length (timeText t) ≡ timeBytes
 unfolding timeText presentText
-a-time-seven-bytes t e =
-    rw (time-present t e)
+present-seven-bytes t e =
+    rw e
     (picked (λ (u : List ℕ) b. length u ≡ timeBytes) (sevenBytes (t .hour) (t .minute) (t .second) (t .form)) (sevenBytes (t .day) (t .hour) (t .minute) (t .form))
     (seven-long (t .hour) (t .minute) (t .second) (t .form))
     (seven-long (t .day) (t .hour) (t .minute) (t .form))
     (isClock (t .form)))
+
+pub a-time-seven-bytes : (t : Time) → isTime t ≡ true → length (timeText t) ≡ timeBytes
+a-time-seven-bytes t e = present-seven-bytes t (time-present t e)

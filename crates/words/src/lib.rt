@@ -18,6 +18,7 @@ pub use word::behind;
 pub use word::byte;
 pub use word::counted;
 pub use word::either;
+pub use word::given;
 pub use word::has;
 pub use word::hex;
 pub use word::past;

@@ -154,6 +154,14 @@ pub fn hex(s: &[u8], out: &mut [u8]) -> Bytes {
     Bytes::Are(n)
 }
 
+// The bytes of a word `name=HEX` that may be left out, and then has none.
+pub fn given(s: &[u8], name: &[u8], out: &mut [u8]) -> Bytes {
+    if has(s, name) {
+        return hex(value(s, name), out);
+    }
+    Bytes::Are(0)
+}
+
 // How many characters stand for one byte: three after a `%`, itself among them.
 fn width(b: u8) -> usize
     ensures { λ r. ⌜ 1 ≤ r ⌝ }

@@ -42,9 +42,9 @@ static uint8_t *lent_page(void) {
 /* Where `size` bytes of the page stand: at its end on side 0, at its start on side 1. */
 static uint8_t *place(uint8_t *page, size_t size, int side) { return side == 0 ? page + PAGE - size : page; }
 
-static uint8_t *input_page(void) {
-    static uint8_t *page;
-    return page ? page : (page = lent_page());
+static uint8_t *input_page(int page) {
+    static uint8_t *pages[INPUTS];
+    return pages[page] ? pages[page] : (pages[page] = lent_page());
 }
 
 static uint8_t *output_page(void) {
@@ -52,10 +52,10 @@ static uint8_t *output_page(void) {
     return page ? page : (page = lent_page());
 }
 
-uint8_t *lend_input(const uint8_t *bytes, size_t size, int side) {
-    uint8_t *lent = place(input_page(), size, side);
-    memset(input_page(), GUARD, PAGE);
-    if (size > 0) memcpy(lent, bytes, size);
+uint8_t *lend_input(int page, slice input, int side) {
+    uint8_t *lent = place(input_page(page), input.size, side);
+    memset(input_page(page), GUARD, PAGE);
+    if (input.size > 0) memcpy(lent, input.bytes, input.size);
     return lent;
 }
 
@@ -64,9 +64,9 @@ static bool unchanged(const uint8_t *from, const uint8_t *to) {
     return from >= to;
 }
 
-bool input_kept(const uint8_t *lent, const uint8_t *bytes, size_t size) {
-    return unchanged(input_page(), lent) && (size == 0 || memcmp(lent, bytes, size) == 0) &&
-           unchanged(lent + size, input_page() + PAGE);
+bool input_kept(int page, const uint8_t *lent, slice input) {
+    return unchanged(input_page(page), lent) && (input.size == 0 || memcmp(lent, input.bytes, input.size) == 0) &&
+           unchanged(lent + input.size, input_page(page) + PAGE);
 }
 
 static uint8_t *lend_output(size_t room, int side) {
@@ -89,24 +89,23 @@ bool same_answer(tusselgro_answer a, tusselgro_answer b) {
 tusselgro_read read_lent(reader *function, const uint8_t *bytes, size_t size) {
     tusselgro_read read[2];
     for (int side = 0; side < 2; side++) {
-        const uint8_t *lent = lend_input(bytes, size, side);
+        const uint8_t *lent = lend_input(0, (slice){bytes, size}, side);
         memset(&read[side], GUARD, sizeof read[side]);
         read[side] = function(lent, size);
-        HOLDS(input_kept(lent, bytes, size));
+        HOLDS(input_kept(0, lent, (slice){bytes, size}));
     }
     HOLDS(read[0].refusal == read[1].refusal && same_record(&read[0].record, &read[1].record));
     HOLDS(read[0].refusal == 0 || is_blank(&read[0].record));
     return read[0];
 }
 
-tusselgro_answer write_lent(writer *function, tusselgro_record record, const uint8_t *comment, size_t size,
-                            size_t room) {
+tusselgro_answer write_lent(writer *function, tusselgro_record record, slice comment, slice identifier, size_t room) {
     tusselgro_answer answer[2];
     for (int side = 0; side < 2; side++) {
-        const uint8_t *in = lend_input(comment, size, side);
+        const uint8_t *first = lend_input(0, comment, side), *second = lend_input(1, identifier, side);
         uint8_t *out = lend_output(room, side);
-        answer[side] = function(record, in, size, out, room);
-        HOLDS(input_kept(in, comment, size));
+        answer[side] = function(record, first, comment.size, second, identifier.size, out, room);
+        HOLDS(input_kept(0, first, comment) && input_kept(1, second, identifier));
         HOLDS(output_kept(out, room, answer[side].reported));
     }
     HOLDS(same_answer(answer[0], answer[1]));
@@ -163,10 +162,13 @@ bool same_time(tusselgro_time a, tusselgro_time b) {
     return a.day == b.day && a.hour == b.hour && a.minute == b.minute && a.second == b.second && a.form == b.form;
 }
 
+static bool same_span(tusselgro_span a, tusselgro_span b) { return a.at == b.at && a.len == b.len; }
+
 static bool same_body(const tusselgro_body *a, const tusselgro_body *b) {
     return same_place(&a->place, &b->place) && same_report(&a->report, &b->report) &&
-           a->comment.at == b->comment.at && a->comment.len == b->comment.len && same_time(a->time, b->time) &&
-           a->messaging == b->messaging && a->kind == b->kind;
+           same_span(a->comment, b->comment) && same_span(a->identifier, b->identifier) && same_time(a->time, b->time) &&
+           memcmp(a->addressee, b->addressee, sizeof a->addressee) == 0 && a->messaging == b->messaging &&
+           a->kind == b->kind;
 }
 
 bool same_record(const tusselgro_record *a, const tusselgro_record *b) {
@@ -186,6 +188,7 @@ static void check_all(void) {
     check_writing();
     check_parts();
     check_times();
+    check_messages();
     check_listing();
     check_bounds();
     check_meanings();

@@ -8,17 +8,22 @@
 #define HOLDS(fact) holds((fact), #fact, __FILE__, __LINE__)
 void holds(bool fact, const char *text, const char *file, int line);
 
-enum { REFUSALS = TUSSELGRO_TIME + 1 };
+enum { REFUSALS = TUSSELGRO_MALFORMED + 1 };
 
 /* Counts a refusal as met, and whether it is the one expected. */
 #define REFUSED(answer, expected) refused((answer).refusal, (expected), __FILE__, __LINE__)
 void refused(int refusal, int expected, const char *file, int line);
 
-/* A string as bytes and their number, without the zero at its end. */
+/* A string as bytes and their number, without the zero at its end; and as a slice, bytes and number in one. */
 #define BYTES(string) (const uint8_t *)("" string), sizeof(string) - 1
+#define SLICE(string) ((slice){BYTES(string)})
+typedef struct {
+    const uint8_t *bytes;
+    size_t size;
+} slice;
 
 typedef tusselgro_read reader(const uint8_t *, size_t);
-typedef tusselgro_answer writer(tusselgro_record, const uint8_t *, size_t, uint8_t *, size_t);
+typedef tusselgro_answer writer(tusselgro_record, const uint8_t *, size_t, const uint8_t *, size_t, uint8_t *, size_t);
 typedef tusselgro_answer filler(const void *what, uint8_t *, size_t);
 
 /*
@@ -27,13 +32,14 @@ typedef tusselgro_answer filler(const void *what, uint8_t *, size_t);
  * reports things of so many bytes: fields of 3, or bytes.
  */
 tusselgro_read read_lent(reader *function, const uint8_t *bytes, size_t size);
-tusselgro_answer write_lent(writer *function, tusselgro_record record, const uint8_t *comment, size_t size,
-                            size_t room);
+tusselgro_answer write_lent(writer *function, tusselgro_record record, slice comment, slice identifier, size_t room);
 tusselgro_answer fill_lent(filler *function, const void *what, size_t width, size_t room);
 
-/* Lends a copy of the bytes, at the end of a guarded page on side 0, at its start on side 1; and whether it was left alone. */
-uint8_t *lend_input(const uint8_t *bytes, size_t size, int side);
-bool input_kept(const uint8_t *lent, const uint8_t *bytes, size_t size);
+/* Lends a copy of the bytes, at the end of a guarded page on side 0, at its start on side 1; and whether it was left alone.
+   Each of a call's inputs has a page of its own. */
+enum { INPUTS = 3 };
+uint8_t *lend_input(int page, slice input, int side);
+bool input_kept(int page, const uint8_t *lent, slice input);
 
 /* The first bytes of the output of the call before. */
 extern uint8_t written[1024];
@@ -54,6 +60,19 @@ bool is_no_time(tusselgro_time time);
 enum { TIME_TEXT = 16 };
 size_t time_text(tusselgro_time time, char text[TIME_TEXT]);
 
+/* What document 02 says of messages and status lines, of bytes behind the type byte: whether they are a message, and its
+   lengths; how many of them are the time of a status, none or seven, and whether they are a status. */
+bool is_message(slice body, size_t *text, size_t *identifier);
+size_t status_time(slice body);
+bool is_status(slice body);
+
+/* And of what a writer is lent: whether it may be the text of a message, and of a status with a time or without. */
+bool is_message_text(slice text);
+bool is_status_text(slice text, bool timed);
+
+/* Whether what was read of an input is what those say of its body, which starts there with ':' or '>'. */
+bool is_read_rightly(const tusselgro_read *read, slice input, size_t at);
+
 bool same_answer(tusselgro_answer a, tusselgro_answer b);
 bool same_callsign(const tusselgro_callsign *a, const tusselgro_callsign *b);
 bool same_time(tusselgro_time a, tusselgro_time b);
@@ -64,6 +83,7 @@ void check_reading(void);
 void check_writing(void);
 void check_parts(void);
 void check_times(void);
+void check_messages(void);
 void check_listing(void);
 void check_bounds(void);
 void check_meanings(void);

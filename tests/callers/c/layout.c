@@ -10,11 +10,11 @@ SIZE(path, 168);
 SIZE(header, 208);
 SIZE(place, 16);
 SIZE(report, 12);
-SIZE(comment, 16);
+SIZE(span, 16);
 SIZE(time, 5);
-SIZE(body, 56);
-SIZE(record, 264);
-SIZE(read, 272);
+SIZE(body, 80);
+SIZE(record, 288);
+SIZE(read, 296);
 SIZE(answer, 24);
 SIZE(callsign_read, 21);
 SIZE(address_read, 22);
@@ -27,6 +27,8 @@ SIZE(destination_read, 12);
 SIZE(destination, 7);
 SIZE(information, 16);
 SIZE(information_read, 20);
+SIZE(message_read, 32);
+SIZE(status_read, 6);
 SIZE(bounds, 24);
 SIZE(box, 12);
 
@@ -58,8 +60,8 @@ STARTS(report, course, 4);
 STARTS(report, message, 8);
 STARTS(report, current, 9);
 
-STARTS(comment, at, 0);
-STARTS(comment, len, 8);
+STARTS(span, at, 0);
+STARTS(span, len, 8);
 
 STARTS(time, day, 0);
 STARTS(time, hour, 1);
@@ -70,15 +72,17 @@ STARTS(time, form, 4);
 STARTS(body, place, 0);
 STARTS(body, report, 16);
 STARTS(body, comment, 32);
-STARTS(body, time, 48);
-STARTS(body, messaging, 53);
-STARTS(body, kind, 54);
+STARTS(body, identifier, 48);
+STARTS(body, time, 64);
+STARTS(body, addressee, 69);
+STARTS(body, messaging, 78);
+STARTS(body, kind, 79);
 
 STARTS(record, header, 0);
 STARTS(record, body, 208);
 
 STARTS(read, record, 0);
-STARTS(read, refusal, 264);
+STARTS(read, refusal, 288);
 
 STARTS(answer, refusal, 0);
 STARTS(answer, reported, 8);
@@ -135,6 +139,14 @@ STARTS(information, table, 13);
 
 STARTS(information_read, information, 0);
 STARTS(information_read, refusal, 16);
+
+STARTS(message_read, text_len, 0);
+STARTS(message_read, identifier_len, 8);
+STARTS(message_read, addressee, 16);
+STARTS(message_read, refusal, 25);
+
+STARTS(status_read, time, 0);
+STARTS(status_read, refusal, 5);
 
 STARTS(bounds, refusal, 0);
 STARTS(bounds, lower, 8);

@@ -16,9 +16,9 @@ static void tells(teller *function, const uint8_t *bytes, size_t size, unsigned 
                   const char *file, int line) {
     for (int side = 0; side < 2; side++) {
         char told[TOLD] = "";
-        const uint8_t *lent = lend_input(bytes, size, side);
+        const uint8_t *lent = lend_input(0, (slice){bytes, size}, side);
         function(lent, size, setting, told);
-        holds(input_kept(lent, bytes, size), "the input is left alone", file, line);
+        holds(input_kept(0, lent, (slice){bytes, size}), "the input is left alone", file, line);
         holds(strcmp(told, expected) == 0, told, file, line);
     }
 }
@@ -466,6 +466,169 @@ static void check_information(void) {
     REFUSED(write_information(0, UINT32_MAX, UINT32_MAX, 0), 15);
 }
 
+/* ---- messages and status lines */
+
+static void message(const uint8_t *bytes, size_t size, unsigned setting, char *told) {
+    tusselgro_message_read r = tusselgro_read_message(bytes, size);
+    (void)setting;
+    sprintf(told, "%d %zu %zu <%.9s>", r.refusal, r.text_len, r.identifier_len, (const char *)r.addressee);
+}
+
+/* R-5, the first two with the examples of APRS 1.0.1, chapter 14. */
+static void check_messages_read(void) {
+    TELLS(message, "WU2Z     :Testing", 0, "0 7 0 <WU2Z     >");
+    TELLS(message, "WU2Z     :Testing{003", 0, "0 7 3 <WU2Z     >");
+    TELLS(message, "WU2Z     :", 0, "0 0 0 <WU2Z     >");
+    TELLS(message, ": : : : ::{a{b", 0, "0 0 3 <: : : : :>");
+    TELLS(message, "         :x{|~{|~", 0, "0 1 5 <         >");
+    TELLS(message, "", 0, "18 0 0 <>");
+    TELLS(message, "WU2Z     ", 0, "18 0 0 <>");
+    TELLS(message, "WU2Z    :Testing", 0, "18 0 0 <>");
+    TELLS(message, "WU2Z     :Testing{", 0, "18 0 0 <>");
+    TELLS(message, "WU2Z     :Testing{123456", 0, "18 0 0 <>");
+    TELLS(message, "WU2Z     :a|b", 0, "18 0 0 <>");
+    TELLS(message, "WU2Z     :a~b{1", 0, "18 0 0 <>");
+    REFUSED(tusselgro_read_message(NULL, 0), 18);
+    uint8_t bytes[9 + 1 + 68] = ":::::::::";
+    memset(bytes + 9, ':', sizeof bytes - 9);
+    REFUSED(tusselgro_read_message(bytes, sizeof bytes - 1), 0);
+    REFUSED(tusselgro_read_message(bytes, sizeof bytes), 18);
+    memset(bytes, 0, 9);
+    HOLDS(memcmp(tusselgro_read_message(bytes, 10).addressee, bytes, 9) == 0);
+}
+
+typedef struct {
+    slice addressee, text, identifier;
+} addressed;
+
+/* lends each on both sides; the bytes that are put are the same, so the buffer is as after one call */
+static tusselgro_answer put_message(const void *what, uint8_t *out, size_t room) {
+    const addressed *m = what;
+    tusselgro_answer answer[2];
+    for (int side = 0; side < 2; side++) {
+        const uint8_t *to = lend_input(0, m->addressee, side), *text = lend_input(1, m->text, side),
+                      *id = lend_input(2, m->identifier, side);
+        answer[side] = tusselgro_write_message(to, m->addressee.size, text, m->text.size, id, m->identifier.size, out, room);
+        HOLDS(input_kept(0, to, m->addressee) && input_kept(1, text, m->text) && input_kept(2, id, m->identifier));
+    }
+    HOLDS(same_answer(answer[0], answer[1]));
+    return answer[0];
+}
+
+static tusselgro_answer write_message(slice addressee, slice text, slice identifier, size_t room) {
+    return fill_lent(put_message, &(addressed){addressee, text, identifier}, 1, room);
+}
+
+#define X66 "xxxxxxxxxxxxxxxxxxxxxxxxxxxxxxxxxxxxxxxxxxxxxxxxxxxxxxxxxxxxxxxxxx"
+_Static_assert(sizeof X66 - 1 == 66, "the letters of X66");
+
+static void check_messages_written(void) {
+    slice to = SLICE("WU2Z     "), none = SLICE("");
+    HOLDS(wrote(write_message(to, SLICE("Testing"), none, 17), BYTES("WU2Z     :Testing")));
+    HOLDS(wrote(write_message(to, SLICE("Testing"), SLICE("003"), 100), BYTES("WU2Z     :Testing{003")));
+    HOLDS(wrote(write_message(to, none, none, 10), BYTES("WU2Z     :")));
+    HOLDS(wrote(write_message(to, none, SLICE("{"), 12), BYTES("WU2Z     :{{")));
+    HOLDS(wrote(write_message(SLICE("::: : :::"), SLICE(":"), SLICE(":"), 13), BYTES("::: : :::::{:")));
+    HOLDS(wrote(write_message(SLICE("\0\0\0\0\0\0\0\0\0"), none, none, 10), BYTES("\0\0\0\0\0\0\0\0\0:")));
+    HOLDS(wrote(write_message(to, SLICE(X66 "7"), SLICE("12345"), 83), BYTES("WU2Z     :" X66 "7{12345")));
+    for (size_t room = 0; room < 21; room++) {
+        tusselgro_answer answer = write_message(to, SLICE("Testing"), SLICE("003"), room);
+        REFUSED(answer, 16);
+        HOLDS(answer.needed == 21);
+    }
+    REFUSED(write_message(to, SLICE(X66 "78"), none, 100), 18);
+    REFUSED(write_message(to, SLICE("Testing"), SLICE("123456"), 100), 18);
+    REFUSED(write_message(to, SLICE("a|"), none, 100), 18);
+    REFUSED(write_message(to, SLICE("~b"), none, 100), 18);
+    REFUSED(write_message(to, SLICE("Testing{003"), none, 0), 18);
+    REFUSED(write_message(SLICE("WU2Z    "), SLICE("Testing"), none, 100), 18);
+    REFUSED(write_message(SLICE("WU2Z      "), SLICE("Testing"), none, 100), 18);
+    REFUSED(write_message(none, none, none, 0), 18);
+    REFUSED(tusselgro_write_message(NULL, 0, NULL, 0, NULL, 0, NULL, 0), 18);
+    REFUSED(tusselgro_write_message(to.bytes, 9, NULL, 0, NULL, 0, NULL, 0), 16);
+}
+
+static void status(const uint8_t *bytes, size_t size, unsigned setting, char *told) {
+    tusselgro_status_read r = tusselgro_read_status(bytes, size);
+    tusselgro_time t = r.time;
+    (void)setting;
+    sprintf(told, "%d %d %d %d %d %d", r.refusal, t.day, t.hour, t.minute, t.second, t.form);
+}
+
+/* R-5, the first two with the examples of APRS 1.0.1, chapter 16; 122 is the letter 'z'. */
+static void check_statuses_read(void) {
+    TELLS(status, "Net Control Center", 0, "0 0 0 0 0 0");
+    TELLS(status, "092345zNet Control Center", 0, "0 9 23 45 0 122");
+    TELLS(status, "", 0, "0 0 0 0 0 0");
+    TELLS(status, "010000z", 0, "0 1 0 0 0 122");
+    TELLS(status, "312359z|~{", 0, "0 31 23 59 0 122");
+    TELLS(status, "010000", 0, "0 0 0 0 0 0");
+    TELLS(status, "000000z", 0, "0 0 0 0 0 0");
+    TELLS(status, "092345/x", 0, "0 0 0 0 0 0");
+    TELLS(status, "234517hx", 0, "0 0 0 0 0 0");
+    TELLS(status, "092345Zx", 0, "0 0 0 0 0 0");
+    TELLS(status, X66, 0, "18 0 0 0 0 0");
+    TELLS(status, "092345z" X66, 0, "18 0 0 0 0 0");
+    REFUSED(tusselgro_read_status(NULL, 0), 0);
+    uint8_t bytes[63] = "092345z";
+    REFUSED(tusselgro_read_status(bytes, 62), 0);
+    REFUSED(tusselgro_read_status(bytes, 63), 18);
+    bytes[6] = 'Z';
+    REFUSED(tusselgro_read_status(bytes, 62), 0);
+    REFUSED(tusselgro_read_status(bytes, 63), 18);
+}
+
+typedef struct {
+    tusselgro_time time;
+    slice text;
+} stated;
+
+/* as put_message */
+static tusselgro_answer put_status(const void *what, uint8_t *out, size_t room) {
+    const stated *s = what;
+    tusselgro_answer answer[2];
+    for (int side = 0; side < 2; side++) {
+        const uint8_t *text = lend_input(0, s->text, side);
+        answer[side] = tusselgro_write_status(s->time, text, s->text.size, out, room);
+        HOLDS(input_kept(0, text, s->text));
+    }
+    HOLDS(same_answer(answer[0], answer[1]));
+    return answer[0];
+}
+
+static tusselgro_answer write_status(tusselgro_time time, slice text, size_t room) {
+    return fill_lent(put_status, &(stated){time, text}, 1, room);
+}
+
+static void check_statuses_written(void) {
+    static const tusselgro_time never = {0, 0, 0, 0, TUSSELGRO_NO_TIME}, z = {9, 23, 45, 0, TUSSELGRO_DHM_UTC};
+    static const uint8_t many[63] = "x";
+    HOLDS(wrote(write_status(never, SLICE("Net Control Center"), 18), BYTES("Net Control Center")));
+    HOLDS(wrote(write_status(z, SLICE("Net Control Center"), 100), BYTES("092345zNet Control Center")));
+    HOLDS(wrote(write_status(never, SLICE(""), 0), BYTES("")));
+    HOLDS(wrote(write_status(z, SLICE(""), 7), BYTES("092345z")));
+    HOLDS(wrote(write_status(z, SLICE("010000z"), 14), BYTES("092345z010000z")));
+    HOLDS(wrote(write_status(never, SLICE("010000/|~{"), 10), BYTES("010000/|~{")));
+    HOLDS(wrote(write_status(never, (slice){many, 62}, 62), many, 62));
+    REFUSED(write_status(z, (slice){many, 55}, 62), 0);
+    REFUSED(write_status(z, (slice){many, 56}, 100), 18);
+    REFUSED(write_status(never, (slice){many, 63}, 100), 18);
+    REFUSED(write_status(never, SLICE("010000z"), 100), 18);
+    REFUSED(write_status(never, SLICE("312359zx"), 0), 18);
+    REFUSED(write_status((tusselgro_time){9, 23, 45, 0, TUSSELGRO_DHM_LOCAL}, SLICE("x"), 100), 15);
+    REFUSED(write_status((tusselgro_time){0, 23, 45, 17, TUSSELGRO_HMS_UTC}, SLICE("x"), 100), 15);
+    REFUSED(write_status((tusselgro_time){0, 0, 0, 0, TUSSELGRO_HMS_UTC}, (slice){many, 63}, 0), 15);
+    REFUSED(write_status((tusselgro_time){32, 0, 0, 0, TUSSELGRO_DHM_UTC}, (slice){many, 63}, 0), 15);
+    REFUSED(write_status((tusselgro_time){9, 23, 45, 17, TUSSELGRO_DHM_UTC}, SLICE("x"), 100), 15);
+    REFUSED(write_status((tusselgro_time){1, 0, 0, 0, TUSSELGRO_NO_TIME}, SLICE("010000z"), 100), 15);
+    for (size_t room = 0; room < 8; room++) {
+        tusselgro_answer answer = write_status(z, SLICE("x"), room);
+        REFUSED(answer, 16);
+        HOLDS(answer.needed == 8);
+    }
+    REFUSED(tusselgro_write_status(never, NULL, 0, NULL, 0), 0);
+}
+
 void check_parts(void) {
     check_callsigns_read();
     check_callsigns_written();
@@ -479,4 +642,8 @@ void check_parts(void) {
     check_letters();
     check_destinations();
     check_information();
+    check_messages_read();
+    check_messages_written();
+    check_statuses_read();
+    check_statuses_written();
 }

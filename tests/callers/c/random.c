@@ -34,7 +34,7 @@ static size_t any_bytes(uint8_t *bytes, size_t size) {
 enum { MOST = 640 };
 
 /* the bodies of the first of them go into frames too */
-enum { FRAMED = 11 };
+enum { FRAMED = 17 };
 
 static const char *const lines[] = {
     "N0CALL-01>APRS,WIDE1-1,WIDE2-2*,K1A:!4903.50N/07201.75W-Test",
@@ -48,6 +48,12 @@ static const char *const lines[] = {
     "A>B,C:@234517h0000.00N/00000.00W>",
     "A>B:/010000z/5L!!<*e7>7P[",
     "A>B:@010000z",
+    "N0CALL>APRS,K1A*::WU2Z     :Testing{003",
+    "A>B:::  :: :  :Testing",
+    "A-0>B::         :{a{b",
+    "N0CALL>APRS:>092345zNet Control Center",
+    "A>B,C:>Net Control Center",
+    "A>B:>",
     "ABCDEFGHIJKLMN-0>B,qAC,*,:>hi",
     "\xc3\xa9-00>\xe2\x82\xac*:!9000.00S/18000.00W!",
     "N0CALL-0>APRS-0,WIDE1-0,WIDE2-0*,K1A-00:!4903.50N/07201.75W-",
@@ -65,7 +71,7 @@ static size_t damaged(uint8_t *bytes, size_t size) {
             memmove(bytes + at, bytes + at + 1, size - at - 1);
             size--;
         } else if (at < size) {
-            static const char telling[] = "*-,:>!=`'@ 012356789AKLPZqhz/.";
+            static const char telling[] = "*-,:>!=`'@ 012356789AKLPZqhz/.{|~";
             bytes[at] = one_in(2) ? (uint8_t)next() : (uint8_t)telling[below(sizeof telling - 1)];
         }
     }
@@ -110,7 +116,8 @@ static bool contradicted(tusselgro_place p) {
 
 /* none but that of the angle, and none in a kind without a position */
 static bool lettered(const tusselgro_body *b) {
-    return !contradicted(b->place) && (b->kind != TUSSELGRO_UNKNOWN || (!b->place.south && !b->place.west));
+    bool placed = b->kind == TUSSELGRO_POSITION || b->kind == TUSSELGRO_MIC_E;
+    return !contradicted(b->place) && (placed || (!b->place.south && !b->place.west));
 }
 
 /* Document 02's R-2, of a callsign's text: the SSID, once the star is off, is the one byte '0'. */
@@ -146,9 +153,20 @@ static bool is_marked_by(tusselgro_record record, const uint8_t *line) {
     return same && ended;
 }
 
-/* none, or one, and that in a position */
+/* none, or one in a position, or one with 'z' in a status */
 static bool timed_rightly(const tusselgro_body *b) {
-    return is_no_time(b->time) || (is_time(b->time) && b->kind == TUSSELGRO_POSITION);
+    bool status = b->kind == TUSSELGRO_STATUS && b->time.form == TUSSELGRO_DHM_UTC;
+    return is_no_time(b->time) || (is_time(b->time) && (b->kind == TUSSELGRO_POSITION || status));
+}
+
+/* an addressee in a message alone */
+static bool addressed_rightly(const tusselgro_body *b) {
+    static const uint8_t none[TUSSELGRO_ADDRESSEE_BYTES];
+    return b->kind == TUSSELGRO_MESSAGE || memcmp(b->addressee, none, sizeof none) == 0;
+}
+
+static bool is_right(const tusselgro_body *b) {
+    return b->kind <= TUSSELGRO_STATUS && lettered(b) && timed_rightly(b) && addressed_rightly(b);
 }
 
 /* Whether a position's type byte and its time, which end where its 19 bytes start, are those of its record. */
@@ -166,10 +184,12 @@ static uint8_t position_refusal(bool timed, const uint8_t *text, size_t size) {
     return is_time_text(text) ? tusselgro_read_position(text + 7, size - 7).refusal : 17;
 }
 
-static bool is_body_refusal(uint8_t refusal, const uint8_t *body, size_t size) {
-    const char *type = size > 0 && body[0] != 0 ? strchr("!=/@", body[0]) : NULL;
-    if (type == NULL) return refusal == 0 || refusal == 7 || refusal == 11 || refusal == 12;
-    return refusal == position_refusal(*type == '/' || *type == '@', body + 1, size - 1);
+/* Whether a body was read as document 02 has it, or refused as that has it; of a Mic-E body the refusals that there are. */
+static bool is_body(const tusselgro_read *read, slice input, size_t at) {
+    const char *type = at < input.size && input.bytes[at] != 0 ? strchr("!=/@:>", input.bytes[at]) : NULL;
+    if (type == NULL) return read->refusal == 0 || read->refusal == 11 || read->refusal == 12;
+    if (*type == ':' || *type == '>') return is_read_rightly(read, input, at);
+    return read->refusal == position_refusal(*type == '/' || *type == '@', input.bytes + at + 1, input.size - at - 1);
 }
 
 /* Where the body of a line or of a frame starts whose header was read. */
@@ -180,24 +200,38 @@ static size_t body_at(const uint8_t *bytes, bool frame) {
     return at + 9;
 }
 
+static bool is_within(tusselgro_span span, size_t size) { return span.at <= size && span.len <= size - span.at; }
+
+/* A message or a status that was read comes out with the very bytes that stood behind the header, in a line and, if the
+   callsigns can go there, in a frame. */
+static bool is_body_again(tusselgro_record record, slice text, slice identifier, slice body) {
+    bool same = true;
+    for (int frame = 0; frame < 2; frame++) {
+        tusselgro_answer answer = write_lent(frame ? tusselgro_write_frame : tusselgro_write_text, record, text, identifier, 512);
+        bool put = answer.refusal == 0 && memcmp(written + answer.reported - body.size, body.bytes, body.size) == 0;
+        same = same && (put || (frame && answer.refusal == 13));
+    }
+    return same;
+}
+
 static void any_read(void) {
     uint8_t bytes[MOST + 8];
     bool frame = one_in(2);
-    size_t size = frame ? any_frame(bytes) : any_line(bytes);
-    tusselgro_read read = read_lent(frame ? tusselgro_read_frame : tusselgro_read_text, bytes, size);
-    if (read.refusal == 0 || read.refusal > 6) {
-        size_t at = body_at(bytes, frame);
-        HOLDS(is_body_refusal(read.refusal, bytes + at, size - at));
-    }
-    tusselgro_comment comment = read.record.body.comment;
-    HOLDS(comment.at <= size && comment.len <= size - comment.at);
-    HOLDS(read.record.header.path.count <= TUSSELGRO_MOST_HOPS);
-    HOLDS(lettered(&read.record.body) && timed_rightly(&read.record.body));
+    slice input = {bytes, frame ? any_frame(bytes) : any_line(bytes)};
+    tusselgro_read read = read_lent(frame ? tusselgro_read_frame : tusselgro_read_text, bytes, input.size);
+    tusselgro_body *b = &read.record.body;
+    size_t at = read.refusal == 0 || read.refusal > 6 ? body_at(bytes, frame) : input.size;
+    if (read.refusal == 0 || read.refusal > 6) HOLDS(is_body(&read, input, at));
+    HOLDS(is_within(b->comment, input.size) && is_within(b->identifier, input.size));
+    HOLDS(read.record.header.path.count <= TUSSELGRO_MOST_HOPS && is_right(b));
     if (read.refusal != 0) return;
-    if (read.record.body.kind == TUSSELGRO_POSITION) HOLDS(starts_rightly(bytes + comment.at - 19, &read.record.body));
+    if (b->kind == TUSSELGRO_POSITION) HOLDS(starts_rightly(bytes + b->comment.at - 19, b));
     HOLDS(frame ? is_unmarked(read.record) : is_marked_by(read.record, bytes));
-    write_lent(tusselgro_write_text, read.record, bytes + comment.at, comment.len, below(MOST));
-    write_lent(tusselgro_write_frame, read.record, bytes + comment.at, comment.len, below(MOST));
+    slice text = {bytes + b->comment.at, b->comment.len}, identifier = {bytes + b->identifier.at, b->identifier.len};
+    write_lent(tusselgro_write_text, read.record, text, identifier, below(MOST));
+    write_lent(tusselgro_write_frame, read.record, text, identifier, below(MOST));
+    if (b->kind == TUSSELGRO_MESSAGE || b->kind == TUSSELGRO_STATUS)
+        HOLDS(is_body_again(read.record, text, identifier, (slice){bytes + at, input.size - at}));
 }
 
 /* any bytes at all, but for a bool, which C holds to false or true */
@@ -222,13 +256,13 @@ static tusselgro_time any_time(void) {
     return (tusselgro_time){often_zero(34), often_zero(26), often_zero(62), often_zero(62), form};
 }
 
-/* a record that was read, with some part of it changed */
+/* a record that was read, with some part of it changed, or none */
 static tusselgro_record near_record(void) {
     uint8_t bytes[MOST + 8];
     tusselgro_record record = tusselgro_read_text(bytes, any_line(bytes)).record;
     tusselgro_place *place = &record.body.place;
-    switch (below(14)) {
-        case 0: record.body.kind = (uint8_t)below(5); break;
+    switch (below(17)) {
+        case 0: record.body.kind = (uint8_t)below(7); break;
         case 1: record.body.report.message = (uint8_t)below(20); break;
         case 2: place->blanks = (uint8_t)below(8); break;
         case 3:
@@ -246,6 +280,8 @@ static tusselgro_record near_record(void) {
         case 9: place->west = !place->west; break;
         case 10: case 11: record.body.time = any_time(); break;
         case 12: record.body.messaging = !record.body.messaging; break;
+        case 13: record.body.addressee[below(TUSSELGRO_ADDRESSEE_BYTES)] = (uint8_t)next(); break;
+        case 14: case 15: break;
         default: record.header.to.ssid_len = (uint8_t)(one_in(2) ? below(20) : next()); break;
     }
     return record;
@@ -255,21 +291,52 @@ static bool fits(tusselgro_callsign c) {
     return c.call_len + (c.ssid_len > 0 ? 1 + c.ssid_len : 0) <= TUSSELGRO_MOST_CALLSIGN;
 }
 
+/* a text near what a message or a status may have: its length, its bytes, a time that it starts with */
+static slice any_text(uint8_t *bytes) {
+    size_t size = one_in(4) ? 50 + below(20) : below(70);
+    for (size_t at = 0; at < size; at++) bytes[at] = (uint8_t)(one_in(200) ? next() : ' ' + below('{' - ' '));
+    if (one_in(3) && size >= 7) memcpy(bytes, one_in(2) ? "092345z" : "092345/", 7);
+    return (slice){bytes, size};
+}
+
+static slice any_identifier(uint8_t *bytes) { return (slice){bytes, any_bytes(bytes, below(one_in(4) ? 20 : 7))}; }
+
+/* What is lent with a record: "18 what was handed over with it". */
+static bool is_malformed(const tusselgro_body *b, slice text, slice identifier) {
+    if (b->kind == TUSSELGRO_MESSAGE) return !is_message_text(text) || identifier.size > 5;
+    return b->kind == TUSSELGRO_STATUS && !is_status_text(text, !is_no_time(b->time));
+}
+
+/* Whether a line or a frame ends with the text, and with the identifier that a message has. */
+static bool ends_rightly(const tusselgro_body *b, slice text, slice identifier, size_t size) {
+    if (b->kind == TUSSELGRO_MESSAGE && identifier.size > 0) {
+        size -= identifier.size + 1;
+        if (written[size] != '{' || memcmp(written + size + 1, identifier.bytes, identifier.size) != 0) return false;
+    }
+    return text.size == 0 || memcmp(written + size - text.size, text.bytes, text.size) == 0;
+}
+
 static void any_write(void) {
-    uint8_t comment[MOST];
-    size_t size = any_bytes(comment, below(MOST));
+    uint8_t comment[MOST], id[32], other[32];
+    slice text = one_in(2) ? any_text(comment) : (slice){comment, any_bytes(comment, below(MOST))};
+    slice identifier = any_identifier(id), ignored = any_identifier(other);
     tusselgro_record record = one_in(4) ? wild_record() : near_record();
+    const tusselgro_body *b = &record.body;
     writer *function = one_in(2) ? tusselgro_write_frame : tusselgro_write_text;
     size_t room = below(MOST);
-    tusselgro_answer answer = write_lent(function, record, comment, size, room);
-    HOLDS((lettered(&record.body) && timed_rightly(&record.body)) || answer.refusal == 15);
-    if (answer.refusal == 0 && record.body.kind == TUSSELGRO_POSITION)
-        HOLDS(starts_rightly(written + answer.reported - size - 19, &record.body));
+    tusselgro_answer answer = write_lent(function, record, text, identifier, room);
+    HOLDS(is_right(b) || answer.refusal == 15);
+    HOLDS(is_malformed(b, text, identifier) ? answer.refusal == 15 || answer.refusal == 18 : answer.refusal != 18);
+    if (answer.refusal == 0) HOLDS(ends_rightly(b, text, identifier, answer.reported));
+    if (answer.refusal == 0 && b->kind == TUSSELGRO_POSITION)
+        HOLDS(starts_rightly(written + answer.reported - text.size - 19, b));
     HOLDS((fits(record.header.from) && fits(record.header.to)) || answer.refusal == 15);
     uint8_t unchanged[sizeof written];
     memcpy(unchanged, written, sizeof written);
     for (size_t place = 0; place < MARKS; place++) *mark_of(&record, place) = one_in(2);
-    HOLDS(same_answer(answer, write_lent(function, record, comment, size, room)));
+    record.body.comment = record.body.identifier = (tusselgro_span){(size_t)next(), (size_t)next()};
+    if (b->kind != TUSSELGRO_MESSAGE) identifier = ignored;
+    HOLDS(same_answer(answer, write_lent(function, record, text, identifier, room)));
     HOLDS(memcmp(unchanged, written, sizeof written) == 0);
 }
 
@@ -277,7 +344,7 @@ static void any_write(void) {
 
 static const char *const parts[] = {
     "N0CALL-01*", "\x9c\x60\x86\x82\x98\x98\xe3", "4903.50N", "07201.75W", "092345z", "4903.50N/07201.75W-Test", "S32U6T",
-    "(_fn\"Oj/",
+    "(_fn\"Oj/",  "WU2Z     :Testing{003",          "092345zNet Control Center",
 };
 
 static void callsign_again(const uint8_t *bytes, size_t size) {
@@ -393,18 +460,47 @@ static void information_again(const uint8_t *bytes, size_t size) {
     HOLDS(again.code == i.code && again.table == i.table);
 }
 
+static void message_again(const uint8_t *bytes, size_t size) {
+    static const uint8_t none[TUSSELGRO_ADDRESSEE_BYTES];
+    tusselgro_message_read r = tusselgro_read_message(bytes, size);
+    size_t text = 0, identifier = 0;
+    if (!is_message((slice){bytes, size}, &text, &identifier)) {
+        HOLDS(r.refusal == 18 && r.text_len == 0 && r.identifier_len == 0 && memcmp(r.addressee, none, 9) == 0);
+        return;
+    }
+    HOLDS(r.refusal == 0 && r.text_len == text && r.identifier_len == identifier && memcmp(r.addressee, bytes, 9) == 0);
+    uint8_t out[83];
+    const uint8_t *behind = bytes + size - identifier;
+    HOLDS(tusselgro_write_message(r.addressee, 9, bytes + 10, text, behind, identifier, out, 83).reported == size);
+    HOLDS(memcmp(out, bytes, size) == 0);
+}
+
+static void status_again(const uint8_t *bytes, size_t size) {
+    tusselgro_status_read r = tusselgro_read_status(bytes, size);
+    size_t time = status_time((slice){bytes, size});
+    if (!is_status((slice){bytes, size})) {
+        HOLDS(r.refusal == 18 && is_no_time(r.time));
+        return;
+    }
+    uint8_t out[62];
+    HOLDS(r.refusal == 0 && is_no_time(r.time) == (time == 0));
+    HOLDS(tusselgro_write_status(r.time, bytes + time, size - time, out, 62).reported == size);
+    HOLDS(size == 0 || memcmp(out, bytes, size) == 0);
+}
+
 static void any_part(void) {
     static void (*const again[])(const uint8_t *, size_t) = {
-        callsign_again, address_again,  latitude_again,    longitude_again,
-        time_again,     position_again, destination_again, information_again,
+        callsign_again, address_again,     latitude_again,    longitude_again, time_again,
+        position_again, destination_again, information_again, message_again,   status_again,
     };
     uint8_t bytes[MOST + 8];
     size_t which = below(sizeof parts / sizeof *parts), size = strlen(parts[which]);
     memcpy(bytes, parts[which], size);
+    if (one_in(8)) size += any_text(bytes + size).size;
     size = one_in(8) ? any_bytes(bytes, below(32)) : damaged(bytes, size);
-    const uint8_t *lent = lend_input(bytes, size, one_in(2));
+    const uint8_t *lent = lend_input(0, (slice){bytes, size}, one_in(2));
     again[which](lent, size);
-    HOLDS(input_kept(lent, bytes, size));
+    HOLDS(input_kept(0, lent, (slice){bytes, size}));
 }
 
 /* ---- lists, bounds and boxes */

@@ -1,4 +1,5 @@
-/* Lines and frames read: document 01's values, document 02's letters, marks and times, every refusal that a reader can give. */
+/* Lines and frames read: document 01's values, document 02's letters, marks and times, every refusal that a reader can give.
+   messages.c has messages and status lines. */
 #include "check.h"
 
 #include <string.h>
@@ -123,7 +124,7 @@ static void check_marks(void) {
     REFUSED(LINE("A-0>B-0,ABCDEFGHIJKLMNO-0:"), 4);
     REFUSED(LINE("A-0>B-0,1-0,2,3,4,5,6,7,8-0,9-0:"), 5);
     REFUSED(LINE("A-0>B-0,C-0,qAC:"), 6);
-    REFUSED(LINE("A-0>B-0,C-0:>hi"), 7);
+    REFUSED(LINE("A-0>B-0,C-0:!/5L!!<*e7>7P["), 7);
     REFUSED(LINE("A-0>B-0,C-0:!9000.01N/00000.00E-"), 8);
     REFUSED(LINE("A-0>LLLLLL-0,C-0:`(_fn\"Oj/"), 11);
     REFUSED(LINE("A-0>S32U6T-0,C-0:`(_fn\"Oj"), 12);
@@ -153,13 +154,13 @@ static void check_line_refusals(void) {
     REFUSED(LINE("A>B,1,2,3,4,5,6,7,8:"), 0);
     REFUSED(LINE("A>B,1,2,3,4,5,6,7,8,:"), 5);
     REFUSED(LINE("A>B,qA*:"), 6);
-    REFUSED(LINE("N0CALL>APRS:>hi"), 7);
     REFUSED(LINE("A>B:!/5L!!<*e7>7P["), 7);
     REFUSED(LINE("A>B:!00 0.00N/00000.00E-"), 8);
     REFUSED(LINE("A>B:!0000.00N/000 0.00E-"), 9);
     REFUSED(LINE("A>B:!4903.50N/07201.75"), 10);
     REFUSED(LINE("A>0000L:`(_fn\"Oj/"), 11);
     REFUSED(LINE("A>S32U6T:`(_fn\"Oj"), 12);
+    REFUSED(LINE("A>B::x"), 18);
 }
 
 #define TO "\x82\xa0\xa4\xa6@@\xe0"
@@ -193,12 +194,13 @@ static void check_frames(void) {
     REFUSED(FRAME(TO "\x9d\x60\x86\x82\x98\x98\x63" PAIR), 3);
     REFUSED(FRAME(TO FROM HOP HOP HOP HOP HOP HOP HOP LAST_HOP PAIR), 0);
     REFUSED(FRAME(TO FROM HOP HOP HOP HOP HOP HOP HOP HOP), 5);
-    REFUSED(FRAME(TO LAST_FROM PAIR ":x"), 7);
+    REFUSED(FRAME(TO LAST_FROM PAIR "!/5L!!<*e7>7P["), 7);
     REFUSED(FRAME(TO LAST_FROM PAIR "!9000.01N/00000.00E-"), 8);
     REFUSED(FRAME(TO LAST_FROM PAIR "!9000.00N/18000.01E-"), 9);
     REFUSED(FRAME(TO LAST_FROM PAIR "!9000.00N/"), 10);
     REFUSED(FRAME(TO LAST_FROM PAIR "`(_fn\"Oj/"), 11);
     REFUSED(FRAME(MIC_E_TO LAST_FROM PAIR "`(_fn\"Oj"), 12);
+    REFUSED(FRAME(TO LAST_FROM PAIR ":x"), 18);
     uint8_t frame[513] = TO LAST_FROM PAIR;
     REFUSED(read_lent(tusselgro_read_frame, frame, 512), 0);
     REFUSED(read_lent(tusselgro_read_frame, frame, 513), 1);

@@ -1,11 +1,12 @@
-/* Records written: document 01's values, document 02's letters, marks and times, every refusal of a writer, and wild records. */
+/* Records written: document 01's values, document 02's letters, marks and times, every refusal of a writer, and wild records.
+   messages.c has messages and status lines. */
 #include "check.h"
 
 #include <stdio.h>
 #include <string.h>
 
-#define TEXT(record, comment, room) write_lent(tusselgro_write_text, record, BYTES(comment), room)
-#define FRAME(record, comment, room) write_lent(tusselgro_write_frame, record, BYTES(comment), room)
+#define TEXT(record, comment, room) write_lent(tusselgro_write_text, record, SLICE(comment), SLICE(""), room)
+#define FRAME(record, comment, room) write_lent(tusselgro_write_frame, record, SLICE(comment), SLICE(""), room)
 #define READ(string) tusselgro_read_text(BYTES(string)).record
 
 static const char position_line[] = "N0CALL-01>APRS,WIDE1-1,WIDE2-2*,K1A:!4903.50N/07201.75W-Test";
@@ -88,8 +89,8 @@ static void check_marked_refusals(void) {
     HOLDS(answer.needed == 57);
     uint8_t comment[512];
     memset(comment, 'x', sizeof comment);
-    REFUSED(write_lent(tusselgro_write_text, r, comment, 512 - 56, 512), 0);
-    REFUSED(write_lent(tusselgro_write_text, r, comment, 512 - 55, 512), 1);
+    REFUSED(write_lent(tusselgro_write_text, r, (slice){comment, 512 - 56}, SLICE(""), 512), 0);
+    REFUSED(write_lent(tusselgro_write_text, r, (slice){comment, 512 - 55}, SLICE(""), 512), 1);
     REFUSED(FRAME(marked(READ("ABCDEFG>B:!0000.00N/00000.00E-")), "", 512), 13);
     REFUSED(TEXT(READ("A-0>B-0,C-0:hello"), "", 512), 14);
     for (size_t place = 0; place < MARKS; place++) {
@@ -117,7 +118,7 @@ static void writes_timed(timed_body b) {
     r.body.time = b.time;
     HOLDS(wrote(TEXT(r, "Test1234", 4 + size), text, 4 + size));
     HOLDS(wrote(FRAME(r, "Test1234", 16 + size), frame, 16 + size));
-    r.body.comment = (tusselgro_comment){size - 4, 8};
+    r.body.comment = (tusselgro_span){size - 4, 8};
     tusselgro_read back = tusselgro_read_text(text, 4 + size);
     HOLDS(back.refusal == 0 && same_record(&back.record, &r));
     r.body.comment.at = size + 8;
@@ -153,18 +154,18 @@ static void check_timed_refusals(void) {
     answer = FRAME(r, "Test1234", 50);
     REFUSED(answer, 16);
     HOLDS(answer.needed == 51);
-    REFUSED(tusselgro_write_text(r, NULL, 0, NULL, 0), 16);
+    REFUSED(tusselgro_write_text(r, NULL, 0, NULL, 0, NULL, 0), 16);
     uint8_t comment[512];
     memset(comment, 'x', sizeof comment);
-    REFUSED(write_lent(tusselgro_write_text, r, comment, 512 - 31, 512), 0);
-    REFUSED(write_lent(tusselgro_write_text, r, comment, 512 - 30, 512), 1);
-    REFUSED(write_lent(tusselgro_write_frame, r, comment, 512 - 43, 512), 0);
-    REFUSED(write_lent(tusselgro_write_frame, r, comment, 512 - 42, 512), 1);
+    REFUSED(write_lent(tusselgro_write_text, r, (slice){comment, 512 - 31}, SLICE(""), 512), 0);
+    REFUSED(write_lent(tusselgro_write_text, r, (slice){comment, 512 - 30}, SLICE(""), 512), 1);
+    REFUSED(write_lent(tusselgro_write_frame, r, (slice){comment, 512 - 43}, SLICE(""), 512), 0);
+    REFUSED(write_lent(tusselgro_write_frame, r, (slice){comment, 512 - 42}, SLICE(""), 512), 1);
     r.header.from = READ("ABCDEFG>B:").header.from;
     REFUSED(FRAME(r, "", 512), 13);
     r.body.time.day = 32;
     REFUSED(FRAME(r, "", 0), 15);
-    REFUSED(write_lent(tusselgro_write_text, r, comment, 512, 0), 15);
+    REFUSED(write_lent(tusselgro_write_text, r, (slice){comment, 512}, SLICE(""), 0), 15);
 }
 
 /* P4: 799 knots, course 360. P7: 105 degrees east. P10: a hop of a frame that is heard and last. */
@@ -197,12 +198,12 @@ static void check_refusals(void) {
     REFUSED(answer, 16);
     HOLDS(answer.needed == 57);
     REFUSED(FRAME(r, "", 57), 0);
-    REFUSED(tusselgro_write_text(r, NULL, 0, NULL, 0), 16);
+    REFUSED(tusselgro_write_text(r, NULL, 0, NULL, 0, NULL, 0), 16);
     uint8_t comment[512];
     memset(comment, 'x', sizeof comment);
-    REFUSED(write_lent(tusselgro_write_text, r, comment, 512 - 56, 512), 0);
-    REFUSED(write_lent(tusselgro_write_text, r, comment, 512 - 55, 1000), 1);
-    REFUSED(write_lent(tusselgro_write_frame, r, comment, 512 - 56, 1000), 1);
+    REFUSED(write_lent(tusselgro_write_text, r, (slice){comment, 512 - 56}, SLICE(""), 512), 0);
+    REFUSED(write_lent(tusselgro_write_text, r, (slice){comment, 512 - 55}, SLICE(""), 1000), 1);
+    REFUSED(write_lent(tusselgro_write_frame, r, (slice){comment, 512 - 56}, SLICE(""), 1000), 1);
     REFUSED(FRAME(READ("ABCDEFG>B:!0000.00N/00000.00E-"), "", 512), 13);
     REFUSED(FRAME(READ("A-16>B:!0000.00N/00000.00E-"), "", 512), 13);
     REFUSED(TEXT(READ("A>B:hello"), "", 512), 14);
@@ -221,7 +222,7 @@ static void check_refusals(void) {
     } while (0)
 
 static void check_range(void) {
-    SPOILT(position_line, r.body.kind = 3);
+    SPOILT(position_line, r.body.kind = 5);
     SPOILT(position_line, r.body.kind = 255);
     SPOILT(position_line, r.body.kind = TUSSELGRO_UNKNOWN);
     SPOILT(position_line, r.body.place.latitude = 540001);
@@ -310,8 +311,8 @@ static void check_time_range(void) {
     }
 }
 
-/* Every message goes out and comes back. */
-static void check_messages(void) {
+/* Every message of Mic-E goes out and comes back. */
+static void check_mic_e_messages(void) {
     for (uint8_t message = 0; message <= 15; message++) {
         tusselgro_record r = read_record(mic_e_line);
         r.body.report.message = message;
@@ -333,5 +334,5 @@ void check_writing(void) {
     check_timed_refusals();
     check_range();
     check_time_range();
-    check_messages();
+    check_mic_e_messages();
 }

@@ -1,8 +1,8 @@
 // Requests B: the crate's two f64 bounds of an angle, which know no side. The page box is no part of the crate.
 
 use aprs_parser::{AprsCst, AprsPosition, Callsign};
-use crate::record::PRECISIONS;
-use crate::writing::{latitude, longitude};
+use crate::fields::PRECISIONS;
+use crate::pieces::{latitude, longitude};
 use crate::Style;
 use protocol::rules::Limit;
 use protocol::{from_decimal, rules, Mark};

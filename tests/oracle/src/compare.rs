@@ -1,21 +1,21 @@
 // Compares the answers of the port with the oracle's, line by line, and prints tables: by kind of request, by the
-// port's number, by mark, by the place of a dropped zero, by what became of a time. Fails on a difference that is on no
-// list, on unequal counts, and on a kind that compared nothing. Of two refusals only the fact counts, but where a time
-// decides; pairs of unequal numbers are told at the end and fail nothing.
+// port's number, by mark, by the place of a dropped zero, by what became of a time, a message or a status. Fails on a
+// difference that is on no list, on unequal counts, and on a kind that compared nothing. Of two refusals only the fact
+// counts, but where a time, a message or a status decides; pairs of unequal numbers are told at the end and fail nothing.
 
+mod counts;
 mod judge;
 
 use std::collections::BTreeMap;
 use std::fs::File;
 use std::io::{self, BufReader};
 
+use counts::Counts;
 use judge::{judge, Judgement, Rewritten, Verdict};
-use protocol::{from_decimal, next_line, words, BAD_TIME};
+use protocol::{from_decimal, next_line, words};
 
 const MOST_SHOWN: u64 = 20;
 const COLUMNS: [&str; 6] = ["accepted", "refused", "on shim", "outside", "listed", "different"];
-const ZERO_AT: [&str; 4] = ["anywhere", "source", "destination", "a hop"];
-const TIMES: [&str; 5] = ["accepted, z", "accepted, /", "accepted, h", "refused: 17, or 15", "of these listed"];
 const WAYS: [(&str, &[u8]); 3] = [("reading", b"TF"), ("writing", b"W"), ("bounds", b"B")];
 
 struct Kind {
@@ -30,27 +30,21 @@ struct Tally {
     by_number: BTreeMap<u32, [u64; 3]>,
     by_mark: BTreeMap<&'static str, [u64; 2]>,
     rewritten: BTreeMap<&'static str, u64>,
-    zeros: [[u64; 2]; 4],
-    times: [[u64; 2]; 5],
+    counts: Counts,
     unequal_refusals: BTreeMap<(i64, i64), u64>,
     faults: Vec<String>,
     differences: u64,
 }
 
-fn first_number(answer: &[u8]) -> Option<i64> {
+pub fn first_number(answer: &[u8]) -> Option<i64> {
     words(answer).first().and_then(|word| from_decimal(word))
-}
-
-/// The value of the word of this name, as `zeros=`, in a request or an answer.
-fn value_of<'a>(line: &'a [u8], name: &[u8]) -> Option<&'a [u8]> {
-    words(line).into_iter().find_map(|word| word.strip_prefix(name))
 }
 
 fn column(verdict: &Verdict) -> usize {
     match verdict {
         Verdict::Accepted => 0,
         Verdict::Refused => 1,
-        Verdict::RefusedOnShim => 2,
+        Verdict::OnShim => 2,
         Verdict::Outside(_) => 3,
         Verdict::Listed(_) => 4,
         Verdict::Different(_) => 5,
@@ -82,41 +76,6 @@ impl Tally {
                 Rewritten::Marked(mark) => mark.name(),
             };
             *self.rewritten.entry(name).or_default() += 1;
-        }
-    }
-
-    /// Counts the places of dropped zeros in an answer that was read, or in a record to be written, once it is judged.
-    fn note_zeros(&mut self, request: &[u8], ours: &[u8]) {
-        let (way, line) = match request[0] {
-            b'T' | b'F' => (0, ours),
-            b'W' => (1, request),
-            _ => return,
-        };
-        if let Some([source, destination, hops @ ..]) = value_of(line, b"zeros=") {
-            let found = [*source == b'1', *destination == b'1', hops.contains(&b'1')];
-            let anywhere = found.contains(&true);
-            for (row, found) in self.zeros.iter_mut().zip([anywhere].into_iter().chain(found)) {
-                row[way] += u64::from(found);
-            }
-        }
-    }
-
-    /// Counts a time that was read or refused, or a record to be written that has one, once it is judged.
-    fn note_time(&mut self, request: &[u8], ours: &[u8], verdict: &Verdict) {
-        let (way, line, refused) = match request[0] {
-            b'T' | b'F' => (0, ours, i64::from(BAD_TIME)),
-            b'W' => (1, request, 15),
-            _ => return,
-        };
-        let letter = value_of(line, b"time=").and_then(<[u8]>::last);
-        let form = letter.and_then(|letter| b"z/h".iter().position(|form| form == letter));
-        match (first_number(ours), form) {
-            (Some(0), Some(form)) => self.times[form][way] += 1,
-            (Some(number), _) if number == refused && (way == 0 || form.is_some()) => {
-                self.times[3][way] += 1;
-                self.times[4][way] += u64::from(matches!(verdict, Verdict::Listed(mark) if mark.is_listed_time()));
-            }
-            _ => {}
         }
     }
 
@@ -183,10 +142,7 @@ fn compare(requests: &str, index: &str, oracle: &str, ours: &str) -> io::Result<
             tally.note(kind, [request, oracle, ours], &judgement);
             match judgement.verdict {
                 Verdict::Different(what) => tally.show_difference(kind, line, what, [request, oracle, ours]),
-                verdict => {
-                    tally.note_zeros(request, ours);
-                    tally.note_time(request, ours, &verdict);
-                }
+                _ => tally.counts.note(request, ours, &judgement),
             }
         }
     }
@@ -226,13 +182,6 @@ fn print_numbers(by_number: &BTreeMap<u32, [u64; 3]>) {
     }
 }
 
-fn print_ways(heading: &str, names: &[&str], counts: &[[u64; 2]]) {
-    println!("\n{:<24}{:>10}{:>10}", heading, "reading", "writing");
-    for (name, [read, written]) in names.iter().zip(counts) {
-        println!("{:<24}{:>10}{:>10}", name, read, written);
-    }
-}
-
 fn print_marks(tally: &Tally) {
     println!("\n{:<24}{:>10}{:>10}", "mark", "outside", "listed");
     for (mark, [outside, listed]) in &tally.by_mark {
@@ -266,8 +215,7 @@ fn main() {
     print_kinds(&tally.kinds);
     print_numbers(&tally.by_number);
     print_marks(&tally);
-    print_ways("dropped zero at", &ZERO_AT, &tally.zeros);
-    print_ways("time", &TIMES, &tally.times);
+    tally.counts.print();
     println!();
     tally.faults.iter().for_each(|fault| println!("compare: {}", fault));
     if tally.differences > 0 || !tally.faults.is_empty() {

@@ -97,7 +97,7 @@ fn damage(random: &mut Random, bytes: &mut Vec<u8>) {
     }
 }
 
-fn damaged(random: &mut Random, mut bytes: Vec<u8>) -> Vec<u8> {
+pub fn damaged(random: &mut Random, mut bytes: Vec<u8>) -> Vec<u8> {
     for _ in 0..random.between(1, 3) {
         damage(random, &mut bytes);
     }
@@ -126,13 +126,17 @@ fn with_zero_or_nearly(random: &mut Random, call: &[u8]) -> Vec<u8> {
     [call, ssid.as_bytes(), star.as_bytes()].concat()
 }
 
-/// Lines of every kind with SSID `0` at source, destination and hops; one in eight damaged.
-pub fn text_zeros(random: &mut Random) -> Request {
-    let made = any_packet(random);
+pub fn line_with_zeros(random: &mut Random, made: &Packet) -> Vec<u8> {
     let from = with_zero_or_nearly(random, &made.from.call);
     let to = with_zero_or_nearly(random, &made.to.call);
     let hops: Vec<Vec<u8>> = made.hops.iter().map(|hop| with_zero_or_nearly(random, &hop.call)).collect();
-    let good = line(&from, &to, &hops, &made.body);
+    line(&from, &to, &hops, &made.body)
+}
+
+/// Lines of every kind with SSID `0` at source, destination and hops; one in eight damaged.
+pub fn text_zeros(random: &mut Random) -> Request {
+    let made = any_packet(random);
+    let good = line_with_zeros(random, &made);
     Request::Text(if random.one_in(8) { damaged(random, good) } else { good })
 }
 
@@ -161,7 +165,7 @@ fn angle(random: &mut Random, limit: i64) -> i64 {
     }
 }
 
-fn record(random: &mut Random, kind: &'static str) -> Record {
+pub fn record(random: &mut Random, kind: &'static str) -> Record {
     let mut record = Record::good(kind);
     record.form = *random.pick(&[Form::Text, Form::Frame]);
     record.room = *random.pick(&[512, 512, 600, 90, 40]);
@@ -174,7 +178,7 @@ fn record(random: &mut Random, kind: &'static str) -> Record {
     if kind != "mic-e" {
         record.to = (call(random), ssid_text(random));
     }
-    if kind != "unknown" {
+    if record.has_angles() {
         record.flag = random.below(2);
         record.latitude = angle(random, LATITUDE_LIMIT);
         record.longitude = angle(random, LONGITUDE_LIMIT);
@@ -206,7 +210,7 @@ fn agreeing_letter(random: &mut Random, limit: Limit, angle: i64) -> u8 {
 fn letters(random: &mut Random, record: &Record) -> Option<[u8; 2]> {
     match random.below(4) {
         0 | 1 => None,
-        2 if record.kind == "unknown" => Some(*b"--"),
+        2 if !record.has_angles() => Some(*b"--"),
         2 => Some([
             agreeing_letter(random, Limit::Latitude, record.latitude),
             agreeing_letter(random, Limit::Longitude, record.longitude),
@@ -253,7 +257,7 @@ pub fn written_mic_e(random: &mut Random) -> Request {
 }
 
 /// A time; one time in four two of its digits are any.
-fn time_word(random: &mut Random) -> String {
+pub fn time_word(random: &mut Random) -> String {
     let mut time = good_time(random);
     if random.one_in(4) {
         let at = 2 * random.below(3);

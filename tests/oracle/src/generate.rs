@@ -3,6 +3,9 @@
 // every machine.
 
 mod drawn;
+mod messages_drawn;
+mod messages_whole;
+mod messages_written;
 mod packets;
 mod random;
 mod records;
@@ -32,7 +35,7 @@ enum Maker {
 
 use Maker::{Drawn, Sampled, Whole};
 
-const KINDS: [(&str, Maker); 56] = [
+const KINDS: [(&str, Maker); 77] = [
     ("text-unknown", Drawn(drawn::text_unknown)),
     ("text-position", Drawn(drawn::text_position)),
     ("text-mic-e", Drawn(drawn::text_mic_e)),
@@ -66,6 +69,21 @@ const KINDS: [(&str, Maker); 56] = [
     ("timed-cut", Whole(timed::timed_cut)),
     ("timed-first-bytes", Whole(timed::timed_first_bytes)),
     ("timed-positions", Whole(timed::timed_positions)),
+    ("text-message", Drawn(messages_drawn::text_message)),
+    ("text-status", Drawn(messages_drawn::text_status)),
+    ("frame-message", Drawn(messages_drawn::frame_message)),
+    ("frame-status", Drawn(messages_drawn::frame_status)),
+    ("message-bytes", Whole(messages_whole::message_bytes)),
+    ("message-shapes", Whole(messages_whole::message_shapes)),
+    ("addressees", Whole(messages_whole::addressees)),
+    ("message-cut", Whole(messages_whole::message_cut)),
+    ("message-lengths", Whole(messages_whole::message_lengths)),
+    ("status-bytes", Whole(messages_whole::status_bytes)),
+    ("status-shapes", Whole(messages_whole::status_shapes)),
+    ("status-times", Whole(messages_whole::status_times)),
+    ("all-status-times", Sampled(messages_whole::all_status_times)),
+    ("status-lengths", Whole(messages_whole::status_lengths)),
+    ("message-headers", Whole(messages_whole::message_headers)),
     ("hops", Whole(whole::hops)),
     ("frame-shapes", Whole(whole::frame_shapes)),
     ("callsigns", Whole(whole::callsigns)),
@@ -87,6 +105,12 @@ const KINDS: [(&str, Maker); 56] = [
     ("written-zeros", Whole(whole::written_zeros)),
     ("written-times", Whole(timed::written_times)),
     ("written-callsigns", Whole(whole::written_callsigns)),
+    ("written-message", Drawn(messages_drawn::written_message)),
+    ("written-status", Drawn(messages_drawn::written_status)),
+    ("written-messages", Whole(messages_written::written_messages)),
+    ("written-statuses", Whole(messages_written::written_statuses)),
+    ("written-orders", Whole(messages_written::written_orders)),
+    ("written-said", Whole(messages_written::written_said)),
     ("bounds", Drawn(drawn::bounds)),
     ("bounds-limits", Whole(whole::bounds_limits)),
 ];

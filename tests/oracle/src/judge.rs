@@ -1,17 +1,20 @@
 // Judges one request: are the oracle's answer and the port's equal on document 01's domain of equality?
-// Of two refusals only the fact counts; where the oracle marks its answer, the documents' own number is demanded. What the Rust does
-// not have, the letters, the dropped zeros, the page box and the numbers of a bad time, is held to document 02's rules.
+// Of two refusals only the fact counts; where the oracle marks its answer, the documents' own number, or the record that stands behind the
+// mark, is demanded. What the Rust does not have, the letters, the dropped zeros, the page box and the numbers of a bad time, a malformed
+// message or a malformed status, is held to document 02's rules.
 
 use protocol::rules::{self, Limit};
-use protocol::{from_decimal, from_hex, words, Form, Mark, BAD_TIME};
+use protocol::{from_decimal, from_hex, words, Form, Mark, BAD_TIME, MALFORMED};
 
 const WRITTEN_FIELDS: [&[u8]; 2] = [b"text=", b"frame="];
+/// The words behind the written fields: two by rule, and three that are the Rust's.
+const BEHIND: [&str; 5] = ["the letters", "the zeros", "the time", "the addressee", "the identifier"];
 
 #[derive(Clone, Debug, PartialEq, Eq)]
 pub enum Verdict {
     Accepted,
     Refused,
-    RefusedOnShim,
+    OnShim,
     Outside(Mark),
     Listed(Mark),
     Different(&'static str),
@@ -39,11 +42,11 @@ impl From<Verdict> for Judgement {
 }
 
 fn is_of_reading(number: u32) -> bool {
-    matches!(number, 1..=12 | BAD_TIME)
+    matches!(number, 1..=12 | BAD_TIME | MALFORMED)
 }
 
 fn is_of_writing(number: u32) -> bool {
-    matches!(number, 1..=16)
+    matches!(number, 1..=16 | MALFORMED)
 }
 
 fn refusal(word: &[u8], is_known: fn(u32) -> bool) -> Option<u32> {
@@ -98,36 +101,33 @@ fn words_by_rule(request: &[u8], kind: &[u8]) -> Option<[Vec<u8>; 2]> {
     rules::record_words(kind, &input, form)
 }
 
-/// What is wrong with the words behind the Rust's fields: two by rule, and the time, which is the Rust's again.
-fn fault_behind(request: &[u8], kind: &[u8], time: &[u8], ours: &[&[u8]]) -> Option<&'static str> {
-    let [letters, zeros] = match words_by_rule(request, kind) {
+/// What is wrong with the words behind the written fields.
+fn fault_behind(request: &[u8], kind: &[u8], rust: &[&[u8]], ours: &[&[u8]]) -> Option<&'static str> {
+    let by_rule = match words_by_rule(request, kind) {
         Some(words) => words,
         None => return Some("a request without what document 02 asks for"),
     };
-    if ours.first().copied() != Some(&letters[..]) {
-        Some("the letters")
-    } else if ours.get(1).copied() != Some(&zeros[..]) {
-        Some("the zeros")
-    } else if ours.get(2).copied() != Some(time) {
-        Some("the time")
-    } else if ours.len() > 3 {
-        Some("a word too many")
-    } else {
-        None
+    let wanted: Vec<&[u8]> = by_rule.iter().map(Vec::as_slice).chain(rust.iter().copied()).collect();
+    let unequal = (0..BEHIND.len()).find(|place| wanted.get(*place) != ours.get(*place));
+    match unequal {
+        Some(place) => Some(BEHIND[place]),
+        None if ours.len() > BEHIND.len() => Some("a word too many"),
+        None => None,
     }
 }
 
-fn judge_record(request: &[u8], oracle: &[u8], ours: &[u8]) -> Judgement {
-    let (oracle, ours) = (words(oracle), words(ours));
-    let (time, fields) = match oracle.split_last() {
-        Some((time, fields)) if time.starts_with(b"time=") => (time, fields),
-        _ => return Different("no time of the Rust").into(),
+/// Judges the port's answer beside a record of the oracle's, which `accepted` names where the port has refused.
+fn judge_record(request: &[u8], oracle: &[&[u8]], ours: &[u8], accepted: &'static str) -> Judgement {
+    let ours = words(ours);
+    let (fields, rust_behind) = match oracle.iter().position(|word| word.starts_with(b"time=")) {
+        Some(time) if oracle.len() == time + 3 => oracle.split_at(time),
+        _ => return Different("no time, addressee and identifier of the Rust").into(),
     };
     if ours.len() < fields.len() {
-        return Different("accepted by the Rust").into();
+        return Different(accepted).into();
     }
     let (ours, behind) = ours.split_at(fields.len());
-    if let Some(fault) = fault_behind(request, fields[1], time, behind) {
+    if let Some(fault) = fault_behind(request, fields[1], rust_behind, behind) {
         return Different(fault).into();
     }
     let mut rewritten = Vec::new();
@@ -152,13 +152,26 @@ fn judge_record(request: &[u8], oracle: &[u8], ours: &[u8]) -> Judgement {
     }
 }
 
-/// What is wrong with a number beside a refusal of the Rust: a time that is missing or bad decides it, and nothing else is 17.
+/// What is wrong with a number beside a refusal of the Rust: a time that is missing or bad decides it, or a malformed message or status,
+/// and nothing else is 17 or 18.
 fn fault_of_number(request: &[u8], rust: &[u8], ours: u32) -> Option<&'static str> {
     let (input, form) = input_of(request)?;
-    match rules::decided_by_time(&input, form, refusal(rust, is_of_reading)?) {
-        Some(number) if number != ours => Some("the number, where a time decides it"),
+    let decided = rules::decided_by_body(&input, form, refusal(rust, is_of_reading)?);
+    match decided {
+        Some(number) if number == ours => None,
+        Some(MALFORMED) => Some("the number of a malformed message or status"),
+        Some(_) => Some("the number, where a time decides it"),
         None if ours == BAD_TIME => Some("17, where no time decides"),
-        _ => None,
+        None if ours == MALFORMED => Some("18, where neither message nor status is malformed"),
+        None => None,
+    }
+}
+
+/// A record that was found equal, counted as what its mark says.
+fn counted_as(verdict: Verdict, judgement: Judgement) -> Judgement {
+    match judgement.verdict {
+        Accepted => Judgement { verdict, ..judgement },
+        _ => judgement,
     }
 }
 
@@ -176,7 +189,14 @@ fn judge_reading(request: &[u8], oracle: &[u8], ours: &[u8]) -> Judgement {
         None => Different(otherwise).into(),
     };
     match words(oracle).as_slice() {
-        [b"0", _, ..] => judge_record(request, oracle, ours),
+        record @ [b"0", _, ..] => judge_record(request, record, ours, "accepted by the Rust"),
+        [b"outside", mark, _, record @ ..] if !record.is_empty() => match Mark::named(mark) {
+            Some(mark) => counted_as(mark_or_outside(mark), judge_record(request, record, ours, "accepted by document 02")),
+            None => Different("an unknown mark").into(),
+        },
+        [b"shim", _, record @ ..] if !record.is_empty() => {
+            counted_as(OnShim, judge_record(request, record, ours, "accepted by the shim and by document 02"))
+        }
         [b"outside", mark, b"0"] => match Mark::named(mark) {
             Some(mark) => demanded(
                 refused.is_some() && refused == mark.number_read(),
@@ -190,7 +210,7 @@ fn judge_reading(request: &[u8], oracle: &[u8], ours: &[u8]) -> Judgement {
             Some(mark) => demanded(refused.is_some(), Outside(mark), "refused by the Rust and by document 01"),
             None => Different("an unknown mark").into(),
         },
-        [b"shim", number] => refused_too(number, RefusedOnShim, "refused by the shim and by the documents"),
+        [b"shim", number] => refused_too(number, OnShim, "refused by the shim and by the documents"),
         [number] if refusal(number, is_of_reading).is_some() => refused_too(number, Refused, "refused by the Rust"),
         _ => Different("no answer of the Rust").into(),
     }
@@ -216,6 +236,7 @@ fn judge_writing(request: &[u8], oracle: &[u8], ours: &[u8]) -> Verdict {
         [number, ..] if refusal(number, is_of_writing).is_some() => {
             let number = words(ours).first().and_then(|number| refusal(number, is_of_writing));
             match number {
+                Some(MALFORMED) => Different("18, where nothing handed over is malformed"),
                 Some(number) if ours == untouched(number, room) => Refused,
                 _ => Different("refused by the Rust"),
             }

@@ -4,8 +4,11 @@
 // in for the port when the comparison itself is tested.
 
 mod bounds;
+mod fields;
+mod pieces;
 mod reading;
 mod record;
+mod request;
 mod writing;
 
 use std::io::{self, BufReader, BufWriter, Write};

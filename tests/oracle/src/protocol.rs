@@ -1,9 +1,13 @@
-// What the programs of this folder share: hexadecimal, whole numbers, lines of a file, the parts of a packet, and the marks
-// that the oracle puts on answers outside document 01's domain of equality.
+// What the programs of this folder share: hexadecimal, whole numbers, lines of a file, the parts of a packet, the marks that the
+// oracle puts on answers outside document 01's domain of equality, and document 02's rules.
 
+mod mark;
+pub mod messages;
 pub mod rules;
 
 use std::io::{self, BufRead};
+
+pub use mark::Mark;
 
 /// The longest line or frame that document 01 admits, and the longest output.
 pub const LONGEST: usize = 512;
@@ -11,13 +15,14 @@ pub const LONGEST_CALLSIGN: usize = 16;
 pub const MOST_HOPS: usize = 8;
 pub const LATITUDE_LIMIT: i64 = 540_000;
 pub const LONGITUDE_LIMIT: i64 = 1_080_000;
-/// Document 02's number for a bad time in a body.
+/// Document 02's numbers for a bad time in a body, and for a malformed message or status.
 pub const BAD_TIME: u32 = 17;
+pub const MALFORMED: u32 = 18;
 const ADDRESS: usize = 7;
 
 /// True of a number that a reader gives for a body, once the header was read.
 pub fn is_of_body(number: u32) -> bool {
-    matches!(number, 7..=12 | BAD_TIME)
+    matches!(number, 7..=12 | BAD_TIME | MALFORMED)
 }
 
 #[derive(Clone, Copy, PartialEq, Eq)]
@@ -112,133 +117,4 @@ pub fn next_line(input: &mut impl BufRead, line: &mut Vec<u8>) -> io::Result<boo
         line.pop();
     }
     Ok(true)
-}
-
-/// Why an input, or a record to be written, lies outside the domain of equality.
-#[derive(Clone, Copy, Debug, PartialEq, Eq)]
-pub enum Mark {
-    TooLong,
-    CallsignLength,
-    Hops,
-    QElement,
-    BodyKind,
-    Digits,
-    TimeDigits,
-    Range,
-    CallsignText,
-    SsidZero,
-    Parts,
-    Letters,
-    Symbol,
-    MicE180,
-    TimeDay,
-    TimeHour,
-    TimeMinute,
-    TimeSecond,
-    TimeCapital,
-    LocalRange,
-    LocalDigits,
-}
-
-impl Mark {
-    pub const ALL: [Mark; 21] = [
-        Mark::TooLong,
-        Mark::CallsignLength,
-        Mark::Hops,
-        Mark::QElement,
-        Mark::BodyKind,
-        Mark::Digits,
-        Mark::TimeDigits,
-        Mark::Range,
-        Mark::CallsignText,
-        Mark::SsidZero,
-        Mark::Parts,
-        Mark::Letters,
-        Mark::Symbol,
-        Mark::MicE180,
-        Mark::TimeDay,
-        Mark::TimeHour,
-        Mark::TimeMinute,
-        Mark::TimeSecond,
-        Mark::TimeCapital,
-        Mark::LocalRange,
-        Mark::LocalDigits,
-    ];
-
-    pub fn name(self) -> &'static str {
-        match self {
-            Mark::TooLong => "too-long",
-            Mark::CallsignLength => "callsign-length",
-            Mark::Hops => "hops",
-            Mark::QElement => "q-element",
-            Mark::BodyKind => "body-kind",
-            Mark::Digits => "digits",
-            Mark::TimeDigits => "time-digits",
-            Mark::Range => "range",
-            Mark::CallsignText => "callsign-text",
-            Mark::SsidZero => "ssid-zero",
-            Mark::Parts => "parts",
-            Mark::Letters => "letters",
-            Mark::Symbol => "symbol",
-            Mark::MicE180 => "mic-e-180",
-            Mark::TimeDay => "time-day",
-            Mark::TimeHour => "time-hour",
-            Mark::TimeMinute => "time-minute",
-            Mark::TimeSecond => "time-second",
-            Mark::TimeCapital => "time-capital",
-            Mark::LocalRange => "local-range",
-            Mark::LocalDigits => "local-digits",
-        }
-    }
-
-    pub fn named(name: &[u8]) -> Option<Mark> {
-        Mark::ALL.into_iter().find(|mark| mark.name().as_bytes() == name)
-    }
-
-    /// The number that document 01, and for a time document 02, gives to a reader's input so marked; `Digits` is 8 or 9, as the place
-    /// has it.
-    pub fn number_read(self) -> Option<u32> {
-        match self {
-            Mark::TooLong => Some(1),
-            Mark::CallsignLength => Some(4),
-            Mark::Hops => Some(5),
-            Mark::QElement => Some(6),
-            Mark::BodyKind => Some(7),
-            Mark::TimeDigits => Some(BAD_TIME),
-            mark if mark.is_listed_time() => Some(BAD_TIME),
-            _ => None,
-        }
-    }
-
-    /// True of a reader's input whose header is not what leaves the domain.
-    pub fn is_of_body(self) -> bool {
-        self.number_read().map_or(true, is_of_body)
-    }
-
-    /// The number that document 01, and for letters and times document 02, gives to a record so marked when it is to be written or bounded.
-    pub fn number_written(self) -> u32 {
-        match self {
-            Mark::TooLong => 1,
-            _ => 15,
-        }
-    }
-
-    /// True of what the Rust takes for a time and document 02 does not.
-    pub fn is_listed_time(self) -> bool {
-        matches!(
-            self,
-            Mark::TimeDay
-                | Mark::TimeHour
-                | Mark::TimeMinute
-                | Mark::TimeSecond
-                | Mark::TimeCapital
-                | Mark::LocalRange
-                | Mark::LocalDigits
-        )
-    }
-
-    /// True for the two cases that document 01 itself lists as differences from the Rust, and for such times.
-    pub fn is_listed_difference(self) -> bool {
-        matches!(self, Mark::Symbol | Mark::MicE180) || self.is_listed_time()
-    }
 }

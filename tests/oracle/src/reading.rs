@@ -1,10 +1,17 @@
 // Requests T and F: an input read by the crate, judged for document 01's domain of equality, and answered.
 
-use aprs_parser::{AprsCst, AprsData, AprsPacket, AprsPosition, DecodeError};
+use aprs_parser::{AprsCst, AprsData, AprsPacket, AprsPosition, AprsStatus, DecodeError};
 use watch::Seen;
+use crate::pieces;
 use crate::record::push_record;
 use crate::{caught, Style};
-use protocol::{body_of, callsigns_of, from_hex, rules, Form, Mark, BAD_TIME, LONGEST, LONGEST_CALLSIGN, MOST_HOPS};
+use protocol::rules::TIME_LENGTH;
+use protocol::{
+    body_of, callsigns_of, from_hex, is_of_body, messages, number_of_addresses, rules, Form, Mark, BAD_TIME, LONGEST, LONGEST_CALLSIGN,
+    MALFORMED, MOST_HOPS,
+};
+
+type Decoded = Result<AprsPacket, DecodeError>;
 
 /// The documents' number for the crate's error, as far as the error tells it.
 fn number_of(error: &DecodeError) -> u32 {
@@ -12,10 +19,8 @@ fn number_of(error: &DecodeError) -> u32 {
         DecodeError::InvalidPacket(_) => 2,
         DecodeError::InvalidCallsign(_) | DecodeError::InvalidVia(_) => 3,
         DecodeError::InvalidTimestamp(_) => BAD_TIME,
-        DecodeError::UnsupportedPositionFormat(_)
-        | DecodeError::InvalidMessageDestination(_)
-        | DecodeError::InvalidMessageId(_)
-        | DecodeError::InvalidCs(_) => 7,
+        DecodeError::InvalidMessageDestination(_) | DecodeError::InvalidMessageId(_) => MALFORMED,
+        DecodeError::UnsupportedPositionFormat(_) | DecodeError::InvalidCs(_) => 7,
         DecodeError::InvalidLatitude(_) => 8,
         DecodeError::InvalidLongitude(_) => 9,
         DecodeError::InvalidPosition(_) => 10,
@@ -48,29 +53,45 @@ fn mark_of_text_header(line: &[u8]) -> Option<Mark> {
     })
 }
 
-fn mark_of_header(input: &[u8], form: Form, decoded: &Result<AprsPacket, DecodeError>) -> Option<Mark> {
-    match (form, decoded) {
-        (Form::Text, _) => mark_of_text_header(input),
-        (Form::Frame, Ok(packet)) if packet.via.len() > MOST_HOPS => Some(Mark::Hops),
-        (Form::Frame, _) => None,
+/// A ninth hop of a frame whose header the crate has read.
+fn mark_of_frame_header(frame: &[u8], decoded: &Decoded) -> Option<Mark> {
+    let is_read = decoded.as_ref().map_or_else(|error| is_of_body(number_of(error)), |_| true);
+    if is_read && number_of_addresses(frame)? > 2 + MOST_HOPS {
+        Some(Mark::Hops)
+    } else {
+        None
     }
 }
 
-/// What the stand-in for bytes.rs was asked, where its answer can have mattered: a time that ends in no letter of a time is refused
-/// whatever stands before it.
-fn asked_of_shim(decoded: &Result<AprsPacket, DecodeError>) -> Seen {
+fn mark_of_header(input: &[u8], form: Form, decoded: &Decoded) -> Option<Mark> {
+    match form {
+        Form::Text => mark_of_text_header(input),
+        Form::Frame => mark_of_frame_header(input, decoded),
+    }
+}
+
+fn ends_in_letter_of_time(seven: &[u8]) -> bool {
+    matches!(seven.last(), Some(b'z' | b'Z' | b'h' | b'H'))
+}
+
+/// What the stand-in for bytes.rs was asked, where its answer can have mattered: a time that ends in no letter of a time is refused, or is
+/// no time of a status, whatever stands before it.
+fn asked_of_shim(decoded: &Decoded) -> Seen {
     match decoded {
-        Err(DecodeError::InvalidTimestamp(time)) if !matches!(time.last(), Some(b'z' | b'Z' | b'h' | b'H')) => Seen::Digits,
+        Err(DecodeError::InvalidTimestamp(time)) if !ends_in_letter_of_time(time) => Seen::Digits,
+        Ok(packet) => match &packet.data {
+            AprsData::Status(status) if !status.comment().get(..TIME_LENGTH).map_or(false, ends_in_letter_of_time) => Seen::Digits,
+            _ => watch::seen(),
+        },
         _ => watch::seen(),
     }
 }
 
-/// True of a body that the port does not carry and the crate does: message, status, compressed position. A time that is missing or bad
-/// is refused before that.
+/// True of a body that the port does not carry and the crate does: a compressed position. A time that is missing or bad is refused before
+/// that.
 fn is_not_carried(body: &[u8]) -> bool {
     let first = rules::behind_time(body).and_then(<[u8]>::first);
     match body.first() {
-        Some(b':' | b'>') => true,
         Some(b'!' | b'=' | b'/' | b'@') => {
             rules::time_refusal(body).is_none() && !char::from(*first.unwrap_or(&0)).is_numeric()
         }
@@ -85,44 +106,100 @@ fn mark_of_position(position: &AprsPosition, body: &[u8]) -> Option<Mark> {
     }
 }
 
+/// A status that is malformed, or one whose first seven bytes are a time to the crate, as the list has it, and none to document 02.
+fn mark_of_status(status: &AprsStatus, body: &[u8]) -> Option<Mark> {
+    let seven = body.get(1..1 + TIME_LENGTH);
+    let time = seven.and_then(pieces::timestamp);
+    let is_as_listed = time.is_some() && status.timestamp() == time.as_ref() && status.comment() == &body[1 + TIME_LENGTH..];
+    match messages::mark_of_body(body) {
+        None if is_as_listed => seven.and_then(messages::mark_of_status_time),
+        mark => mark,
+    }
+}
+
 /// Bytes that are neither digits nor blanks reached the stand-in.
-fn mark_of_shim(decoded: &Result<AprsPacket, DecodeError>) -> Option<Mark> {
-    match (asked_of_shim(decoded), decoded) {
-        (Seen::Other, Err(DecodeError::InvalidTimestamp(_))) => Some(Mark::TimeDigits),
-        (Seen::Other, _) => Some(Mark::Digits),
+fn mark_of_shim(decoded: &Decoded) -> Option<Mark> {
+    let is_time = match decoded {
+        Ok(packet) => matches!(packet.data, AprsData::Status(_)),
+        Err(error) => matches!(error, DecodeError::InvalidTimestamp(_)),
+    };
+    match asked_of_shim(decoded) {
+        Seen::Other if is_time => Some(Mark::TimeDigits),
+        Seen::Other => Some(Mark::Digits),
         _ => None,
     }
 }
 
-fn mark_of_body(body: &[u8], decoded: &Result<AprsPacket, DecodeError>) -> Option<Mark> {
+fn mark_of_body(body: &[u8], decoded: &Decoded) -> Option<Mark> {
     let mark = match decoded {
         Ok(packet) => match &packet.data {
-            AprsData::Message(_) | AprsData::Status(_) => Some(Mark::BodyKind),
+            AprsData::Message(_) => messages::mark_of_body(body),
+            AprsData::Status(status) => mark_of_status(status, body),
             AprsData::Position(position) => mark_of_position(position, body),
             AprsData::MicE(_) | AprsData::Unknown(_) => None,
         },
         Err(DecodeError::InvalidPacket(_) | DecodeError::InvalidCallsign(_) | DecodeError::InvalidVia(_)) => None,
+        Err(DecodeError::InvalidMessageDestination(_)) if messages::has_colon_in_addressee(body) => Some(Mark::AddresseeColon),
         Err(_) if is_not_carried(body) => Some(Mark::BodyKind),
         Err(_) => None,
     };
     mark.or_else(|| mark_of_shim(decoded))
 }
 
-fn mark_of(input: &[u8], form: Form, decoded: &Result<AprsPacket, DecodeError>) -> Option<Mark> {
+fn mark_of(input: &[u8], form: Form, decoded: &Decoded) -> Option<Mark> {
     if input.len() > LONGEST {
         return Some(Mark::TooLong);
     }
     mark_of_header(input, form, decoded).or_else(|| mark_of_body(body_of(input, form)?, decoded))
 }
 
+fn decode(input: &[u8], form: Form) -> Result<Decoded, String> {
+    caught(|| match form {
+        Form::Text => AprsPacket::decode_textual(input),
+        Form::Frame => AprsPacket::decode_ax25(input),
+    })
+}
+
+/// A message whose addressee has a colon, which the crate refuses: it reads one with another byte for each such colon, and has the
+/// addressee given back.
+fn with_colon_in_addressee(input: &[u8], form: Form) -> Option<AprsPacket> {
+    let body = body_of(input, form)?;
+    let addressee = messages::parts_of(body)?.addressee;
+    let at = input.len() - body.len() + 1;
+    let mut without = input.to_vec();
+    for byte in without[at..at + addressee.len()].iter_mut().filter(|byte| **byte == b':') {
+        *byte = b'x';
+    }
+    let mut packet = decode(&without, form).ok()?.ok()?;
+    match &mut packet.data {
+        AprsData::Message(message) => message.addressee = messages::unpadded(addressee).to_vec(),
+        _ => return None,
+    }
+    Some(packet)
+}
+
+/// A status whose time the crate reads and document 02 does not: all of it is text.
+fn without_time(packet: AprsPacket, body: &[u8]) -> Option<AprsPacket> {
+    let to = packet.to()?.clone();
+    let data = pieces::status(to, None, body.get(1..)?);
+    Some(AprsPacket { data, ..packet })
+}
+
+/// The packet that the documents read: the crate's own, or, where a listed difference is accepted, the crate's but for that difference.
+fn accepted(mark: Option<Mark>, input: &[u8], form: Form, decoded: Decoded) -> Option<AprsPacket> {
+    let packet = decoded.ok();
+    match mark {
+        None | Some(Mark::TimeDigits) => packet,
+        Some(Mark::AddresseeColon) => with_colon_in_addressee(input, form),
+        Some(mark) if mark.is_status_time() => without_time(packet?, body_of(input, form)?),
+        Some(_) => None,
+    }
+}
+
 pub fn answer(input: &[u8], form: Form, style: Style, out: &mut Vec<u8>) -> Option<()> {
     let input = from_hex(input)?;
     watch::reset();
-    let decoded = caught(|| match form {
-        Form::Text => AprsPacket::decode_textual(&input),
-        Form::Frame => AprsPacket::decode_ax25(&input),
-    });
-    let decoded = match decoded {
+    let decoded = match decode(&input, form) {
         Ok(decoded) => decoded,
         Err(message) => {
             out.extend_from_slice(format!("panic {}", message).as_bytes());
@@ -131,15 +208,26 @@ pub fn answer(input: &[u8], form: Form, style: Style, out: &mut Vec<u8>) -> Opti
     };
     let rests_on_shim = asked_of_shim(&decoded) == Seen::Blank;
     let number = decoded.as_ref().map_or_else(number_of, |_| 0);
-    let by_rule = rules::decided_by_time(&input, form, number).unwrap_or(number);
-    let line = match (mark_of(&input, form, &decoded), decoded) {
-        (Some(mark), _) if style == Style::Plain => mark.number_read().unwrap_or(by_rule).to_string(),
-        (Some(mark), _) => format!("outside {} {}", mark.name(), number),
-        (None, Ok(packet)) => return push_record(out, &packet, &input, form, style),
-        (None, Err(_)) if style == Style::Plain => by_rule.to_string(),
-        (None, Err(_)) if rests_on_shim => format!("shim {}", number),
-        (None, Err(_)) => number.to_string(),
+    let mark = mark_of(&input, form, &decoded);
+    let told = match (style, mark) {
+        (Style::Marked, Some(mark)) => format!("outside {} {}", mark.name(), number),
+        (Style::Marked, None) if rests_on_shim => format!("shim {}", number),
+        (Style::Marked, None) => number.to_string(),
+        (Style::Plain, mark) => {
+            let by_rule = rules::decided_by_body(&input, form, number).unwrap_or(number);
+            mark.and_then(Mark::number_read).unwrap_or(by_rule).to_string()
+        }
     };
-    out.extend_from_slice(line.as_bytes());
-    Some(())
+    let packet = match accepted(mark, &input, form, decoded) {
+        Some(packet) => packet,
+        None => {
+            out.extend_from_slice(told.as_bytes());
+            return Some(());
+        }
+    };
+    if style == Style::Marked && (mark.is_some() || rests_on_shim) {
+        out.extend_from_slice(told.as_bytes());
+        out.push(b' ');
+    }
+    push_record(out, &packet, &input, form, style)
 }

@@ -1,135 +1,16 @@
 // The crate's packets as the record lines of INSPECT.md, and the crate's writers with document 01's numbers.
 
-use aprs_parser::mic_e::Message;
-use aprs_parser::{
-    AprsData, AprsPacket, Callsign, EncodeError, Latitude, Longitude, Precision, Timestamp, Via,
-};
+use aprs_parser::{AprsData, AprsPacket, Callsign, EncodeError, Timestamp, Via};
+use crate::fields::{fields, longitude_hundredths, Fields};
 use crate::{caught, Style};
+use protocol::messages::{self, Places};
 use protocol::{push_hex, rules, Form, Mark, LONGEST, LONGITUDE_LIMIT};
-
-pub const PRECISIONS: [Precision; 6] = [
-    Precision::HundredthMinute,
-    Precision::TenthMinute,
-    Precision::OneMinute,
-    Precision::TenMinute,
-    Precision::OneDegree,
-    Precision::TenDegree,
-];
-
-pub const MESSAGES: [(Message, &str); 16] = [
-    (Message::M0, "M0"),
-    (Message::M1, "M1"),
-    (Message::M2, "M2"),
-    (Message::M3, "M3"),
-    (Message::M4, "M4"),
-    (Message::M5, "M5"),
-    (Message::M6, "M6"),
-    (Message::C0, "C0"),
-    (Message::C1, "C1"),
-    (Message::C2, "C2"),
-    (Message::C3, "C3"),
-    (Message::C4, "C4"),
-    (Message::C5, "C5"),
-    (Message::C6, "C6"),
-    (Message::Emergency, "emergency"),
-    (Message::Unknown, "unknown"),
-];
 
 /// What the crate made of a packet to be written.
 pub enum Written {
     Bytes(Vec<u8>),
     Refused(u32),
     Panicked(String),
-}
-
-/// The fields of a record line that differ by kind; the blank one is document 01's Unknown.
-struct Fields<'a> {
-    kind: &'static str,
-    to: Option<&'a Callsign>,
-    latitude: i64,
-    longitude: i64,
-    blanks: usize,
-    table: u32,
-    code: u32,
-    flag: bool,
-    message: &'static str,
-    speed: u32,
-    course: u32,
-    comment: Option<&'a [u8]>,
-    time: Option<&'a Timestamp>,
-}
-
-fn signed_hundredths((degrees, minutes, hundredths, positive): (u32, u32, u32, bool)) -> i64 {
-    let size = i64::from(degrees) * 6000 + i64::from(minutes) * 100 + i64::from(hundredths);
-    if positive {
-        size
-    } else {
-        -size
-    }
-}
-
-pub fn latitude_hundredths(latitude: Latitude) -> i64 {
-    signed_hundredths(latitude.dmh())
-}
-
-pub fn longitude_hundredths(longitude: Longitude) -> i64 {
-    signed_hundredths(longitude.dmh())
-}
-
-fn blanks_of(precision: Precision) -> usize {
-    PRECISIONS.iter().position(|each| *each == precision).unwrap()
-}
-
-fn word_of(message: Message) -> &'static str {
-    MESSAGES.iter().find(|(each, _)| *each == message).unwrap().1
-}
-
-fn fields(data: &AprsData) -> Option<Fields<'_>> {
-    let blank = Fields {
-        kind: "unknown",
-        to: data.to(),
-        latitude: 0,
-        longitude: 0,
-        blanks: 0,
-        table: 0,
-        code: 0,
-        flag: false,
-        message: "-",
-        speed: 0,
-        course: 0,
-        comment: None,
-        time: None,
-    };
-    match data {
-        AprsData::Unknown(_) => Some(blank),
-        AprsData::Position(position) => Some(Fields {
-            kind: "position",
-            latitude: latitude_hundredths(position.latitude),
-            longitude: longitude_hundredths(position.longitude),
-            blanks: blanks_of(position.precision),
-            table: position.symbol_table.into(),
-            code: position.symbol_code.into(),
-            flag: position.messaging_supported,
-            comment: Some(&position.comment),
-            time: position.timestamp.as_ref(),
-            ..blank
-        }),
-        AprsData::MicE(mic_e) => Some(Fields {
-            kind: "mic-e",
-            latitude: latitude_hundredths(mic_e.latitude),
-            longitude: longitude_hundredths(mic_e.longitude),
-            blanks: blanks_of(mic_e.precision),
-            table: mic_e.symbol_table.into(),
-            code: mic_e.symbol_code.into(),
-            flag: mic_e.current,
-            message: word_of(mic_e.message),
-            speed: mic_e.speed.knots(),
-            course: mic_e.course.degrees(),
-            comment: Some(&mic_e.comment),
-            ..blank
-        }),
-        AprsData::Message(_) | AprsData::Status(_) => None,
-    }
 }
 
 fn push_callsign(out: &mut Vec<u8>, callsign: &Callsign) {
@@ -153,14 +34,34 @@ fn push_hops(out: &mut Vec<u8>, hops: &[Via]) {
     }
 }
 
-/// Place and length of the comment in the input it was read from; it always runs to the input's end.
-fn comment_place(comment: Option<&[u8]>, input: &[u8]) -> (usize, usize) {
-    match comment {
-        None => (0, 0),
-        Some(comment) => {
-            assert!(input.ends_with(comment), "the comment is the input's end");
-            (input.len() - comment.len(), comment.len())
+/// Place and length of a comment in the input it was read from; it always runs to the input's end.
+fn comment_place(comment: &[u8], input: &[u8]) -> (usize, usize) {
+    assert!(input.ends_with(comment), "the comment is the input's end");
+    (input.len() - comment.len(), comment.len())
+}
+
+fn place_word(place: Option<(usize, usize)>) -> String {
+    let (at, length) = place.unwrap_or((0, 0));
+    format!("{}+{}", at, length)
+}
+
+/// Document 02's place for bytes that the Rust has read; the word is another where it has read other bytes than stand there.
+fn place_of_same(read: Option<&[u8]>, place: Option<(usize, usize)>, input: &[u8], style: Style) -> String {
+    let there = place.map(|(at, length)| &input[at..at + length]);
+    if there == read || style == Style::Plain {
+        place_word(place)
+    } else {
+        "elsewhere".to_string()
+    }
+}
+
+/// The places of a comment or text, and of an identifier.
+fn places(fields: &Fields, input: &[u8], form: Form, style: Style) -> [String; 2] {
+    match messages::places(input, form) {
+        Some(Places { text, id }) => {
+            [(fields.comment, Some(text)), (fields.id, id)].map(|(read, place)| place_of_same(read, place, input, style))
         }
+        None => [place_word(fields.comment.map(|comment| comment_place(comment, input))), place_word(None)],
     }
 }
 
@@ -227,10 +128,10 @@ fn push_written(out: &mut Vec<u8>, packet: &AprsPacket, form: Form, style: Style
     }
 }
 
-/// The record line of an accepted input, as far as the Rust has its fields; `None` for the kinds that the port does not carry.
+/// The record line of an accepted input, as far as the Rust has its fields.
 pub fn push_record(out: &mut Vec<u8>, packet: &AprsPacket, input: &[u8], form: Form, style: Style) -> Option<()> {
-    let fields = fields(&packet.data)?;
-    let (at, length) = comment_place(fields.comment, input);
+    let fields = fields(&packet.data);
+    let [comment_place, id_place] = places(&fields, input, form, style);
     out.extend_from_slice(b"0 ");
     out.extend_from_slice(fields.kind.as_bytes());
     out.extend_from_slice(b" from=");
@@ -243,7 +144,7 @@ pub fn push_record(out: &mut Vec<u8>, packet: &AprsPacket, input: &[u8], form: F
     out.extend_from_slice(b" hops=");
     push_hops(out, &packet.via);
     let numbers = format!(
-        " lat={} lon={} blanks={} table={} code={} flag={} message={} speed={} course={} comment={}+{} text=",
+        " lat={} lon={} blanks={} table={} code={} flag={} message={} speed={} course={} comment={} text=",
         fields.latitude,
         fields.longitude,
         fields.blanks,
@@ -253,8 +154,7 @@ pub fn push_record(out: &mut Vec<u8>, packet: &AprsPacket, input: &[u8], form: F
         fields.message,
         fields.speed,
         fields.course,
-        at,
-        length
+        comment_place
     );
     out.extend_from_slice(numbers.as_bytes());
     push_written(out, packet, Form::Text, style);
@@ -268,5 +168,9 @@ pub fn push_record(out: &mut Vec<u8>, packet: &AprsPacket, input: &[u8], form: F
     }
     out.extend_from_slice(b" time=");
     push_time(out, fields.time);
+    out.extend_from_slice(b" addressee=");
+    push_hex(out, fields.addressee);
+    out.extend_from_slice(b" id=");
+    out.extend_from_slice(id_place.as_bytes());
     Some(())
 }

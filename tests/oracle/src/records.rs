@@ -35,6 +35,9 @@ pub struct Record {
     pub zeros: Option<Vec<bool>>,
     /// Six digits and a letter, or a dash.
     pub time: Option<String>,
+    /// Without its padding.
+    pub addressee: Option<Vec<u8>>,
+    pub id: Option<Vec<u8>>,
 }
 
 pub fn name(call: &[u8], ssid: &[u8]) -> Name {
@@ -63,6 +66,8 @@ impl Record {
             letters: None,
             zeros: None,
             time: None,
+            addressee: None,
+            id: None,
         };
         let placed = Record {
             flag: 1,
@@ -73,7 +78,8 @@ impl Record {
             ..nothing.clone()
         };
         match kind {
-            "unknown" => Record { to: name(b"APRS", b""), ..nothing },
+            "unknown" | "status" => Record { to: name(b"APRS", b""), ..nothing },
+            "message" => Record { to: name(b"APRS", b""), addressee: Some(b"WU2Z".to_vec()), ..nothing },
             "position" => Record { to: name(b"APRS", b""), ..placed },
             _ => Record {
                 message: "M3",
@@ -84,6 +90,10 @@ impl Record {
         }
     }
 
+    pub fn has_angles(&self) -> bool {
+        matches!(self.kind, "position" | "mic-e")
+    }
+
     /// Source, destination, hops.
     pub fn names(&self) -> Vec<&Name> {
         let hops = self.hops.iter().map(|(name, _)| name);
@@ -92,7 +102,7 @@ impl Record {
 
     pub fn request(&self) -> String {
         format!(
-            "W {} {} {} {} {} {} {} {} {} {} {} {} {} {} {} {}{}{}{}",
+            "W {} {} {} {} {} {} {} {} {} {} {} {} {} {} {} {}{}{}{}{}{}",
             match self.form {
                 Form::Text => "text",
                 Form::Frame => "frame",
@@ -114,7 +124,9 @@ impl Record {
             self.course,
             letters_word(self.letters),
             zeros_word(self.zeros.as_deref()),
-            time_word(self.time.as_deref())
+            time_word(self.time.as_deref()),
+            hex_word(" addressee=", self.addressee.as_deref()),
+            hex_word(" id=", self.id.as_deref())
         )
     }
 }
@@ -140,6 +152,10 @@ fn zeros_word(zeros: Option<&[bool]>) -> String {
 
 fn time_word(time: Option<&str>) -> String {
     time.map_or(String::new(), |time| format!(" time={}", time))
+}
+
+fn hex_word(name: &str, bytes: Option<&[u8]>) -> String {
+    bytes.map_or(String::new(), |bytes| name.to_string() + &hex(bytes))
 }
 
 fn name_word((call, ssid): &Name) -> String {

@@ -1,11 +1,13 @@
 // What document 02 asks that the Rust does not have, computed from a request alone: the letters of both angles and the page box,
-// which callsigns had SSID `0`, and which seven bytes are a time.
+// which callsigns had SSID `0`, and which seven bytes are a time. Messages and status lines have a file of their own.
 
 use std::ops::RangeInclusive;
 
-use crate::{body_of, callsigns_of, is_of_body, number_of_addresses, Form, Mark, BAD_TIME, LATITUDE_LIMIT, LONGITUDE_LIMIT};
+use crate::{
+    body_of, callsigns_of, is_of_body, messages, number_of_addresses, Form, Mark, BAD_TIME, LATITUDE_LIMIT, LONGITUDE_LIMIT,
+};
 
-const TIME_LENGTH: usize = 7;
+pub const TIME_LENGTH: usize = 7;
 /// "Days 1 to 31, hours 0 to 23, minutes and seconds 0 to 59": each with the mark of one out of range.
 const DAY: (RangeInclusive<u8>, Mark) = (1..=31, Mark::TimeDay);
 const HOUR: (RangeInclusive<u8>, Mark) = (0..=23, Mark::TimeHour);
@@ -106,7 +108,7 @@ pub fn mark_of_time(time: &[u8]) -> Option<Mark> {
     }
 }
 
-fn is_time(time: &[u8]) -> bool {
+pub fn is_time(time: &[u8]) -> bool {
     matches!(time.last(), Some(b'z' | b'/' | b'h')) && mark_of_time(time).is_none()
 }
 
@@ -120,10 +122,12 @@ pub fn time_refusal(body: &[u8]) -> Option<u32> {
     }
 }
 
-/// The number of an input that the Rust refuses with its own, where a time decides it: not in a header, which comes before.
-pub fn decided_by_time(input: &[u8], form: Form, rust: u32) -> Option<u32> {
+/// The number of an input that the Rust refuses with its own, where a time, a message or a status decides it: not in a header, which
+/// comes before.
+pub fn decided_by_body(input: &[u8], form: Form, rust: u32) -> Option<u32> {
     if is_of_body(rust) {
-        body_of(input, form).and_then(time_refusal)
+        let body = body_of(input, form)?;
+        time_refusal(body).or_else(|| messages::refusal(body))
     } else {
         None
     }
@@ -153,7 +157,7 @@ fn letters(kind: &[u8], input: &[u8], form: Form) -> Option<[u8; 2]> {
             let west = (b'P'..=b'Z').contains(&characters[5]);
             Some([if north { b'N' } else { b'S' }, if west { b'W' } else { b'E' }])
         }
-        b"unknown" => Some(*b"--"),
+        b"unknown" | b"message" | b"status" => Some(*b"--"),
         _ => None,
     }
 }

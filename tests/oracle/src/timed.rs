@@ -11,15 +11,15 @@ use protocol::LONGEST;
 const TYPES: [&[u8]; 2] = [b"/", b"@"];
 /// POSITION without its type byte.
 const PLACE: &[u8] = b"4903.50N/07201.75W-Test";
-const GOOD_TIMES: [&str; 3] = ["092345z", "312359/", "000000h"];
-const BAD_TIMES: [&str; 7] = ["000000z", "010000Z", "240000h", "000000H", "000000/", "      /", "01 000z"];
+pub const GOOD_TIMES: [&str; 3] = ["092345z", "312359/", "000000h"];
+pub const BAD_TIMES: [&str; 7] = ["000000z", "010000Z", "240000h", "000000H", "000000/", "      /", "01 000z"];
 
 fn timed(number: usize, time: &str, behind: &[u8]) -> Packet {
     Packet::simple(b"B", &[TYPES[number % 2], time.as_bytes(), behind].concat())
 }
 
 /// Each of the three numbers of a time alone from 0 to 99, and all of them together at each number's limits and next to them.
-fn numbers_of_times() -> Vec<[usize; 3]> {
+pub fn numbers_of_times() -> Vec<[usize; 3]> {
     let mut all = Vec::new();
     for number in 0..100 {
         all.extend([[number, 17, 45], [9, number, 45], [9, 17, number]]);
@@ -32,7 +32,7 @@ fn numbers_of_times() -> Vec<[usize; 3]> {
     all
 }
 
-fn time([first, second, third]: [usize; 3], letter: char) -> String {
+pub fn time([first, second, third]: [usize; 3], letter: char) -> String {
     format!("{:02}{:02}{:02}{}", first, second, third, letter)
 }
 

@@ -9,6 +9,9 @@ use protocol::{Form, LATITUDE_LIMIT, LONGEST, LONGITUDE_LIMIT, MOST_HOPS};
 
 pub type Give<'a> = &'a mut dyn FnMut(Request);
 
+/// The kinds of document 01.
+const RECORDS: [&str; 3] = ["unknown", "position", "mic-e"];
+
 pub fn give_both(give: Give, packet: &Packet) {
     give(Request::Text(packet.line()));
     give(Request::Frame(packet.frame()));
@@ -287,10 +290,10 @@ pub fn letters(give: Give) {
 }
 
 /// 0 to 10 hops with stars in all places, and with one Q element, or one empty hop, in each place.
-pub fn hops(give: Give) {
+pub fn give_hops(give: Give, body: &[u8]) {
     for count in 0..=10 {
         for stars in 0..1usize << count {
-            let mut packet = Packet::simple(b"B", POSITION);
+            let mut packet = Packet::simple(b"B", body);
             packet.hops = (0..count)
                 .map(|place| Address::new(b"HOP", place as u8, stars >> place & 1 == 1))
                 .collect();
@@ -301,10 +304,14 @@ pub fn hops(give: Give) {
             for place in 0..count {
                 let mut hops = vec![b"H*".to_vec(); count];
                 hops[place] = odd.to_vec();
-                give(Request::Text(line(b"A", b"B", &hops, POSITION)));
+                give(Request::Text(line(b"A", b"B", &hops, body)));
             }
         }
     }
+}
+
+pub fn hops(give: Give) {
+    give_hops(give, POSITION);
 }
 
 /// Each address in turn marked last, unreadable or cut short, and every control byte.
@@ -344,7 +351,7 @@ pub fn frame_shapes(give: Give) {
 }
 
 /// Callsign texts at the edges of the rules.
-fn odd_callsigns() -> Vec<Vec<u8>> {
+pub fn odd_callsigns() -> Vec<Vec<u8>> {
     let mut odd: Vec<Vec<u8>> = [
         "", "A", "a", "0", "A-0", "A-00", "A-01", "A-1", "A-015", "A-15", "A-16", "A-255", "A-256", "A-+7", "A-+",
         "A-+15", "A-+16", "A-++7", "A-+0", "A--", "A--0", "A--1", "A-1-2", "A-0-0", "A-0-", "-", "-1", "-0", "A-",
@@ -400,7 +407,7 @@ pub fn callsign_lengths(give: Give) {
 }
 
 /// SSID `0` in every set of places of a header of 0 to 8 hops, with stars here and there.
-fn sets_of_zeros(give: Give, destination: &[u8], body: &[u8]) {
+pub fn sets_of_zeros(give: Give, destination: &[u8], body: &[u8]) {
     for hops in 0..=MOST_HOPS {
         for set in 0..1usize << (2 + hops) {
             let text = |place: usize, call: &[u8]| {
@@ -469,22 +476,24 @@ pub fn give_written(give: Give, record: &Record) {
     }
 }
 
-pub fn written_rooms(give: Give) {
-    for kind in ["unknown", "position", "mic-e"] {
-        for room in 0..=120 {
-            let mut record = Record::good(kind);
-            record.room = room;
-            give_written(give, &record);
-            record.hops.clear();
-            record.comment.clear();
-            give_written(give, &record);
-        }
+pub fn give_rooms(give: Give, kind: &'static str) {
+    for room in 0..=120 {
+        let mut record = Record::good(kind);
+        record.room = room;
+        give_written(give, &record);
+        record.hops.clear();
+        record.comment.clear();
+        give_written(give, &record);
     }
+}
+
+pub fn written_rooms(give: Give) {
+    RECORDS.into_iter().for_each(|kind| give_rooms(give, kind));
 }
 
 /// Comments that bring the output to 512 bytes and past it, with room enough and not.
 pub fn written_lengths(give: Give) {
-    for kind in ["unknown", "position", "mic-e"] {
+    for kind in RECORDS {
         for length in LONGEST - 90..=LONGEST {
             for room in [0, 511, 512, 513, 600] {
                 let mut record = Record::good(kind);
@@ -496,43 +505,46 @@ pub fn written_lengths(give: Give) {
     }
 }
 
-/// One field at a time at its limits and past them, in records of each kind.
-pub fn written_limits(give: Give) {
+/// One field at a time at its limits and past them.
+pub fn give_limits(give: Give, kind: &'static str) {
     let farthest = [i64::from(i32::MAX), -i64::from(i32::MAX)];
-    for kind in ["unknown", "position", "mic-e"] {
-        let good = Record::good(kind);
-        let mut give_changed = |change: &dyn Fn(&mut Record)| {
-            let mut record = good.clone();
-            change(&mut record);
-            give_written(give, &record);
-        };
-        let angles = [0, 1, 49, 50, 59, 100, 5999, 6000, 60_000, 599_999, 600_000, 659_999, 660_000, 1_079_999];
-        let limits = [LATITUDE_LIMIT - 1, LATITUDE_LIMIT, LATITUDE_LIMIT + 1, LONGITUDE_LIMIT, LONGITUDE_LIMIT + 1];
-        for size in angles.into_iter().chain(limits) {
-            for angle in [size, -size].into_iter().chain(farthest) {
-                give_changed(&|record| record.latitude = angle);
-                give_changed(&|record| record.longitude = angle);
-                for blanks in 0..=7 {
-                    give_changed(&|record| {
-                        record.latitude = angle;
-                        record.blanks = blanks;
-                    });
-                }
+    let good = Record::good(kind);
+    let mut give_changed = |change: &dyn Fn(&mut Record)| {
+        let mut record = good.clone();
+        change(&mut record);
+        give_written(give, &record);
+    };
+    let angles = [0, 1, 49, 50, 59, 100, 5999, 6000, 60_000, 599_999, 600_000, 659_999, 660_000, 1_079_999];
+    let limits = [LATITUDE_LIMIT - 1, LATITUDE_LIMIT, LATITUDE_LIMIT + 1, LONGITUDE_LIMIT, LONGITUDE_LIMIT + 1];
+    for size in angles.into_iter().chain(limits) {
+        for angle in [size, -size].into_iter().chain(farthest) {
+            give_changed(&|record| record.latitude = angle);
+            give_changed(&|record| record.longitude = angle);
+            for blanks in 0..=7 {
+                give_changed(&|record| {
+                    record.latitude = angle;
+                    record.blanks = blanks;
+                });
             }
         }
-        for number in (0..=20).chain([99, 100, 199, 200, 359, 360, 361, 798, 799, 800, 1000, 65_536]) {
-            give_changed(&|record| record.speed = number);
-            give_changed(&|record| record.course = number);
-        }
-        for byte in 0..=255 {
-            give_changed(&|record| record.table = byte);
-            give_changed(&|record| record.code = byte);
-            give_changed(&|record| record.blanks = byte);
-        }
-        give_changed(&|record| record.to = name(b"X", b""));
-        give_changed(&|record| record.to = name(b"", b"1"));
-        give_changed(&|record| record.flag = 1 - record.flag);
     }
+    for number in (0..=20).chain([99, 100, 199, 200, 359, 360, 361, 798, 799, 800, 1000, 65_536]) {
+        give_changed(&|record| record.speed = number);
+        give_changed(&|record| record.course = number);
+    }
+    for byte in 0..=255 {
+        give_changed(&|record| record.table = byte);
+        give_changed(&|record| record.code = byte);
+        give_changed(&|record| record.blanks = byte);
+    }
+    give_changed(&|record| record.to = name(b"X", b""));
+    give_changed(&|record| record.to = name(b"", b"1"));
+    give_changed(&|record| record.flag = 1 - record.flag);
+}
+
+/// One field at a time at its limits and past them, in records of each kind.
+pub fn written_limits(give: Give) {
+    RECORDS.into_iter().for_each(|kind| give_limits(give, kind));
     for message in crate::records::MESSAGES {
         give_written(give, &Record { message, ..Record::good("mic-e") });
     }
@@ -541,23 +553,25 @@ pub fn written_limits(give: Give) {
     }
 }
 
-/// Each pair of letters, and none, beside angles on either side and at 0, in records of each kind.
-pub fn written_letters(give: Give) {
-    for kind in ["unknown", "position", "mic-e"] {
-        for latitude in [0, 1, -1, -50, 294_350, -294_350, LATITUDE_LIMIT, -LATITUDE_LIMIT] {
-            for longitude in [0, 1, -1, 432_175, -432_175, LONGITUDE_LIMIT - 1, 1 - LONGITUDE_LIMIT] {
-                for blanks in [0, 2] {
-                    let record = Record { latitude, longitude, blanks, ..Record::good(kind) };
-                    give_written(give, &record);
-                    for letter in *b"NS-" {
-                        for other_letter in *b"EW-" {
-                            give_written(give, &Record { letters: Some([letter, other_letter]), ..record.clone() });
-                        }
+/// Each pair of letters, and none, beside angles on either side and at 0.
+pub fn give_letters(give: Give, kind: &'static str) {
+    for latitude in [0, 1, -1, -50, 294_350, -294_350, LATITUDE_LIMIT, -LATITUDE_LIMIT] {
+        for longitude in [0, 1, -1, 432_175, -432_175, LONGITUDE_LIMIT - 1, 1 - LONGITUDE_LIMIT] {
+            for blanks in [0, 2] {
+                let record = Record { latitude, longitude, blanks, ..Record::good(kind) };
+                give_written(give, &record);
+                for letter in *b"NS-" {
+                    for other_letter in *b"EW-" {
+                        give_written(give, &Record { letters: Some([letter, other_letter]), ..record.clone() });
                     }
                 }
             }
         }
     }
+}
+
+pub fn written_letters(give: Give) {
+    RECORDS.into_iter().for_each(|kind| give_letters(give, kind));
 }
 
 fn give_every_set_of_zeros(give: Give, record: &Record) {
@@ -594,22 +608,24 @@ pub fn good_and_refused(kind: &'static str) -> Vec<Record> {
     CHANGES.iter().map(changed).collect()
 }
 
-/// Every set of zeros in records of each kind, good and refused; and all zeros at every number of hops.
-pub fn written_zeros(give: Give) {
-    for kind in ["unknown", "position", "mic-e"] {
-        for record in good_and_refused(kind) {
-            give_every_set_of_zeros(give, &record);
-        }
-        for hops in 0..=MOST_HOPS {
-            let hops = vec![(name(b"HOP", b""), false); hops];
-            let zeros = Some(vec![true; 2 + hops.len()]);
-            give_written(give, &Record { hops, zeros, ..Record::good(kind) });
-        }
+/// Every set of zeros in records good and refused; and all zeros at every number of hops.
+pub fn give_zeros(give: Give, kind: &'static str) {
+    for record in good_and_refused(kind) {
+        give_every_set_of_zeros(give, &record);
+    }
+    for hops in 0..=MOST_HOPS {
+        let hops = vec![(name(b"HOP", b""), false); hops];
+        let zeros = Some(vec![true; 2 + hops.len()]);
+        give_written(give, &Record { hops, zeros, ..Record::good(kind) });
     }
 }
 
+pub fn written_zeros(give: Give) {
+    RECORDS.into_iter().for_each(|kind| give_zeros(give, kind));
+}
+
 /// Odd calls and SSIDs in each place of a record, with stars in all sets of three places.
-pub fn written_callsigns(give: Give) {
+pub fn give_callsigns(give: Give, kinds: &[&'static str]) {
     let mut names = vec![name(b"", b"5"), name(b"A-1", b""), name(b"*", b""), name(b"A:B", b","), name(b"\xc3", b"\xa9")];
     for text in odd_callsigns().into_iter().filter(|text| text.len() <= 17) {
         let mut parts = text.splitn(2, |byte| *byte == b'-');
@@ -620,9 +636,9 @@ pub fn written_callsigns(give: Give) {
         }
     }
     for odd in &names {
-        for kind in ["unknown", "position", "mic-e"] {
+        for kind in kinds {
             give_written(give, &Record { from: odd.clone(), ..Record::good(kind) });
-            if kind != "mic-e" {
+            if *kind != "mic-e" {
                 give_written(give, &Record { to: odd.clone(), ..Record::good(kind) });
             }
             for stars in 0..8 {
@@ -633,6 +649,10 @@ pub fn written_callsigns(give: Give) {
             }
         }
     }
+}
+
+pub fn written_callsigns(give: Give) {
+    give_callsigns(give, &RECORDS);
 }
 
 pub fn bounds_limits(give: Give) {

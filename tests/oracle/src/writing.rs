@@ -1,176 +1,17 @@
 // Requests W: a record made by hand, built through the crate's public interface and written by it.
 
-use aprs_parser::mic_e::{Course, Message, Speed};
-use aprs_parser::{
-    AprsCst, AprsData, AprsMicE, AprsPacket, AprsPosition, Callsign, Latitude, Longitude, Timestamp, Via,
-};
-use crate::record::{mark_of_record, write, Written, MESSAGES, PRECISIONS};
+use aprs_parser::mic_e::{Course, Speed};
+use aprs_parser::{AprsCst, AprsData, AprsMicE, AprsPacket, AprsPosition, Callsign, Via};
+use crate::fields::PRECISIONS;
+use crate::pieces::{self, latitude, longitude, timestamp};
+use crate::record::{mark_of_record, write, Written};
+use crate::request::{parse, Kind, Name, Request};
 use crate::Style;
 use protocol::rules::Limit;
-use protocol::{
-    dmh_of, from_decimal, from_hex, push_hex, rules, Form, Mark, LATITUDE_LIMIT, LONGEST, LONGEST_CALLSIGN, LONGITUDE_LIMIT,
-    MOST_HOPS,
-};
+use protocol::{messages, push_hex, rules, Mark, LATITUDE_LIMIT, LONGEST, LONGEST_CALLSIGN, LONGITUDE_LIMIT};
 
-const MOST_ROOM: usize = 600;
 const MOST_KNOTS: u32 = 799;
 const MOST_DEGREES_OF_COURSE: u32 = 360;
-
-struct Name {
-    call: Vec<u8>,
-    ssid: Vec<u8>,
-}
-
-struct Hop {
-    name: Name,
-    heard: bool,
-}
-
-#[derive(Clone, Copy, PartialEq, Eq)]
-enum Kind {
-    Unknown,
-    Position,
-    MicE,
-}
-
-struct Request {
-    form: Form,
-    room: usize,
-    comment: Vec<u8>,
-    kind: Kind,
-    flag: bool,
-    from: Name,
-    to: Name,
-    hops: Vec<Hop>,
-    latitude: i64,
-    longitude: i64,
-    blanks: u8,
-    table: u8,
-    code: u8,
-    message: Option<Message>,
-    speed: u32,
-    course: u32,
-    letters: [u8; 2],
-    time: Option<Vec<u8>>,
-}
-
-fn number<T: TryFrom<i64>>(word: &[u8]) -> Option<T> {
-    T::try_from(from_decimal(word)?).ok()
-}
-
-/// A record holds sixteen bytes of call and SSID together; more is no record.
-fn name(word: &[u8]) -> Option<Name> {
-    let slash = word.iter().position(|byte| *byte == b'/')?;
-    let call = from_hex(&word[..slash])?;
-    let ssid = from_hex(&word[slash + 1..])?;
-    if call.len() + ssid.len() > LONGEST_CALLSIGN {
-        return None;
-    }
-    Some(Name { call, ssid })
-}
-
-fn hops(word: &[u8]) -> Option<Vec<Hop>> {
-    if word == b"-" {
-        return Some(Vec::new());
-    }
-    let hops: Option<Vec<Hop>> = word
-        .split(|byte| *byte == b',')
-        .map(|hop| {
-            let unstarred = hop.strip_suffix(b"*");
-            Some(Hop {
-                name: name(unstarred.unwrap_or(hop))?,
-                heard: unstarred.is_some(),
-            })
-        })
-        .collect();
-    hops.filter(|hops| hops.len() <= MOST_HOPS)
-}
-
-fn message(word: &[u8]) -> Option<Option<Message>> {
-    if word == b"-" {
-        return Some(None);
-    }
-    let (message, _) = MESSAGES.iter().find(|(_, name)| name.as_bytes() == word)?;
-    Some(Some(*message))
-}
-
-/// The value of the word of this name, which is taken off, if it is the next of those behind the sixteen.
-fn next_value<'a>(later: &mut &[&'a [u8]], name: &[u8]) -> Option<&'a [u8]> {
-    let (first, rest) = later.split_first()?;
-    let value = first.strip_prefix(name)?;
-    *later = rest;
-    Some(value)
-}
-
-/// Both letters, a dash for none; left out, those of the angles' own sides for a kind with a position.
-fn letters(value: Option<&[u8]>, kind: Kind, latitude: i64, longitude: i64) -> Option<[u8; 2]> {
-    match value {
-        None if kind == Kind::Unknown => Some(*b"--"),
-        None => Some([Limit::Latitude.own_letter(latitude), Limit::Longitude.own_letter(longitude)]),
-        Some([first @ (b'N' | b'S' | b'-'), second @ (b'E' | b'W' | b'-')]) => Some([*first, *second]),
-        Some(_) => None,
-    }
-}
-
-/// True of a 0 or 1 for each callsign. No more is asked of them: "Writers ignore it" (document 02, R-2).
-fn are_zeros(value: &[u8], hops: usize) -> bool {
-    value.len() == 2 + hops && value.iter().all(|digit| matches!(digit, b'0' | b'1'))
-}
-
-/// Six digits of any value and `z`, `/` or `h`; left out, or a dash, there is no time.
-fn time(value: Option<&[u8]>) -> Option<Option<Vec<u8>>> {
-    match value {
-        None | Some(b"-") => Some(None),
-        Some(time @ [_, _, _, _, _, _, b'z' | b'/' | b'h']) => rules::numbers_of(time).map(|_| Some(time.to_vec())),
-        Some(_) => None,
-    }
-}
-
-fn parse(words: &[&[u8]]) -> Option<Request> {
-    let (words, mut later) = words.split_at(words.len().min(16));
-    let [form, room, comment, kind, flag, from, to, path, latitude, longitude, blanks, table, code, word, speed, course]: [&[u8]; 16] =
-        words.try_into().ok()?;
-    let kind = match kind {
-        b"unknown" => Kind::Unknown,
-        b"position" => Kind::Position,
-        b"mic-e" => Kind::MicE,
-        _ => return None,
-    };
-    let (latitude, longitude) = (from_decimal(latitude)?, from_decimal(longitude)?);
-    let [sides, zeros, seven] = [&b"letters="[..], b"zeros=", b"time="].map(|name| next_value(&mut later, name));
-    let request = Request {
-        form: match form {
-            b"text" => Form::Text,
-            b"frame" => Form::Frame,
-            _ => return None,
-        },
-        room: number(room).filter(|room| *room <= MOST_ROOM)?,
-        comment: from_hex(comment)?,
-        kind,
-        flag: number::<u8>(flag).filter(|flag| *flag <= 1)? == 1,
-        from: name(from)?,
-        to: name(to)?,
-        hops: hops(path)?,
-        latitude,
-        longitude,
-        blanks: number(blanks)?,
-        table: number(table)?,
-        code: number(code)?,
-        message: message(word)?,
-        speed: number(speed)?,
-        course: number(course)?,
-        letters: letters(sides, kind, latitude, longitude)?,
-        time: time(seven)?,
-    };
-    let is_well_formed = later.is_empty()
-        && zeros.map_or(true, |zeros| are_zeros(zeros, request.hops.len()))
-        && (request.kind != Kind::MicE || request.message.is_some());
-    if is_well_formed {
-        Some(request)
-    } else {
-        None
-    }
-}
 
 fn mark_of_name(name: &Name) -> Option<Mark> {
     let dash = usize::from(!name.ssid.is_empty());
@@ -193,23 +34,25 @@ fn has_parts_its_kind_lacks(request: &Request) -> bool {
         || request.table != 0
         || request.code != 0
         || request.flag;
+    let has_message = request.message.is_some();
     let has_time = request.time.is_some();
+    let has_addressee = !request.addressee.is_empty();
     match request.kind {
-        Kind::Unknown => has_place || has_motion || has_time || request.message.is_some(),
-        Kind::Position => has_motion || request.message.is_some(),
-        Kind::MicE => has_time || !request.to.call.is_empty() || !request.to.ssid.is_empty(),
+        Kind::Unknown => has_place || has_motion || has_message || has_time || has_addressee,
+        Kind::Position => has_motion || has_message || has_addressee,
+        Kind::MicE => has_time || has_addressee || !request.to.call.is_empty() || !request.to.ssid.is_empty(),
+        Kind::Message => has_place || has_motion || has_message || has_time,
+        Kind::Status => has_place || has_motion || has_message || has_addressee,
     }
 }
 
 /// Document 02, R-1: a position or Mic-E has two letters, neither against a nonzero angle; another kind has none.
 fn letters_fit(request: &Request) -> bool {
     let [latitude_letter, longitude_letter] = request.letters;
-    match request.kind {
-        Kind::Unknown => request.letters == *b"--",
-        Kind::Position | Kind::MicE => {
-            Limit::Latitude.agrees(latitude_letter, request.latitude)
-                && Limit::Longitude.agrees(longitude_letter, request.longitude)
-        }
+    if request.kind.has_angles() {
+        Limit::Latitude.agrees(latitude_letter, request.latitude) && Limit::Longitude.agrees(longitude_letter, request.longitude)
+    } else {
+        request.letters == *b"--"
     }
 }
 
@@ -235,6 +78,24 @@ fn mark_of_request(request: &Request) -> Option<Mark> {
         .find_map(mark_of_name)
 }
 
+/// A time that is out of range, or that a status may not have.
+fn mark_of_time(request: &Request) -> Option<Mark> {
+    let time = request.time.as_deref()?;
+    match request.kind {
+        Kind::Status => messages::mark_of_status_time(time),
+        _ => rules::mark_of_time(time),
+    }
+}
+
+/// What was handed over with a record in range and is refused with 18.
+fn mark_of_text(request: &Request) -> Option<Mark> {
+    match request.kind {
+        Kind::Message => messages::mark_of_message(&request.comment, request.id.as_deref()),
+        Kind::Status => messages::mark_of_status(request.time.is_some(), &request.comment),
+        _ => None,
+    }
+}
+
 fn callsign(name: &Name) -> Callsign {
     let text = |bytes: &[u8]| String::from_utf8(bytes.to_vec()).expect("judged before");
     if name.ssid.is_empty() {
@@ -242,27 +103,6 @@ fn callsign(name: &Name) -> Callsign {
     } else {
         Callsign::new_with_ssid(text(&name.call), text(&name.ssid))
     }
-}
-
-pub fn latitude(angle: i64) -> Latitude {
-    let (degrees, minutes, hundredths) = dmh_of(angle);
-    Latitude::from_dmh(degrees, minutes, hundredths, angle >= 0).expect("judged before")
-}
-
-pub fn longitude(angle: i64) -> Longitude {
-    let (degrees, minutes, hundredths) = dmh_of(angle);
-    Longitude::from_dmh(degrees, minutes, hundredths, angle >= 0).expect("judged before")
-}
-
-/// A time of six digits and `z`, `/` or `h`.
-fn timestamp(time: &[u8]) -> Timestamp {
-    let [first, second, third] = rules::numbers_of(time).expect("judged before");
-    let made = match time.last() {
-        Some(b'z') => Timestamp::new_dhm(first, second, third),
-        Some(b'h') => Timestamp::new_hms(first, second, third),
-        _ => Some(Timestamp::Unsupported(time.to_vec())),
-    };
-    made.expect("the crate takes any two digits")
 }
 
 fn data(request: &Request) -> AprsData {
@@ -281,7 +121,7 @@ fn data(request: &Request) -> AprsData {
         }),
         (Kind::Position, _) => AprsData::Position(AprsPosition {
             to: callsign(&request.to),
-            timestamp: request.time.as_deref().map(timestamp),
+            timestamp: request.time.as_deref().and_then(timestamp),
             messaging_supported: request.flag,
             latitude: latitude(request.latitude),
             longitude: longitude(request.longitude),
@@ -291,6 +131,8 @@ fn data(request: &Request) -> AprsData {
             comment: request.comment.clone(),
             cst: AprsCst::Uncompressed,
         }),
+        (Kind::Message, _) => pieces::message(callsign(&request.to), &request.addressee, &request.comment, request.id.as_deref()),
+        (Kind::Status, _) => pieces::status(callsign(&request.to), request.time.as_deref(), &request.comment),
         _ => AprsData::Unknown(callsign(&request.to)),
     }
 }
@@ -324,8 +166,8 @@ pub fn answer(words: &[&[u8]], style: Style, out: &mut Vec<u8>) -> Option<()> {
         return Some(());
     }
     let packet = packet(&request);
-    let mark_of_time = request.time.as_deref().and_then(rules::mark_of_time);
-    if let Some(mark) = mark_of_record(&packet.data).or(mark_of_time) {
+    let mark = mark_of_record(&packet.data).or_else(|| mark_of_time(&request)).or_else(|| mark_of_text(&request));
+    if let Some(mark) = mark {
         push_mark(out, mark, request.room, style);
         return Some(());
     }

@@ -56,8 +56,8 @@ const UNKNOWN: [&str; 8] = [
     "}W1AW-9>APRS,TCPIP,N0CALL*:>relayed",
 ];
 const NOT_CARRIED: [&str; 5] = [
-    ">Net Control Center",
-    ":WU2Z     :Testing{003",
+    "=/5L!!<*e7> sTComme",
+    "=/5L!!<*e7> sTComment.",
     "/092345z/5L!!<*e7> sTComment",
     "@092345//5L!!<*e7> sTComment",
     "!/5L!!<*e7> sTComment",

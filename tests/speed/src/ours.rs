@@ -34,6 +34,10 @@ mod linked {
         unsafe { ffi::tusselgro_read_text(line.as_ptr(), line.len()) }
     }
 
+    fn part(line: &[u8], span: ffi::Span) -> &[u8] {
+        &line[span.at..][..span.len]
+    }
+
     fn read_only(line: &[u8]) -> usize {
         keep(&read(line));
         0
@@ -45,13 +49,16 @@ mod linked {
             return 0;
         }
         let record = read.record;
-        let comment = &line[record.body.comment.at..][..record.body.comment.len];
-        // SAFETY: each pointer and its length are those of one slice, and the slices do not overlap.
+        let comment = part(line, record.body.comment);
+        let identifier = part(line, record.body.identifier);
+        // SAFETY: each pointer and its length are those of one slice, and no other slice overlaps that of the output.
         let answer = unsafe {
             ffi::tusselgro_write_text(
                 record,
                 comment.as_ptr(),
                 comment.len(),
+                identifier.as_ptr(),
+                identifier.len(),
                 out.as_mut_ptr(),
                 out.len(),
             )

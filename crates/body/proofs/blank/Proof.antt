@@ -1,5 +1,7 @@
--- The body of blank parts. Assumes nothing.
-use Rattle.body.specs.Body.{noComment, blankBody}
+-- Nothing but a kind, and that Unknown. Assumes nothing.
+use Rattle.laws.specs.Lists.{padTo}
+use Rattle.message.specs.Message.{noAddressee}
+use Rattle.body.specs.Body.{noSpan, blankBody}
 use borrow.Author.Needs.{needs}
 use Rattle.body.proofs.blank.Statement.{statement}
 use Rattle.body.proofs.blank.Tie as tie
@@ -7,15 +9,12 @@ use Rattle.body.proofs.blank.Tie as tie
 blank-requires : tie.Need-blank-requires
 blank-requires c κs = search needs
 
-no-report-requires : tie.Need-no-report-requires
-no-report-requires c κs = search needs
-
-blank-requires-2 : tie.Need-blank-requires-2
-blank-requires-2 c κs = search needs
+body-with-requires : tie.Need-body-with-requires
+body-with-requires c κs = search needs
 
 returns : tie.Need-returns
-unfolding noComment blankBody
+unfolding noSpan blankBody noAddressee padTo
 returns c = cc
 
 pub blank-spec : {M : Type 1} → statement M
-blank-spec = tie.close (tie.spec blank-requires no-report-requires blank-requires-2 returns)
+blank-spec = tie.close (tie.spec blank-requires body-with-requires returns)

@@ -28,8 +28,8 @@ enum-known-read c = search needs
 add-behind : tie.Need-add-behind
 add-behind c = search needs
 
-sub-t23 : tie.Need-sub-t23
-sub-t23 c = search information-fits
+sub-t24 : tie.Need-sub-t24
+sub-t24 c = search information-fits
 
 blank-requires : tie.Need-blank-requires
 blank-requires c κs = search needs
@@ -55,7 +55,7 @@ read-report-spec =
     refused-requires
     enum-known-read
     add-behind
-    sub-t23
+    sub-t24
     blank-requires
     accepted-requires
     returns

@@ -1,12 +1,12 @@
--- No report; and then what the writers of a time and of a place say. Assumes nothing.
+-- No report, no addressee; and then what the writers of a time and of a place say. Assumes nothing.
 use Rattle.body.specs.Range.{positionInRange}
 use Rattle.body.proofs.Writing.{judged, time-out, behind-fits, behind-within, left-long, end-fits, position-out, position-written}
 use borrow.Author.Needs.{needs}
 use Rattle.body.proofs.write_position.Statement.{statement}
 use Rattle.body.proofs.write_position.Tie as tie
 
-is-no-report-requires : tie.Need-is-no-report-requires
-is-no-report-requires c κs = search needs
+is-place-alone-requires : tie.Need-is-place-alone-requires
+is-place-alone-requires c κs = search needs
 
 unwritten-requires : tie.Need-unwritten-requires
 unwritten-requires c κs = search needs
@@ -70,7 +70,7 @@ pub write-position-spec : {M : Type 1} → statement M
 write-position-spec =
     tie.close
     (tie.spec
-    is-no-report-requires
+    is-place-alone-requires
     unwritten-requires
     returns
     position-type-requires

@@ -16,5 +16,13 @@ returns-3 : tie.Need-returns-3
 unfolding kindAt
 returns-3 c = search picks
 
+returns-4 : tie.Need-returns-4
+unfolding kindAt
+returns-4 c = search picks
+
+returns-5 : tie.Need-returns-5
+unfolding kindAt
+returns-5 c = search picks
+
 pub kind-at-spec : {M : Type 1} → statement M
-kind-at-spec = tie.close (tie.spec returns returns-2 returns-3)
+kind-at-spec = tie.close (tie.spec returns returns-2 returns-3 returns-4 returns-5)

@@ -1,6 +1,7 @@
--- The body and its destination; and then the header, the body and the comment. Assumes nothing.
-use borrow.Author.Needs.{needs}
-use Rattle.packet.proofs.Lines.{body-short, body-unwritten, body-written}
+-- The body and its destination; and then the header, the body and the text. Assumes nothing.
+use Rattle.laws.proofs.Lists.{part-length}
+use Rattle.packet.proofs.Lines.{body-within, tail-within, body-short, body-unwritten, body-written}
+use borrow.Author.Needs.{needs, length-unmapped}
 use Rattle.packet.proofs.write.Statement.{statement}
 use Rattle.packet.proofs.write.Tie as tie
 
@@ -13,8 +14,20 @@ refused-beside-requires c κs = search needs
 returns : tie.Need-returns
 returns c = search body-unwritten
 
+array-share-prefix-bytes : tie.Need-array-share-prefix-bytes
+array-share-prefix-bytes c = search body-within
+
+slice-aggregate-write-behind : tie.Need-slice-aggregate-write-behind
+slice-aggregate-write-behind c = search (part-length, body-within)
+
+array-share-prefix-tail : tie.Need-array-share-prefix-tail
+array-share-prefix-tail c = search tail-within
+
+slice-aggregate-write-behind-2 : tie.Need-slice-aggregate-write-behind-2
+slice-aggregate-write-behind-2 c = search (part-length, tail-within)
+
 write-behind-requires : tie.Need-write-behind-requires
-write-behind-requires c κs = search body-short
+write-behind-requires c κs = search (body-short, length-unmapped)
 
 same-length : tie.Need-same-length
 same-length c = search needs
@@ -29,6 +42,10 @@ write-spec =
     write-requires
     refused-beside-requires
     returns
+    array-share-prefix-bytes
+    slice-aggregate-write-behind
+    array-share-prefix-tail
+    slice-aggregate-write-behind-2
     write-behind-requires
     same-length
     returns-2)

@@ -1,7 +1,8 @@
 -- `put_place`: the place by the kind.
 -- Assumes nothing.
-use Rattle.row.proofs.Rows.{place-unknown, place-position, place-mic-e}
-use Rattle.row.proofs.Fits.{no-place-width, position-width, mic-e-width}
+use Rattle.row.specs.Row.{spaced, absentAngles, placeFields}
+use Rattle.row.proofs.Rows.{place-put}
+use Rattle.row.proofs.Fits.{absent-width, place-width}
 use borrow.Author.Needs.{needs}
 use Rattle.row.proofs.put_place.Statement.{statement}
 use Rattle.row.proofs.put_place.Tie as tie
@@ -27,23 +28,58 @@ enum-told-3 c = search needs
 put-angles-requires-2 : tie.Need-put-angles-requires-2
 put-angles-requires-2 c κs = search needs
 
+enum-told-4 : tie.Need-enum-told-4
+enum-told-4 c = search needs
+
+slice-aggregate-put-text-2 : tie.Need-slice-aggregate-put-text-2
+slice-aggregate-put-text-2 c = search needs
+
+put-text-requires-2 : tie.Need-put-text-requires-2
+put-text-requires-2 c κs = search needs
+
+enum-told-5 : tie.Need-enum-told-5
+enum-told-5 c = search needs
+
+slice-aggregate-put-text-3 : tie.Need-slice-aggregate-put-text-3
+slice-aggregate-put-text-3 c = search needs
+
+put-text-requires-3 : tie.Need-put-text-requires-3
+put-text-requires-3 c κs = search needs
+
 same-length : tie.Need-same-length
 same-length c = search needs
 
 returns : tie.Need-returns
-returns c = (search place-unknown, search no-place-width)
+unfolding spaced placeFields absentAngles
+returns c = (search place-put, search (place-width, absent-width))
 
 same-length-2 : tie.Need-same-length-2
 same-length-2 c = search needs
 
 returns-2 : tie.Need-returns-2
-returns-2 c = (search place-position, search position-width)
+unfolding placeFields
+returns-2 c = (search place-put, search place-width)
 
 same-length-3 : tie.Need-same-length-3
 same-length-3 c = search needs
 
 returns-3 : tie.Need-returns-3
-returns-3 c = (search place-mic-e, search mic-e-width)
+unfolding placeFields
+returns-3 c = (search place-put, search place-width)
+
+same-length-4 : tie.Need-same-length-4
+same-length-4 c = search needs
+
+returns-4 : tie.Need-returns-4
+unfolding spaced placeFields absentAngles
+returns-4 c = (search place-put, search (place-width, absent-width))
+
+same-length-5 : tie.Need-same-length-5
+same-length-5 c = search needs
+
+returns-5 : tie.Need-returns-5
+unfolding spaced placeFields absentAngles
+returns-5 c = (search place-put, search (place-width, absent-width))
 
 pub put-place-spec : {M : Type 1} → statement M
 put-place-spec =
@@ -56,9 +92,19 @@ put-place-spec =
     put-angles-requires
     enum-told-3
     put-angles-requires-2
+    enum-told-4
+    slice-aggregate-put-text-2
+    put-text-requires-2
+    enum-told-5
+    slice-aggregate-put-text-3
+    put-text-requires-3
     same-length
     returns
     same-length-2
     returns-2
     same-length-3
-    returns-3)
+    returns-3
+    same-length-4
+    returns-4
+    same-length-5
+    returns-5)

@@ -1,7 +1,8 @@
 -- `put_to`: the destination by the kind.
 -- Assumes nothing.
-use Rattle.row.proofs.Rows.{same-field, to-unknown, to-position, to-none}
-use Rattle.row.proofs.Fits.{to-width-unknown, to-width-position, to-width-none}
+use Rattle.row.specs.Row.{toField}
+use Rattle.row.proofs.Rows.{to-put}
+use Rattle.row.proofs.Fits.{no-to-width, to-width}
 use borrow.Author.Needs.{needs}
 use Rattle.row.proofs.put_to.Statement.{statement}
 use Rattle.row.proofs.put_to.Tie as tie
@@ -27,23 +28,52 @@ slice-aggregate-put-text c = search needs
 put-text-requires : tie.Need-put-text-requires
 put-text-requires c κs = search needs
 
+enum-told-4 : tie.Need-enum-told-4
+enum-told-4 c = search needs
+
+put-call-requires-3 : tie.Need-put-call-requires-3
+put-call-requires-3 c κs = search needs
+
+enum-told-5 : tie.Need-enum-told-5
+enum-told-5 c = search needs
+
+put-call-requires-4 : tie.Need-put-call-requires-4
+put-call-requires-4 c κs = search needs
+
 same-length : tie.Need-same-length
 same-length c = search needs
 
 returns : tie.Need-returns
-returns c = (search (same-field, to-unknown), search to-width-unknown)
+unfolding toField
+returns c = (search to-put, search to-width)
 
 same-length-2 : tie.Need-same-length-2
 same-length-2 c = search needs
 
 returns-2 : tie.Need-returns-2
-returns-2 c = (search (same-field, to-position), search to-width-position)
+unfolding toField
+returns-2 c = (search to-put, search to-width)
 
 same-length-3 : tie.Need-same-length-3
 same-length-3 c = search needs
 
 returns-3 : tie.Need-returns-3
-returns-3 c = (search (same-field, to-none), search to-width-none)
+unfolding toField
+returns-3 c = (search to-put, search (to-width, no-to-width))
+
+same-length-4 : tie.Need-same-length-4
+same-length-4 c = search needs
+
+returns-4 : tie.Need-returns-4
+unfolding toField
+returns-4 c = (search to-put, search to-width)
+
+same-length-5 : tie.Need-same-length-5
+same-length-5 c = search needs
+
+returns-5 : tie.Need-returns-5
+unfolding toField
+returns-5 c = (search to-put, search to-width)
 
 pub put-to-spec : {M : Type 1} → statement M
 put-to-spec =
@@ -56,9 +86,17 @@ put-to-spec =
     enum-told-3
     slice-aggregate-put-text
     put-text-requires
+    enum-told-4
+    put-call-requires-3
+    enum-told-5
+    put-call-requires-4
     same-length
     returns
     same-length-2
     returns-2
     same-length-3
-    returns-3)
+    returns-3
+    same-length-4
+    returns-4
+    same-length-5
+    returns-5)

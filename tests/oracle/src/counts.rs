@@ -1,0 +1,124 @@
+// What `compare` counts beside its verdicts, of requests that it finds no difference in: dropped zeros, times, messages and status lines.
+
+use crate::first_number;
+use crate::judge::{Judgement, Rewritten, Verdict};
+use protocol::{words, BAD_TIME, MALFORMED};
+
+const ZERO_AT: [&str; 4] = ["anywhere", "source", "destination", "a hop"];
+const TIMES: [&str; 5] = ["accepted, z", "accepted, /", "accepted, h", "refused: 17, or 15", "of these listed"];
+/// The first four are read or written alike by both.
+const SAID: [&str; 8] = [
+    "message",
+    "with an identifier",
+    "status",
+    "with a time",
+    "listed, accepted",
+    "on shim, or outside",
+    "refused: 18",
+    "of these listed",
+];
+
+/// Columns are reading and writing; of messages and status lines reading, text and frame written again alike, and writing.
+#[derive(Default)]
+pub struct Counts {
+    zeros: [[u64; 2]; 4],
+    times: [[u64; 2]; 5],
+    said: [[u64; 3]; 8],
+}
+
+/// The value of the word of this name, as `zeros=`, in a request or an answer; such words stand last.
+fn value_of<'a>(line: &[&'a [u8]], name: &[u8]) -> Option<&'a [u8]> {
+    line.iter().rev().find_map(|word| word.strip_prefix(name))
+}
+
+fn is_listed_time(verdict: &Verdict) -> bool {
+    matches!(verdict, Verdict::Listed(mark) if mark.is_listed_time() || mark.is_status_time())
+}
+
+impl Counts {
+    pub fn note(&mut self, request: &[u8], ours: &[u8], judgement: &Judgement) {
+        let (way, line) = match request[0] {
+            b'T' | b'F' => (0, ours),
+            b'W' => (1, request),
+            _ => return,
+        };
+        let (line, answer) = (words(line), first_number(ours));
+        self.note_zeros(way, &line);
+        self.note_time(way, &line, answer, &judgement.verdict);
+        self.note_said(way, &line, answer, judgement);
+    }
+
+    /// Counts the places of dropped zeros in an answer that was read, or in a record to be written.
+    fn note_zeros(&mut self, way: usize, line: &[&[u8]]) {
+        if let Some([source, destination, hops @ ..]) = value_of(line, b"zeros=") {
+            let found = [*source == b'1', *destination == b'1', hops.contains(&b'1')];
+            let anywhere = found.contains(&true);
+            for (row, found) in self.zeros.iter_mut().zip([anywhere].into_iter().chain(found)) {
+                row[way] += u64::from(found);
+            }
+        }
+    }
+
+    /// Counts a time that was read or refused, or a record to be written that has one.
+    fn note_time(&mut self, way: usize, line: &[&[u8]], answer: Option<i64>, verdict: &Verdict) {
+        let refused = [i64::from(BAD_TIME), 15][way];
+        let letter = value_of(line, b"time=").and_then(<[u8]>::last);
+        let form = letter.and_then(|letter| b"z/h".iter().position(|form| form == letter));
+        match (answer, form) {
+            (Some(0), Some(form)) => self.times[form][way] += 1,
+            (Some(number), _) if number == refused && (way == 0 || form.is_some()) => {
+                self.times[3][way] += 1;
+                self.times[4][way] += u64::from(is_listed_time(verdict));
+            }
+            _ => {}
+        }
+    }
+
+    /// Counts a message or a status that was read, refused, written again or to be written.
+    fn note_said(&mut self, way: usize, line: &[&[u8]], answer: Option<i64>, judgement: &Judgement) {
+        let column = [0, 2][way];
+        let is_listed = matches!(judgement.verdict, Verdict::Listed(_));
+        if answer == Some(i64::from(MALFORMED)) {
+            self.said[6][column] += 1;
+            self.said[7][column] += u64::from(is_listed);
+        }
+        let kind = line.get([1, 4][way]).copied().unwrap_or(b"");
+        let (is_message, is_status) = (kind == b"message", kind == b"status");
+        if answer != Some(0) || !(is_message || is_status) {
+            return;
+        }
+        let has = |name: &[u8], none: &[u8]| value_of(line, name).map_or(false, |value| value != none);
+        let has_id = has(b"id=", [&b"0+0"[..], b"-"][way]);
+        let is_alike = judgement.verdict == Verdict::Accepted;
+        let rows = [
+            is_alike && is_message,
+            is_alike && has_id,
+            is_alike && is_status,
+            is_alike && has(b"time=", b"-"),
+            is_listed,
+            !is_alike && !is_listed,
+        ];
+        let again = judgement.rewritten.iter().filter(|result| **result == Rewritten::Equal).count() as u64;
+        for (row, _) in self.said.iter_mut().zip(rows).filter(|(_, is_met)| *is_met) {
+            row[column] += 1;
+            row[1] += again;
+        }
+    }
+
+    pub fn print(&self) {
+        print_table("dropped zero at", &["reading", "writing"], &ZERO_AT, &self.zeros);
+        print_table("time", &["reading", "writing"], &TIMES, &self.times);
+        print_table("message or status", &["reading", "again", "writing"], &SAID, &self.said);
+    }
+}
+
+fn print_table<const COLUMNS: usize>(heading: &str, columns: &[&str; COLUMNS], names: &[&str], counts: &[[u64; COLUMNS]]) {
+    print!("\n{:<24}", heading);
+    columns.iter().for_each(|name| print!("{:>10}", name));
+    println!();
+    for (name, counts) in names.iter().zip(counts) {
+        print!("{:<24}", name);
+        counts.iter().for_each(|count| print!("{:>10}", count));
+        println!();
+    }
+}

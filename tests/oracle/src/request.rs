@@ -1,0 +1,199 @@
+// A request W, word by word: the record that is to be written, and the comment, or text and identifier, handed over with it.
+
+use aprs_parser::mic_e::Message;
+use crate::fields::MESSAGES;
+use protocol::messages::ADDRESSEE_LENGTH;
+use protocol::rules::Limit;
+use protocol::{from_decimal, from_hex, rules, Form, LONGEST_CALLSIGN, MOST_HOPS};
+
+const MOST_ROOM: usize = 600;
+
+pub struct Name {
+    pub call: Vec<u8>,
+    pub ssid: Vec<u8>,
+}
+
+pub struct Hop {
+    pub name: Name,
+    pub heard: bool,
+}
+
+#[derive(Clone, Copy, PartialEq, Eq)]
+pub enum Kind {
+    Unknown,
+    Position,
+    MicE,
+    Message,
+    Status,
+}
+
+impl Kind {
+    fn named(word: &[u8]) -> Option<Kind> {
+        match word {
+            b"unknown" => Some(Kind::Unknown),
+            b"position" => Some(Kind::Position),
+            b"mic-e" => Some(Kind::MicE),
+            b"message" => Some(Kind::Message),
+            b"status" => Some(Kind::Status),
+            _ => None,
+        }
+    }
+
+    pub fn has_angles(self) -> bool {
+        matches!(self, Kind::Position | Kind::MicE)
+    }
+}
+
+/// `comment` is a message's or a status's text; `addressee` is without its padding.
+pub struct Request {
+    pub form: Form,
+    pub room: usize,
+    pub comment: Vec<u8>,
+    pub kind: Kind,
+    pub flag: bool,
+    pub from: Name,
+    pub to: Name,
+    pub hops: Vec<Hop>,
+    pub latitude: i64,
+    pub longitude: i64,
+    pub blanks: u8,
+    pub table: u8,
+    pub code: u8,
+    pub message: Option<Message>,
+    pub speed: u32,
+    pub course: u32,
+    pub letters: [u8; 2],
+    pub time: Option<Vec<u8>>,
+    pub addressee: Vec<u8>,
+    pub id: Option<Vec<u8>>,
+}
+
+fn number<T: TryFrom<i64>>(word: &[u8]) -> Option<T> {
+    T::try_from(from_decimal(word)?).ok()
+}
+
+/// A record holds sixteen bytes of call and SSID together; more is no record.
+fn name(word: &[u8]) -> Option<Name> {
+    let slash = word.iter().position(|byte| *byte == b'/')?;
+    let call = from_hex(&word[..slash])?;
+    let ssid = from_hex(&word[slash + 1..])?;
+    if call.len() + ssid.len() > LONGEST_CALLSIGN {
+        return None;
+    }
+    Some(Name { call, ssid })
+}
+
+fn hops(word: &[u8]) -> Option<Vec<Hop>> {
+    if word == b"-" {
+        return Some(Vec::new());
+    }
+    let hops: Option<Vec<Hop>> = word
+        .split(|byte| *byte == b',')
+        .map(|hop| {
+            let unstarred = hop.strip_suffix(b"*");
+            Some(Hop {
+                name: name(unstarred.unwrap_or(hop))?,
+                heard: unstarred.is_some(),
+            })
+        })
+        .collect();
+    hops.filter(|hops| hops.len() <= MOST_HOPS)
+}
+
+fn message(word: &[u8]) -> Option<Option<Message>> {
+    if word == b"-" {
+        return Some(None);
+    }
+    let (message, _) = MESSAGES.iter().find(|(_, name)| name.as_bytes() == word)?;
+    Some(Some(*message))
+}
+
+/// The value of the word of this name, which is taken off, if it is the next of those behind the sixteen.
+fn next_value<'a>(later: &mut &[&'a [u8]], name: &[u8]) -> Option<&'a [u8]> {
+    let (first, rest) = later.split_first()?;
+    let value = first.strip_prefix(name)?;
+    *later = rest;
+    Some(value)
+}
+
+/// Both letters, a dash for none; left out, those of the angles' own sides for a kind with a position.
+fn letters(value: Option<&[u8]>, kind: Kind, latitude: i64, longitude: i64) -> Option<[u8; 2]> {
+    match value {
+        None if !kind.has_angles() => Some(*b"--"),
+        None => Some([Limit::Latitude.own_letter(latitude), Limit::Longitude.own_letter(longitude)]),
+        Some([first @ (b'N' | b'S' | b'-'), second @ (b'E' | b'W' | b'-')]) => Some([*first, *second]),
+        Some(_) => None,
+    }
+}
+
+/// True of a 0 or 1 for each callsign. No more is asked of them: "Writers ignore it" (document 02, R-2).
+fn are_zeros(value: &[u8], hops: usize) -> bool {
+    value.len() == 2 + hops && value.iter().all(|digit| matches!(digit, b'0' | b'1'))
+}
+
+/// Six digits of any value and `z`, `/` or `h`; left out, or a dash, there is no time.
+fn time(value: Option<&[u8]>) -> Option<Option<Vec<u8>>> {
+    match value {
+        None | Some(b"-") => Some(None),
+        Some(time @ [_, _, _, _, _, _, b'z' | b'/' | b'h']) => rules::numbers_of(time).map(|_| Some(time.to_vec())),
+        Some(_) => None,
+    }
+}
+
+/// At most nine bytes, the last no space; left out, or a dash, there are none.
+fn addressee(value: Option<&[u8]>) -> Option<Vec<u8>> {
+    from_hex(value.unwrap_or(b"-")).filter(|bytes| bytes.len() <= ADDRESSEE_LENGTH && bytes.last() != Some(&b' '))
+}
+
+/// An identifier of any length for a message, and none for another kind; left out, or a dash, there is none.
+fn id(value: Option<&[u8]>, kind: Kind) -> Option<Option<Vec<u8>>> {
+    match value {
+        None | Some(b"-") => Some(None),
+        Some(value) if kind == Kind::Message => from_hex(value).map(Some),
+        Some(_) => None,
+    }
+}
+
+pub fn parse(words: &[&[u8]]) -> Option<Request> {
+    let (words, mut later) = words.split_at(words.len().min(16));
+    let [form, room, comment, kind, flag, from, to, path, latitude, longitude, blanks, table, code, word, speed, course]: [&[u8]; 16] =
+        words.try_into().ok()?;
+    let kind = Kind::named(kind)?;
+    let (latitude, longitude) = (from_decimal(latitude)?, from_decimal(longitude)?);
+    let [sides, zeros, seven, nine, identifier] =
+        [&b"letters="[..], b"zeros=", b"time=", b"addressee=", b"id="].map(|name| next_value(&mut later, name));
+    let request = Request {
+        form: match form {
+            b"text" => Form::Text,
+            b"frame" => Form::Frame,
+            _ => return None,
+        },
+        room: number(room).filter(|room| *room <= MOST_ROOM)?,
+        comment: from_hex(comment)?,
+        kind,
+        flag: number::<u8>(flag).filter(|flag| *flag <= 1)? == 1,
+        from: name(from)?,
+        to: name(to)?,
+        hops: hops(path)?,
+        latitude,
+        longitude,
+        blanks: number(blanks)?,
+        table: number(table)?,
+        code: number(code)?,
+        message: message(word)?,
+        speed: number(speed)?,
+        course: number(course)?,
+        letters: letters(sides, kind, latitude, longitude)?,
+        time: time(seven)?,
+        addressee: addressee(nine)?,
+        id: id(identifier, kind)?,
+    };
+    let is_well_formed = later.is_empty()
+        && zeros.map_or(true, |zeros| are_zeros(zeros, request.hops.len()))
+        && (request.kind != Kind::MicE || request.message.is_some());
+    if is_well_formed {
+        Some(request)
+    } else {
+        None
+    }
+}
