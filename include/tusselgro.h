@@ -49,7 +49,8 @@ enum {
     TUSSELGRO_OUT_OF_RANGE = 15,
     TUSSELGRO_NO_ROOM = 16,
     TUSSELGRO_TIME = 17,
-    TUSSELGRO_MALFORMED = 18
+    TUSSELGRO_MALFORMED = 18,
+    TUSSELGRO_TOO_MANY_INNER = 19
 };
 
 /* What a refusal means. The text is never freed. */
@@ -70,12 +71,13 @@ static inline const char *tusselgro_meaning(uint8_t refusal) {
         "Mic-E destination cannot be read",
         "Mic-E information cannot be read",
         "callsign cannot go into AX.25",
-        "record of Unknown kind to be written",
+        "record of Unknown kind, or with an inner packet, to be written",
         "record, angle, time, blanks or list target out of range",
         "output buffer too short; the bytes needed are returned",
         "time cannot be read",
         "a message or status is malformed: no ':' after nine addressee bytes; text too long or not allowed; "
         "identifier not of 1 to 5 bytes",
+        "a fifth inner packet; four are read, each in a body that starts '}'",
     };
     return refusal < sizeof meanings / sizeof meanings[0] ? meanings[refusal] : "no such refusal";
 }
@@ -113,7 +115,12 @@ enum {
 /* The forms of a time, by the letter behind its digits. A writer refuses any other with 15. */
 enum { TUSSELGRO_NO_TIME = 0, TUSSELGRO_DHM_UTC = 'z', TUSSELGRO_DHM_LOCAL = '/', TUSSELGRO_HMS_UTC = 'h' };
 
-enum { TUSSELGRO_MOST_BYTES = 512, TUSSELGRO_MOST_HOPS = 8, TUSSELGRO_MOST_CALLSIGN = 16 };
+enum {
+    TUSSELGRO_MOST_BYTES = 512,
+    TUSSELGRO_MOST_HOPS = 8,
+    TUSSELGRO_MOST_CALLSIGN = 16,
+    TUSSELGRO_MOST_INNER = 4
+};
 
 /* The bytes of an addressee; the most bytes of a message's text and of its identifier, and of a status, its time among
    them. */
@@ -130,9 +137,10 @@ enum {
  *
  * had_zero_ssid is a mark: the text that was read had the SSID '0', which is dropped. N0CALL-0 is read as N0CALL with
  * the mark, and written as N0CALL. It is set where the SSID, once the star is off, is the one byte '0': of A-0 and
- * A-0*, not of A-00, A-0-0 or A-+0. A frame never sets it, nor does anything that is refused. A Mic-E record has no
- * destination, and no mark of one. Writers ignore the mark wherever it is: beside an SSID, and in a destination or a
- * hop that must otherwise be all zeros. Two callsigns that differ in it alone are the same callsign.
+ * A-0*, not of A-00, A-0-0 or A-+0. A frame's addresses never set it, nor does anything that is refused. A Mic-E body's
+ * header has no destination, and no mark of one. Writers ignore the mark wherever it is: beside an SSID, and in a
+ * destination, a hop or an innermost header that must otherwise be all zeros. Two callsigns that differ in it alone are
+ * the same callsign.
  *
  * Both lengths are bytes. A length over 255 must be tested before it is put here: C keeps its last eight bits, which
  * may be in range. Before the mark was here the lengths were size_t, and tusselgro_callsign_read had the mark as zero;
@@ -157,7 +165,7 @@ typedef struct {
     size_t count;
 } tusselgro_path;
 
-/* Where a packet comes from, where it goes to, and its path; a Mic-E record has no destination. 208 bytes. */
+/* Where a packet comes from, where it goes to, and its path; that of a Mic-E body has no destination. 208 bytes. */
 typedef struct {
     tusselgro_callsign from;
     tusselgro_callsign to;
@@ -248,15 +256,33 @@ typedef struct {
     uint8_t kind;                                 /* TUSSELGRO_UNKNOWN to .._STATUS */
 } tusselgro_body;
 
-/* A packet. What its kind lacks is 0: an Unknown one has its header alone, and no kind but a message has an addressee. A
-   writer refuses with 15 any of it that is not 0, but for places and marks. A record of zeros is the blank one. 288
-   bytes. */
+/*
+ * A packet. What its kind lacks is 0: an Unknown one has its headers alone, and no kind but a message has an addressee. A
+ * writer refuses with 15 any of it that is not 0, but for places and marks. A record of zeros is the blank one. 504
+ * bytes.
+ *
+ * A body that starts '}' holds an inner packet: behind the '}' its header and its body, to the end of the input, as text
+ * in a line and in a frame alike. Its body may start '}' too, and so on, up to four inner packets. inner is their number.
+ * Where there are any, header is the outermost header, innermost and body are those of the innermost packet; headers
+ * between the two are judged and not kept. Places are those in the whole input. A Mic-E body is read with the innermost
+ * destination, which that header then has not; the outermost keeps its own. Where there are none, inner is 0 and
+ * innermost is all zeros.
+ *
+ * What has an inner packet is read and not written: a writer refuses it with 14. It looks for 15 before that, in both
+ * headers and in the body, which belongs to the innermost. A number over 4 is 15 as well, and where it is 0 an innermost
+ * header that is not all zeros, but for marks.
+ *
+ * Before inner packets were here a body that starts '}' was Unknown, a record had 288 bytes and tusselgro_read 296. What
+ * was compiled with that header must be compiled again.
+ */
 typedef struct {
-    tusselgro_header header;
-    tusselgro_body body;
+    tusselgro_header header;    /* the outermost */
+    tusselgro_body body;        /* the innermost packet's */
+    tusselgro_header innermost; /* where there is an inner packet */
+    uint8_t inner;              /* inner packets, 0 to TUSSELGRO_MOST_INNER */
 } tusselgro_record;
 
-/* What reading gives: 0 and the record, or the refusal and the blank record (Unknown kind, all zeros). 296 bytes. */
+/* What reading gives: 0 and the record, or the refusal and the blank record (Unknown kind, all zeros). 512 bytes. */
 typedef struct {
     tusselgro_record record;
     uint8_t refusal;
@@ -275,13 +301,14 @@ typedef struct {
 
 /* ---- packets */
 
-/* Reads a line of text, without its line end. Refusals: 1 to 12, 17 and 18. Of a position with a time, and in this
+/* Reads a line of text, without its line end. Refusals: 1 to 12 and 17 to 19. Of a position with a time, and in this
    order: 10 for under seven bytes behind the type byte, 17, then 7, 10, 8 and 9 of what follows the time. Of a body that
-   starts ':' or '>' no other than 18. */
+   starts ':' or '>' no other than 18. Of one that starts '}' those of the inner packet, outermost first: 2 where nothing
+   follows it, 19 where it would hold a fifth, whatever follows it. 1 is about the whole line alone. */
 tusselgro_read tusselgro_read_text(const uint8_t *line, size_t line_len);
 
 /* Reads an AX.25 frame, from the destination's address to the last byte of the body, without flags and checksum.
-   Refusals: 1, 2, 3, 5, 7 to 12, 17 and 18; those of a body in the same order. */
+   Refusals: 1, 2, 3, 5, 7 to 12 and 17 to 19; those of a body in the same order; 4 and 6 of an inner packet alone. */
 tusselgro_read tusselgro_read_frame(const uint8_t *frame, size_t frame_len);
 
 /*
@@ -289,9 +316,9 @@ tusselgro_read tusselgro_read_frame(const uint8_t *frame, size_t frame_len);
  * report, and the text of a message or a status. identifier is what a message has behind its text and a '{', which is
  * written with it; an empty one is none. Other kinds ignore it.
  *
- * Refusals, the first that applies: 15, 14, 18, 1, 16. 15 is about the record alone, 18 about what is lent with it: a
- * text that is too long, or a message's with '|', '~' or '{'; an identifier over five bytes; in a status without a time
- * a text that starts with one, since it would be read as the time. Behind a time it may start with another.
+ * Refusals, the first that applies: 15, 14, 18, 1, 16. 15 and 14 are about the record alone, 18 about what is lent with
+ * it: a text that is too long, or a message's with '|', '~' or '{'; an identifier over five bytes; in a status without a
+ * time a text that starts with one, since it would be read as the time. Behind a time it may start with another.
  */
 tusselgro_answer tusselgro_write_text(tusselgro_record record, const uint8_t *comment, size_t comment_len,
                                       const uint8_t *identifier, size_t identifier_len, uint8_t *out, size_t out_len);

@@ -1,7 +1,8 @@
 // Sets the callsigns, times and positions of a capture as a table, callsigns as they were typed, with the page's box of
 // each position in half hundredths of a minute; in place of a position, whom a message is for, and what it or a status
-// says. The capture has a line a packet; it is the file that the first argument names. A line that is refused is told on
-// standard error, and the status is then 1; it is 2 where no table was set.
+// says. Of a packet with others inside it, that of the innermost, whose sender is named. The capture has a line a
+// packet; it is the file that the first argument names. A line that is refused is told on standard error, and the status
+// is then 1; it is 2 where no table was set.
 
 use std::error::Error;
 use std::process::ExitCode;
@@ -50,8 +51,10 @@ fn row(packet: &AprsPacket<'_>) -> String {
         .iter()
         .filter(|via| matches!(via, Via::Callsign(_, true)));
     let heard = format!("{}/{}", heard.count(), packet.via.len());
+    let inner = packet.inner().map(|inner| inner.from.typed_text());
+    let inner = inner.unwrap_or_else(|| "-".to_string());
     let time = time(&packet.data).map_or_else(|| "-".to_string(), |time| time.to_string());
-    let mut row = format!("{from:<10} {to:<10} {heard:<5} {time:<7}");
+    let mut row = format!("{from:<10} {to:<10} {heard:<5} {inner:<10} {time:<7}");
     if let Some(words) = words(&packet.data) {
         row += &format!(" {words}");
     }
@@ -78,7 +81,7 @@ fn table() -> Result<ExitCode, Box<dyn Error>> {
     let capture = std::fs::read(&name).map_err(|error| format!("{name}: {error}"))?;
     let mut status = ExitCode::SUCCESS;
     println!(
-        "from       to         heard time    latitude longitude   degrees            page box"
+        "from       to         heard inner      time    latitude longitude   degrees            page box"
     );
     for (number, line) in (1..).zip(lines(&capture)) {
         match AprsPacket::decode_textual(line) {

@@ -39,6 +39,8 @@ pub const MOST_BYTES: usize = 512;
 pub const MOST_HOPS: usize = 8;
 /// No callsign's text is longer.
 pub const MOST_CALLSIGN: usize = 16;
+/// No packet has more inside it.
+pub const MOST_INNER: u8 = 4;
 /// Every addressee has so many.
 pub const ADDRESSEE_BYTES: usize = 9;
 /// No message's text is longer.
@@ -122,7 +124,7 @@ pub struct Path {
 pub struct Header {
     /// The source.
     pub from: Callsign,
-    /// The destination; 0 in a Mic-E record.
+    /// The destination; 0 in the header of a Mic-E body.
     pub to: Callsign,
     /// The hops.
     pub path: Path,
@@ -214,10 +216,14 @@ pub struct Body {
 #[repr(C)]
 #[derive(Clone, Copy, Debug, Default, PartialEq, Eq)]
 pub struct Record {
-    /// Source, destination and path.
+    /// Source, destination and path; the outermost ones.
     pub header: Header,
-    /// What it says.
+    /// What it says, or what the innermost packet does.
     pub body: Body,
+    /// Those of the innermost packet; 0 where there is none inside.
+    pub innermost: Header,
+    /// How many packets are inside, 0 to [`MOST_INNER`].
+    pub inner: u8,
 }
 
 /// A packet as it was read.
@@ -578,7 +584,7 @@ mod tests {
         assert_eq!((size_of::<Place>(), size_of::<Report>()), (16, 12));
         assert_eq!((size_of::<Span>(), size_of::<Body>()), (16, 80));
         assert_eq!((size_of::<Time>(), size_of::<TimeRead>()), (5, 6));
-        assert_eq!((size_of::<Record>(), size_of::<Read>()), (288, 296));
+        assert_eq!((size_of::<Record>(), size_of::<Read>()), (504, 512));
         assert_eq!((size_of::<Answer>(), size_of::<CallsignRead>()), (24, 21));
         assert_eq!((size_of::<AddressRead>(), size_of::<Address>()), (22, 8));
         assert_eq!(
@@ -614,11 +620,24 @@ mod tests {
     }
 
     #[test]
+    fn a_record_has_its_parts_where_the_header_has_them() {
+        let record = Record::default();
+        let at = |part: *const u8| part as usize - &record as *const Record as usize;
+        assert_eq!(
+            (at(&record.header.from.text[0]), at(&record.body.kind)),
+            (0, 208 + 79)
+        );
+        assert_eq!(at(&record.innermost.from.text[0]), 288);
+        assert_eq!(at(&record.inner), 496);
+    }
+
+    #[test]
     fn equality_looks_at_all_of_a_callsign_but_its_mark() {
         let mut record = Record::default();
         record.header.from.had_zero_ssid = true;
         record.header.to.had_zero_ssid = true;
         record.header.path.hops[7].call.had_zero_ssid = true;
+        record.innermost.from.had_zero_ssid = true;
         assert_eq!(record, Record::default());
         let others: [fn(&mut Callsign); 3] = [
             |callsign| callsign.text[15] = 1,

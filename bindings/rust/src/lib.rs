@@ -10,6 +10,7 @@ mod builder;
 mod callsign;
 pub mod ffi;
 mod fields;
+mod inner;
 mod latitude;
 mod longitude;
 mod message;
@@ -30,10 +31,11 @@ mod via;
 pub use address::CallsignField;
 pub use builder::PacketBuilder;
 pub use callsign::{Callsign, IntoCallsign};
-pub use ffi::{MOST_BYTES, MOST_HOPS};
+pub use ffi::{MOST_BYTES, MOST_HOPS, MOST_INNER};
 pub use fields::{
     list_longitude, list_longitude_to_slice, list_motion, list_motion_to_slice, Field,
 };
+pub use inner::Inner;
 pub use latitude::{Latitude, LatitudeRead};
 pub use longitude::{Longitude, LongitudeRead, Side};
 pub use message::{Addressee, AprsMessage};

@@ -2,6 +2,7 @@
 
 use crate::callsign::Callsign;
 use crate::ffi;
+use crate::inner::{Around, Inner};
 use crate::message::AprsMessage;
 use crate::mic_e::AprsMicE;
 use crate::out::{to_slice, to_vec};
@@ -16,6 +17,9 @@ use crate::via::Path;
 /// The fields are those of aprs-parser. Nothing is allocated: comment, text and identifier are borrowed from the bytes
 /// that were read, so those must live as long as the packet. [`position`](Self::position), [`message`](Self::message),
 /// [`status`](Self::status) and [`mic_e`](Self::mic_e) build one.
+///
+/// A packet may have others inside it, each in the body of the one around it. Then source, destination and hops are the
+/// outermost header's, the data is what the innermost packet carries, and [`inner`](Self::inner) has that packet's header.
 ///
 /// ```
 /// use tusselgro::{AprsData, AprsPacket};
@@ -40,8 +44,9 @@ pub struct AprsPacket<'a> {
     pub from: Callsign,
     /// The hops.
     pub via: Path,
-    /// What it carries.
+    /// What it carries, or the innermost packet does.
     pub data: AprsData<'a>,
+    pub(crate) around: Option<Around>,
 }
 
 /// What a packet carries. Compressed positions, which aprs-parser reads, are refused by name: see
@@ -62,7 +67,8 @@ pub enum AprsData<'a> {
 }
 
 impl<'a> AprsData<'a> {
-    /// The destination; a Mic-E report has none, since those bytes are part of the report.
+    /// The destination, which is that of the innermost packet; a Mic-E report has none, since those bytes are part of the
+    /// report.
     pub fn to(&self) -> Option<&Callsign> {
         match self {
             AprsData::Position(position) => Some(&position.to),
@@ -142,6 +148,7 @@ impl<'a> AprsPacket<'a> {
             from,
             via: Path::new(),
             data: data.into(),
+            around: None,
         }
     }
 
@@ -156,7 +163,7 @@ impl<'a> AprsPacket<'a> {
     }
 
     /// Appends the packet as a line of text, without a line end; at a refusal nothing. The last heard hop gets the
-    /// star, which says that those before it were heard too.
+    /// star, which says that those before it were heard too. One with others inside it is refused, with 14.
     pub fn encode_textual(&self, out: &mut Vec<u8>) -> Result<(), Refusal> {
         to_vec(out, self.by(ffi::tusselgro_write_text))
     }
@@ -197,9 +204,47 @@ impl<'a> AprsPacket<'a> {
         }
     }
 
-    /// The destination; a Mic-E packet has none.
+    /// The destination; a Mic-E packet has none, but one with such a packet inside it has.
     pub fn to(&self) -> Option<&Callsign> {
-        self.data.to()
+        match &self.around {
+            Some(around) => Some(&around.to),
+            None => self.data.to(),
+        }
+    }
+
+    /// The innermost header and the number of packets inside, where there are any.
+    ///
+    /// ```
+    /// use tusselgro::AprsPacket;
+    ///
+    /// let packet = AprsPacket::decode_textual(b"N0CALL>APRS:}W1AW-9>APZ,TCPIP,N0CALL*:>Net Control Center")?;
+    /// assert_eq!(packet.from.to_string(), "N0CALL");
+    /// let inner = packet.inner().unwrap();
+    /// assert_eq!((inner.from.to_string(), inner.via.len(), inner.number), ("W1AW-9".to_string(), 2, 1));
+    /// assert_eq!(packet.comment(), b"Net Control Center");
+    /// # Ok::<(), tusselgro::Refusal>(())
+    /// ```
+    pub fn inner(&self) -> Option<Inner<'_>> {
+        self.around.as_ref().map(|around| Inner {
+            number: around.number,
+            from: &around.from,
+            to: self.data.to(),
+            via: &around.via,
+        })
+    }
+
+    /// The innermost packet by itself, which can be written; where there is none inside, this packet.
+    pub fn innermost(&self) -> Self {
+        let (from, via) = match &self.around {
+            Some(around) => (around.from, &around.via),
+            None => (self.from, &self.via),
+        };
+        AprsPacket {
+            from,
+            via: via.clone(),
+            data: self.data,
+            around: None,
+        }
     }
 
     /// The comment, or the text of a message.

@@ -2,6 +2,7 @@
 
 use crate::callsign::Callsign;
 use crate::ffi;
+use crate::inner::Around;
 use crate::message::{Addressee, AprsMessage};
 use crate::mic_e::{AprsMicE, Course, Message, Speed};
 use crate::packet::{AprsData, AprsPacket};
@@ -15,10 +16,14 @@ use crate::via::{Path, Via};
 
 /// The packet of a record that was read from `bytes`.
 pub fn packet_of<'a>(record: &ffi::Record, bytes: &'a [u8]) -> Result<AprsPacket<'a>, Refusal> {
-    let ffi::Record { header, body } = record;
+    let ffi::Record { header, body, .. } = record;
     let comment = part_of(bytes, body.comment)?;
     let identifier = part_of(bytes, body.identifier)?;
-    let to = Callsign::of(header.to);
+    let around = around_of(record)?;
+    let to = Callsign::of(match around {
+        Some(_) => record.innermost.to,
+        None => header.to,
+    });
     let data = match body.kind {
         ffi::POSITION => position_of(body, to, comment)?.into(),
         ffi::MIC_E => mic_e_of(&body.place, &body.report, comment)?.into(),
@@ -30,7 +35,21 @@ pub fn packet_of<'a>(record: &ffi::Record, bytes: &'a [u8]) -> Result<AprsPacket
         from: Callsign::of(header.from),
         via: path_of(&header.path)?,
         data,
+        around,
     })
+}
+
+/// Nothing where there is no packet inside.
+fn around_of(record: &ffi::Record) -> Result<Option<Around>, Refusal> {
+    if record.inner == 0 {
+        return Ok(None);
+    }
+    Ok(Some(Around {
+        to: Callsign::of(record.header.to),
+        number: record.inner,
+        from: Callsign::of(record.innermost.from),
+        via: path_of(&record.innermost.path)?,
+    }))
 }
 
 fn part_of(bytes: &[u8], span: ffi::Span) -> Result<&[u8], Refusal> {
@@ -89,12 +108,9 @@ fn message_of<'a>(
 
 /// The record of a packet, without the places of its comment and its identifier.
 pub fn record_of(packet: &AprsPacket<'_>) -> ffi::Record {
-    let to = packet.to().map(Callsign::raw).unwrap_or_default();
-    let header = ffi::Header {
-        from: packet.from.raw(),
-        to,
-        path: path_record(&packet.via),
-    };
+    let header = header_record(&packet.from, packet.to(), &packet.via);
+    let inner = packet.inner();
+    let innermost = inner.map(|inner| header_record(inner.from, inner.to, inner.via));
     let body = match &packet.data {
         AprsData::Position(position) => position_body(position),
         AprsData::Message(message) => message_body(message),
@@ -102,7 +118,20 @@ pub fn record_of(packet: &AprsPacket<'_>) -> ffi::Record {
         AprsData::MicE(report) => mic_e_body(report),
         AprsData::Unknown(_) => ffi::Body::default(),
     };
-    ffi::Record { header, body }
+    ffi::Record {
+        header,
+        body,
+        innermost: innermost.unwrap_or_default(),
+        inner: inner.map_or(0, |inner| inner.number),
+    }
+}
+
+fn header_record(from: &Callsign, to: Option<&Callsign>, via: &Path) -> ffi::Header {
+    ffi::Header {
+        from: from.raw(),
+        to: to.map(Callsign::raw).unwrap_or_default(),
+        path: path_record(via),
+    }
 }
 
 fn path_record(via: &Path) -> ffi::Path {
@@ -201,6 +230,10 @@ mod tests {
             b"A>S32UVT,C-0*:>092345z",
             b"A-0>B-0,C,D-0*:!0000.00N/00000.00E-",
             b"A-0>S32UVT-0,B-0:`(_fn\"Oj/",
+            b"A-0>B-0,C,D-0*:}E-0>F,G-0*:}H-0>I-0,J,K-0*:!0000.00N/00000.00E-",
+            b"A-0>B-0:}C-0>S32UVT-0,D-0:`(_fn\"Oj/",
+            b"A>B:}C>D:}E>F:}G>H:}I-7>J-8:",
+            b"A>B:}>:",
         ] {
             let mut record = read(line);
             let packet = packet_of(&record, line).unwrap();

@@ -82,11 +82,12 @@ refusals! {
     11 MicEDestination "Mic-E destination cannot be read"
     12 MicEInformation "Mic-E information cannot be read"
     13 NotAx25 "callsign cannot go into AX.25"
-    14 UnknownKind "record of Unknown kind to be written"
+    14 UnknownKind "record of Unknown kind, or with an inner packet, to be written"
     15 OutOfRange "record, angle, time, blanks or list target out of range"
     17 Time "time cannot be read"
     18 Malformed "a message or status is malformed: no ':' after nine addressee bytes; text too long or not allowed; \
         identifier not of 1 to 5 bytes"
+    19 TooManyInner "a fifth inner packet; four are read, each in a body that starts '}'"
 }
 
 impl Refusal {
@@ -131,12 +132,12 @@ mod tests {
     fn each_means_what_the_source_says() {
         let mut lines = SOURCE.lines();
         assert_eq!(lines.next(), Some("0\tno refusal"));
-        for number in 1..=18 {
+        for number in 1..=19 {
             let meaning = Refusal::of(number, 7).map_or("", Refusal::meaning);
             assert_eq!(lines.next(), Some(&*format!("{number}\t{meaning}")));
         }
         assert_eq!(lines.next(), None);
-        assert_eq!(Refusal::of(19, 0), Some(Refusal::Other(19)));
+        assert_eq!(Refusal::of(20, 0), Some(Refusal::Other(20)));
     }
 
     #[test]
@@ -147,8 +148,8 @@ mod tests {
             "16: output buffer too short; the bytes needed are returned: 40"
         );
         assert_eq!(
-            Refusal::Other(19).to_string(),
-            "19: a refusal without a name"
+            Refusal::Other(20).to_string(),
+            "20: a refusal without a name"
         );
     }
 }

@@ -8,6 +8,7 @@ const MIC_E: &[u8] = b"A>S32U6T:`(_fn\"Oj/Comment";
 const TIMED: &[u8] = b"A>B:@092345z4903.50N/07201.75W>Test1234";
 const MESSAGE: &[u8] = b"N0CALL-01>APRS,K1A*::WU2Z     :Testing{003";
 const STATUS: &[u8] = b"N0CALL-01>APRS,K1A*:>092345zNet Control Center";
+const INNER: &[u8] = b"A>B:}C>D:}E>F:}G>H,K1A*:!4903.50N/07201.75W-";
 
 fn read(line: &[u8]) -> AprsPacket<'_> {
     AprsPacket::decode_textual(line).unwrap()
@@ -494,6 +495,7 @@ fn every_refusal_of_a_line() {
     assert!(lines.iter().map(|line| refusal(line)).eq(1..=12));
     assert_eq!(refusal(b"A>B:/000000z4903.50N/07201.75W>"), 17);
     assert_eq!(refusal(b"A>B::WU2Z     "), 18);
+    assert_eq!(refusal(b"A>B:}C>D:}E>F:}G>H:}I>J:}"), 19);
     assert_eq!(refusal(&long[..512]), 0);
 }
 
@@ -546,11 +548,12 @@ fn spoilt_lines_do_no_harm() {
         (state >> 8) as usize % below
     };
     let (mut accepted, mut refused, mut mistimed, mut malformed) = (0, 0, 0, 0);
+    let mut inside = 0;
     for _ in 0..20_000 {
-        let mut line = [LINE, MIC_E, TIMED, MESSAGE, STATUS][random(5)].to_vec();
+        let mut line = [LINE, MIC_E, TIMED, MESSAGE, STATUS, INNER][random(6)].to_vec();
         for _ in 0..1 + random(3) {
             let at = random(line.len());
-            line[at] = [random(256) as u8, b":>,*-!/h 09{|~"[random(14)]][random(2)];
+            line[at] = [random(256) as u8, b":>,*-!/h 09{|~}"[random(15)]][random(2)];
         }
         line.truncate(1 + random(2 * line.len()));
         let mut room = [0; MOST_BYTES];
@@ -560,10 +563,12 @@ fn spoilt_lines_do_no_harm() {
                     .encode_textual_to_slice(&mut room)
                     .map(<[u8]>::to_vec);
                 assert_eq!(slice, written(&packet));
+                assert!(packet.inner().is_none() || slice.is_err());
+                inside += usize::from(packet.inner().is_some());
                 accepted += 1;
             }
             Err(refusal) => {
-                assert!(matches!(refusal.number(), 1..=12 | 17 | 18));
+                assert!(matches!(refusal.number(), 1..=12 | 17..=19));
                 mistimed += usize::from(refusal == Refusal::Time);
                 malformed += usize::from(refusal == Refusal::Malformed);
                 refused += 1;
@@ -572,4 +577,5 @@ fn spoilt_lines_do_no_harm() {
     }
     assert!(accepted > 1_000 && refused > 1_000, "{accepted} {refused}");
     assert!(mistimed > 100 && malformed > 100, "{mistimed} {malformed}");
+    assert!(inside > 100, "{inside}");
 }

@@ -1,4 +1,4 @@
-// A record made by hand, its header and its body, each by their words, and the identifier that goes with a message: part of the
+// A record made by hand, its headers and its body, each by their words, and the identifier that goes with a message: part of the
 // programs inspect and bench. Words that make no part of it give one that is not good.
 use body::Body;
 use body::Kind;
@@ -26,6 +26,13 @@ struct CallWord {
 
 pub struct HeaderWord {
     pub header: Header,
+    pub good: bool,
+}
+
+// How many packets are inside, and the innermost header.
+pub struct InnerWord {
+    pub innermost: Header,
+    pub inner: u8,
     pub good: bool,
 }
 
@@ -134,7 +141,7 @@ fn hop_word(s: &[u8]) -> CallWord {
     call_word(lines::cut(s, star))
 }
 
-// ---- marks, by `zeros=BITS`: a digit for each callsign, 1 where its text had the SSID `0`
+// ---- marks, by `BITS`: a digit for each callsign, 1 where its text had the SSID `0`
 
 // Whether each byte is the digit 0 or 1.
 fn are_bits(s: &[u8]) -> bool {
@@ -204,42 +211,63 @@ fn path_word(from: Callsign, to: Callsign, bits: &[u8], s: &[u8]) -> HeaderWord 
     no_header()
 }
 
-// `FROM TO HOPS`, and more behind it
-fn callsigns_word(s: &[u8], bits: &[u8]) -> HeaderWord {
-    let made = call_word(lines::first(s));
+// `FROM`, `TO` and `HOPS`
+fn callsigns_word(from: &[u8], to: &[u8], hops: &[u8], bits: &[u8]) -> HeaderWord {
+    let made = call_word(from);
     if !made.good {
         return no_header();
     }
     let from = marked(made.call, bits, 0);
-    let s = lines::rest(s);
-    let made = call_word(lines::first(s));
+    let made = call_word(to);
     if !made.good {
         return no_header();
     }
     let to = marked(made.call, bits, 1);
-    path_word(from, to, bits, lines::first(lines::rest(s)))
+    path_word(from, to, bits, hops)
 }
 
-// The same with the marks, which stand behind the record's eleven words; left out, there are none.
-pub fn header_word(s: &[u8]) -> HeaderWord {
-    let more = words::past(words::behind(words::skip(s, 10)), b" letters=");
-    if !words::has(more, b" zeros=") {
-        return callsigns_word(s, b"");
-    }
-    let bits = words::value(more, b" zeros=");
+// The same with marks.
+fn marked_word(from: &[u8], to: &[u8], hops: &[u8], bits: &[u8]) -> HeaderWord {
     if bits.len() < 2 {
         return no_header();
     }
     if !are_bits(bits) {
         return no_header();
     }
-    let named = callsigns_word(s, bits);
+    let named = callsigns_word(from, to, hops, bits);
     let header = named.header;
     let path = header.path;
     if lines::tail(bits, 2).len() != path.count {
         return no_header();
     }
     named
+}
+
+// `FROM TO HOPS`, and more behind it; the marks stand behind the record's eleven words, and left out there are none.
+pub fn header_word(s: &[u8]) -> HeaderWord {
+    let more = words::past(words::behind(words::skip(s, 10)), b" letters=");
+    let t = lines::rest(s);
+    let from = lines::first(s);
+    let to = lines::first(t);
+    let hops = lines::first(lines::rest(t));
+    if words::has(more, b" zeros=") {
+        return marked_word(from, to, hops, words::value(more, b" zeros="));
+    }
+    callsigns_word(from, to, hops, b"")
+}
+
+// `[inner-from=CALL/SSID] [inner-to=CALL/SSID] [inner-hops=HOPS] [inner-zeros=BITS]`; left out, there is nothing.
+fn innermost_word(s: &[u8]) -> HeaderWord {
+    let t = words::past(s, b" inner-from=");
+    let u = words::past(t, b" inner-to=");
+    let more = words::past(u, b" inner-hops=");
+    let from = words::value_or(s, b" inner-from=", b"-/-");
+    let to = words::value_or(t, b" inner-to=", b"-/-");
+    let hops = words::value_or(u, b" inner-hops=", b"-");
+    if words::has(more, b" inner-zeros=") {
+        return marked_word(from, to, hops, words::value(more, b" inner-zeros="));
+    }
+    callsigns_word(from, to, hops, b"")
 }
 
 // ---- the body
@@ -368,9 +396,20 @@ fn past_addressee(s: &[u8]) -> &[u8] {
     words::past(past_time(s), b" addressee=")
 }
 
+// The same, and the identifier.
+fn past_identifier(s: &[u8]) -> &[u8] {
+    words::past(past_addressee(s), b" id=")
+}
+
+// What stands behind the words of the innermost header.
+fn past_innermost(s: &[u8]) -> &[u8] {
+    let t = words::past(words::past(s, b" inner-from="), b" inner-to=");
+    words::past(words::past(t, b" inner-hops="), b" inner-zeros=")
+}
+
 // Whether nothing else stands there.
 fn is_known(s: &[u8]) -> bool {
-    words::past(past_addressee(s), b" id=").len() == 0
+    past_innermost(words::past(past_identifier(s), b" inner=")).len() == 0
 }
 
 fn has_position(k: Kind) -> bool {
@@ -611,4 +650,27 @@ pub fn identifier_word(s: &[u8], out: &mut [u8]) -> Bytes {
         }
     }
     Bytes::Are(n)
+}
+
+// ---- the packets inside
+
+// `[inner=N]` and the innermost header, behind the words of a body; left out, there are none.
+pub fn inner_word(s: &[u8]) -> InnerWord {
+    let more = past_identifier(words::behind(words::skip(s, 12)));
+    let inner = words::byte(words::value_or(more, b" inner=", b"0"));
+    if 255 < inner {
+        let innermost = header::blank();
+        return InnerWord {
+            innermost,
+            inner: 0,
+            good: false,
+        };
+    }
+    let named = innermost_word(words::past(more, b" inner="));
+    let innermost = named.header;
+    InnerWord {
+        innermost,
+        inner: inner as u8,
+        good: named.good,
+    }
 }

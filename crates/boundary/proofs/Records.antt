@@ -1,16 +1,23 @@
 -- A record as C has it and the record that is meant, from what the functions of kind and message gave.
 -- Assumes nothing.
-use mathlib.Core.Path.{_≡_}
+use mathlib.Core.Path.{_≡_, refl, ap, _∙_}
+use mathlib.Core.Bool.{Bool, true, false, cond}
+use mathlib.Core.List.{List}
 use Prim.Native.Nat.{ℕ}
 use Rattle.mic_e.specs.declared.Message.{Message}
 use Rattle.mic_e.specs.Message.{messageNumber, messageAt}
 use Rattle.body.specs.declared.Kind.{Kind}
 use Rattle.body.specs.declared.Report.{Report}
 use Rattle.body.specs.declared.Body.{Body}
+use Rattle.packet.specs.declared.Outer.{Outer}
 use Rattle.packet.specs.declared.PacketRead.{PacketRead}
+use Rattle.packet.specs.Packet.{mostInner, holdsPacket, readText, readFrame}
+use Rattle.packet.specs.Outer.{outerText, outerFrame, aloneOf, packetFrom}
+use Rattle.packet.proofs.ByItself.{from-alone, either-from}
 use Rattle.boundary.specs.declared.CReport.{CReport}
 use Rattle.boundary.specs.declared.CBody.{CBody}
 use Rattle.boundary.specs.declared.CRecord.{CRecord}
+use Rattle.boundary.specs.declared.CRead.{CRead}
 use Rattle.boundary.specs.Numbers.{kindNumber, kindAt}
 use Rattle.boundary.specs.Record.{reportInC, bodyInC, recordInC, readInC, reportMeant, bodyMeant, recordMeant}
 
@@ -37,7 +44,11 @@ unfolding bodyInC
 body-in-c b report kind e h = rw (e, h)
 
 pub read-in-c : (p : PacketRead) (body : CBody) → body ≡ bodyInC (p .«record» .body)
-    → record { «record» = record { header = p .«record» .header; body = body }; refusal = p .refusal } ≡ readInC p
+    → record {
+      «record» = record { header = p .«record» .header; body = body; innermost = p .«record» .innermost; inner = p .«record» .inner };
+      refusal = p .refusal;
+    }
+    ≡ readInC p
 unfolding readInC recordInC
 read-in-c p body e = rw e
 
@@ -63,6 +74,30 @@ pub body-meant : (b : CBody) (report : Report) (kind : Kind) → report ≡ repo
 unfolding bodyMeant
 body-meant b report kind e h = rw (e, h)
 
-pub record-meant : (r : CRecord) (body : Body) → body ≡ bodyMeant (r .body) → record { header = r .header; body = body } ≡ recordMeant r
+pub record-meant : (r : CRecord) (body : Body) → body ≡ bodyMeant (r .body)
+    → record { header = r .header; body = body; innermost = r .innermost; inner = r .inner } ≡ recordMeant r
 unfolding recordMeant
 record-meant r body e = rw e
+
+-- ---- a packet by itself, and what it holds
+
+module _ (s : List ℕ) (framed : Bool) (o : Outer) (e : o ≡ cond framed (outerFrame s) (outerText s)) (r : CRead) where
+  held-in-c : (p : PacketRead) → p ≡ packetFrom mostInner o s → r ≡ readInC p → r ≡ readInC (cond framed (readFrame s) (readText s))
+  held-in-c p q w = w ∙ ap (λ (x : PacketRead). readInC x) (either-from s framed o p e q)
+
+  alone-in-c : (u : Bool) → u ≡ holdsPacket s (o .at) → u ≡ false → r ≡ readInC (aloneOf o) → r ≡ readInC (cond framed (readFrame s) (readText s))
+  alone-in-c u q n w = held-in-c (aloneOf o) (from-alone mostInner o s u q (aloneOf o) n refl) w
+
+module _ (s : List ℕ) (o : Outer) (e : o ≡ outerText s) (r : CRead) where
+  pub held-text-in-c : (p : PacketRead) → p ≡ packetFrom mostInner o s → r ≡ readInC p → r ≡ readInC (readText s)
+  held-text-in-c = held-in-c s false o e r
+
+  pub alone-text-in-c : (u : Bool) → u ≡ holdsPacket s (o .at) → u ≡ false → r ≡ readInC (aloneOf o) → r ≡ readInC (readText s)
+  alone-text-in-c = alone-in-c s false o e r
+
+module _ (s : List ℕ) (o : Outer) (e : o ≡ outerFrame s) (r : CRead) where
+  pub held-frame-in-c : (p : PacketRead) → p ≡ packetFrom mostInner o s → r ≡ readInC p → r ≡ readInC (readFrame s)
+  held-frame-in-c = held-in-c s true o e r
+
+  pub alone-frame-in-c : (u : Bool) → u ≡ holdsPacket s (o .at) → u ≡ false → r ≡ readInC (aloneOf o) → r ≡ readInC (readFrame s)
+  alone-frame-in-c = alone-in-c s true o e r

@@ -9,6 +9,7 @@ use Rattle.callsign.specs.declared.Callsign.{Callsign}
 use Rattle.laws.specs.Lists.{padTo}
 use Rattle.callsign.specs.Text.{blankCall, made, joined}
 use Rattle.header.specs.declared.Hop.{Hop}
+use Rattle.header.specs.declared.Header.{Header}
 use Rattle.header.specs.Header.{blankHeader, headerOf, pathOf, blankHop}
 use Rattle.mic_e.specs.Message.{messageNumber}
 use Rattle.time.specs.Time.{noTime}
@@ -41,11 +42,14 @@ noCall = record { text = replicate 16 0; «call_len» = 0; «ssid_len» = 0; «h
 abbrev pub noHop : Hop
 noHop = record { call = noCall; heard = false }
 
+abbrev pub noHeader : Header
+noHeader = record { from = noCall; to = noCall; path = record { hops = replicate 8 noHop; count = 0 } }
+
 -- every byte of a record, number by number, 0
 abbrev pub allZero : CRecord
 allZero =
     record {
-      header = record { from = noCall; to = noCall; path = record { hops = replicate 8 noHop; count = 0 } };
+      header = noHeader;
       body = record {
         place = record { latitude = record { 0 = pos 0 }; longitude = record { 0 = pos 0 }; blanks = 0; table = 0; code = 0; south = false; west = false };
         report = record { speed = record { 0 = 0 }; course = record { 0 = 0 }; message = 0; current = false };
@@ -56,6 +60,8 @@ allZero =
         messaging = false;
         kind = 0;
       };
+      innermost = noHeader;
+      inner = 0;
     }
 
 -- "A refused decode returns the blank record: Unknown kind, all lengths and numbers 0."

@@ -37,9 +37,9 @@ bodyInC b =
       kind = kindNumber (b .kind);
     }
 
--- the header as it is, and that body
+-- both headers and the number of packets inside as they are, and that body
 unfoldable pub recordInC : Record → CRecord
-recordInC r = record { header = r .header; body = bodyInC (r .body) }
+recordInC r = record { header = r .header; body = bodyInC (r .body); innermost = r .innermost; inner = r .inner }
 
 -- the record and the refusal
 unfoldable pub readInC : PacketRead → CRead
@@ -67,7 +67,7 @@ bodyMeant b =
 
 -- the record of that body
 unfoldable pub recordMeant : CRecord → Record
-recordMeant r = record { header = r .header; body = bodyMeant (r .body) }
+recordMeant r = record { header = r .header; body = bodyMeant (r .body); innermost = r .innermost; inner = r .inner }
 
 -- a kind and a message of those numbers exist
 unfoldable pub isKnown : CBody → Bool

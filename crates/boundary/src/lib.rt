@@ -2,7 +2,6 @@
 // numbers and records by value. A record is the library's own, but that an enum in it is a number. No function asks more of its
 // caller than its C type says. The parts of a packet have a library of their own, the crate parts.
 ghost use mathlib.Core.Path.{_≡_};
-ghost use mathlib.Core.Bool.{cond};
 ghost use Rattle.buffer.specs.Wrote.{ends, wrote};
 ghost use Rattle.lonlat.specs.Angle.{mostLatitude, mostLongitude};
 ghost use Rattle.lonlat.specs.Longitude.{longitudeRefusal};
@@ -10,6 +9,7 @@ ghost use Rattle.position.specs.Bounds.{boundsOf};
 ghost use Rattle.position.specs.Page.{boxOf};
 ghost use Rattle.fields.specs.Lists.{listed, motionRefusal, motionFields, longitudeFields};
 ghost use Rattle.packet.specs.Packet.{readText, readFrame};
+ghost use Rattle.packet.specs.Outer.{aloneOf};
 ghost use Rattle.packet.specs.Written.{textBytes, frameBytes};
 ghost use Rattle.boundary.specs.Numbers.{kindNumber, kindAt};
 ghost use Rattle.boundary.specs.Record.{reportInC, bodyInC, readInC, isKnown, reportMeant, bodyMeant, recordMeant, textRefusalInC, frameRefusalInC};
@@ -22,6 +22,7 @@ use lonlat::Latitude;
 use lonlat::Longitude;
 use mic_e::Course;
 use mic_e::Speed;
+use packet::Outer;
 use packet::PacketRead;
 use packet::Record;
 use position::BoundsAnswer;
@@ -56,6 +57,8 @@ pub struct CBody {
 pub struct CRecord {
     pub header: Header,
     pub body: CBody,
+    pub innermost: Header,
+    pub inner: u8,
 }
 
 // What reading gives: 0 and the record, or the refusal's number and zeros.
@@ -143,10 +146,34 @@ fn read_in_c(p: PacketRead) -> CRead
     let r = p.record;
     let header = r.header;
     let body = body_in_c(r.body);
-    let record = CRecord { header, body };
+    let innermost = r.innermost;
+    let record = CRecord {
+        header,
+        body,
+        innermost,
+        inner: r.inner,
+    };
     CRead {
         record,
         refusal: p.refusal,
+    }
+}
+
+// A packet with none inside.
+fn outer_in_c(o: Outer) -> CRead
+    ensures { λ a. ⌜ a ≡ readInC (aloneOf o) ⌝ }
+{
+    let header = o.header;
+    let body = body_in_c(o.body);
+    let innermost = header::blank();
+    CRead {
+        record: CRecord {
+            header,
+            body,
+            innermost,
+            inner: 0,
+        },
+        refusal: o.refusal,
     }
 }
 
@@ -202,24 +229,27 @@ fn record_meant(r: CRecord) -> Record
 {
     let header = r.header;
     let body = body_meant(r.body);
-    Record { header, body }
+    let innermost = r.innermost;
+    Record {
+        header,
+        body,
+        innermost,
+        inner: r.inner,
+    }
 }
 
-// ---- packets
-
-// Reads a frame where framed, else a line of text. One function, so that it is compiled once and in one piece.
-fn read(s: &[u8], framed: bool) -> CRead
-    ensures { λ r. ⌜ r ≡ readInC (cond framed (readFrame (now (s .entry))) (readText (now (s .entry)))) ⌝ }
-{
-    read_in_c(packet::read(s, framed))
-}
+// ---- packets: one with none inside goes to C as it was read by itself, so that its record is not handed on once more
 
 // Reads a line of text: the record, or the number of its first fault and zeros.
 #[no_mangle]
 pub extern "C" fn tusselgro_read_text(line: &[u8]) -> CRead
     ensures { λ r. ⌜ r ≡ readInC (readText (now (line .entry))) ⌝ }
 {
-    read(line, false)
+    let o = packet::read_outer(line, false);
+    if packet::holds_packet(line, o.at) {
+        return read_in_c(packet::read_inside(o, line));
+    }
+    outer_in_c(o)
 }
 
 // Reads an AX.25 frame, from its destination to the end of its information: as tusselgro_read_text.
@@ -227,7 +257,11 @@ pub extern "C" fn tusselgro_read_text(line: &[u8]) -> CRead
 pub extern "C" fn tusselgro_read_frame(frame: &[u8]) -> CRead
     ensures { λ r. ⌜ r ≡ readInC (readFrame (now (frame .entry))) ⌝ }
 {
-    read(frame, true)
+    let o = packet::read_outer(frame, true);
+    if packet::holds_packet(frame, o.at) {
+        return read_in_c(packet::read_inside(o, frame));
+    }
+    outer_in_c(o)
 }
 
 // Writes a record with its comment, or its text and identifier, as a line of text; refused with 15, 14, 18, 1 or 16. Where the record

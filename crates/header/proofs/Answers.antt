@@ -26,7 +26,7 @@ use Rattle.header.specs.declared.HeaderRead.{HeaderRead}
 use Rattle.header.specs.Header.{mostBytes, Hops, blankHop, pathOf, hopsOf, headerOf, blankHeader, headerRefused, headerAccepted, unlessRefused, withHops}
 use Rattle.header.specs.Text.{fields, firstOf, othersOf, starsOf, carried, readRoute, readBefore, readHeaderText, readTextHeader}
 use Rattle.header.specs.Frame.{startsWithPair, withPair, readSource, readFrameHeader}
-use Rattle.header.specs.Range.{hopInRange, isBlank, pathInRange, headerInRange}
+use Rattle.header.specs.Range.{hopInRange, isBlank, isBlankHeader, pathInRange, headerInRange}
 use Rattle.header.proofs.Typed.{isSet, heard-then-set, set-then-heard}
 use Rattle.header.proofs.Going.{length-carried}
 use Rattle.header.proofs.Walks.{InText, InLine, InFrame, Sound, none, some, either-sound, call-in-text, text-sound, carried-range, address-in-frame, frame-sound}
@@ -153,6 +153,10 @@ path-range l m q =
 header-range : (from to : Callsign) (l : List Hop) → inRange from ≡ true → inRange to ≡ true → length l ≤ 8 → every hopInRange l ≡ true → headerInRange (headerOf from to (pathOf l)) ≡ true
 unfolding headerInRange headerOf
 header-range from to l a b m q = rw (a, b) (path-range l m q)
+
+pub blank-is-blank : isBlankHeader blankHeader ≡ true
+unfolding isBlankHeader blankHeader headerOf pathOf padTo
+blank-is-blank = unfold isBlankCall blankCall made joined zeros in blanks 8
 
 pub blank-header-range : headerInRange blankHeader ≡ true
 unfolding blankHeader every

@@ -21,7 +21,7 @@ use Rattle.header.specs.declared.HeaderRead.{HeaderRead}
 use Rattle.header.specs.Header.{mostBytes, Hops, refused, these, before, blankHop, pathOf, hopsOf, headerOf, blankHeader, headerRefused, headerAccepted, unlessRefused, withHops}
 use Rattle.header.specs.Text.{anyHeard, hopsText, routeText, headerText}
 use Rattle.header.specs.Frame.{startsWithPair, addressHop, addressThen, frameHops, withPair, readSource, readFrameHeader, isNone, hopAddresses, addresses, headerFrame}
-use Rattle.header.specs.Range.{hopInRange, isBlank, pathInRange, headerInRange, textRefusal, frameRefusal}
+use Rattle.header.specs.Range.{hopInRange, isBlank, isBlankHeader, pathInRange, headerInRange, textRefusal, frameRefusal}
 
 -- ---- a header without its marks
 
@@ -64,6 +64,10 @@ path-in-range p =
 pub unmarked-in-range : (h : Header) → headerInRange (unmarked h) ≡ headerInRange h
 unfolding headerInRange unmarked headerOf
 unmarked-in-range h = rw (mark-in-range false (h .from), mark-in-range false (h .to), path-in-range (h .path))
+
+pub unmarked-is-blank : (h : Header) → isBlankHeader (unmarked h) ≡ isBlankHeader h
+unfolding isBlankHeader unmarked headerOf unmarkedPath
+unmarked-is-blank h = rw (mark-of-blank false (h .from), mark-of-blank false (h .to), every-map isBlank unmarkedHop hop-of-blank (h .path .hops))
 
 -- ---- a line
 

@@ -1,6 +1,7 @@
 -- What each public function promises fixes its result: two results that meet one promise are equal.
 -- Assumes nothing.
 use mathlib.Core.Path.{_≡_}
+use mathlib.Core.Bool.{Bool}
 use mathlib.Core.List.{List}
 use Prim.Native.Nat.{ℕ}
 use Rattle.buffer.specs.declared.Answer.{Answer}
@@ -12,7 +13,7 @@ use Rattle.header.specs.declared.HeaderRead.{HeaderRead}
 use Rattle.header.specs.Header.{blankHeader}
 use Rattle.header.specs.Text.{readHeaderText, readTextHeader, headerText}
 use Rattle.header.specs.Frame.{readFrameHeader, headerFrame}
-use Rattle.header.specs.Range.{textRefusal, frameRefusal}
+use Rattle.header.specs.Range.{isBlankHeader, textRefusal, frameRefusal}
 
 pub unique-blank : (r r′ : Header) → r ≡ blankHeader → r′ ≡ blankHeader → r ≡ r′
 unique-blank r r′ = one-value r r′ blankHeader
@@ -25,6 +26,9 @@ unique-read-text s r r′ = one-value r r′ (readTextHeader s)
 
 pub unique-read-frame : (s : List ℕ) (r r′ : HeaderRead) → r ≡ readFrameHeader s → r′ ≡ readFrameHeader s → r ≡ r′
 unique-read-frame s r r′ = one-value r r′ (readFrameHeader s)
+
+pub unique-is-blank : (h : Header) (r r′ : Bool) → r ≡ isBlankHeader h → r′ ≡ isBlankHeader h → r ≡ r′
+unique-is-blank h r r′ = one-value r r′ (isBlankHeader h)
 
 module _ (h : Header) (r r′ : Answer) (o o′ out : List ℕ) where
   pub unique-write-text : ends r o ≡ wrote (textRefusal h) (headerText h) out → ends r′ o′ ≡ wrote (textRefusal h) (headerText h) out → (r ≡ r′) × (o ≡ o′)

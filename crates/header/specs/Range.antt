@@ -4,7 +4,7 @@
 use Prim.Native.Nat.{ℕ}
 use mathlib.Core.Bool.{Bool, not, cond, _&&_}
 use lib.ListN.{drop}
-use lib.Dec.{leb}
+use lib.Dec.{eqb, leb}
 use Rattle.laws.specs.Lists.{every}
 use Rattle.callsign.specs.Range.{inRange, isBlankCall}
 use Rattle.header.specs.declared.Hop.{Hop}
@@ -28,6 +28,10 @@ pathInRange p = leb (p .count) 8 && (every hopInRange (hopsOf p) && every isBlan
 -- source, destination and path
 unfoldable pub headerInRange : Header → Bool
 headerInRange h = inRange (h .from) && (inRange (h .to) && pathInRange (h .path))
+
+-- neither source nor destination, and eight blank hops of which none counts
+unfoldable pub isBlankHeader : Header → Bool
+isBlankHeader h = isBlankCall (h .from) && (isBlankCall (h .to) && (eqb (h .path .count) 0 && every isBlank (h .path .hops)))
 
 -- ---- the refusals of the writers, but for 16
 

@@ -11,7 +11,7 @@ ghost use Rattle.callsign.specs.Packed.{writeAddress};
 ghost use Rattle.header.specs.Header.{these, blankHop, pathOf, blankHeader, headerRefused, headerAccepted};
 ghost use Rattle.header.specs.Text.{fields, isQ, readHop, textHops, readRoute, readBefore, readHeaderText, readTextHeader, headerText};
 ghost use Rattle.header.specs.Frame.{startsWithPair, frameHops, withPair, readSource, readFrameHeader, headerFrame};
-ghost use Rattle.header.specs.Range.{isBlank, textRefusal, frameRefusal};
+ghost use Rattle.header.specs.Range.{isBlank, isBlankHeader, textRefusal, frameRefusal};
 ghost use Rattle.header.specs.Private.{pathRefused, frameRead, textRead, starredRead, isTidy, building, plain, callPiece, addressPiece, withPiece, withPieces, heardUpTo, endPieces, hopPieces, textPieces, endAddressPieces, hopAddressPieces, framePieces};
 use callsign::Callsign;
 use callsign::Field;
@@ -424,7 +424,7 @@ pub fn read_frame(s: &[u8]) -> HeaderRead
 // ---- which paths can be written
 
 // A hop with nothing in it, and not heard.
-fn is_blank(h: Hop) -> bool
+fn is_blank_hop(h: Hop) -> bool
     ensures { λ r. ⌜ r ≡ isBlank h ⌝ }
 {
     if h.heard {
@@ -441,7 +441,7 @@ fn spare_blank(hops: [Hop; 8], n: usize) -> bool
     let mut i = n;
     while i < 8 {
         let h = hops[i];
-        if !is_blank(h) {
+        if !is_blank_hop(h) {
             return false;
         }
         i += 1;
@@ -458,6 +458,24 @@ fn is_tidy(p: Path) -> bool
     }
     let hops = p.hops;
     spare_blank(hops, p.count)
+}
+
+// Whether there is nothing in a header: neither source nor destination, and no hop.
+pub fn is_blank(h: Header) -> bool
+    ensures { λ r. ⌜ r ≡ isBlankHeader h ⌝ }
+{
+    if !callsign::is_blank(h.from) {
+        return false;
+    }
+    if !callsign::is_blank(h.to) {
+        return false;
+    }
+    let path = h.path;
+    if path.count != 0 {
+        return false;
+    }
+    let hops = path.hops;
+    spare_blank(hops, 0)
 }
 
 // ---- pieces put into a scratch array, each judged by its own writer

@@ -117,6 +117,9 @@ brace = 0x7b
 abbrev pub bar : ℕ
 bar = 0x7c
 
+abbrev pub closingBrace : ℕ
+closingBrace = 0x7d
+
 abbrev pub tilde : ℕ
 tilde = 0x7e
 

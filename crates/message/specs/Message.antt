@@ -24,9 +24,13 @@ isTextByte b = not (eqb b bar || (eqb b tilde || eqb b brace))
 unfoldable pub isText : List ℕ → Bool
 isText text = leb (length text) 67 && every isTextByte text
 
+-- the most bytes of an identifier
+abbrev pub mostIdentifier : ℕ
+mostIdentifier = 5
+
 -- "an identifier of 1 to 5 bytes"
 unfoldable pub isIdentifier : List ℕ → Bool
-isIdentifier identifier = within 1 5 (length identifier)
+isIdentifier identifier = within 1 mostIdentifier (length identifier)
 
 -- ---- read
 
@@ -90,7 +94,7 @@ messageText addressee text identifier = addresseeText addressee ++ (text ++ iden
 
 -- 18 for "an identifier over 5 bytes"
 unfoldable pub identifierRefusal : List ℕ → ℕ
-identifierRefusal identifier = cond (leb (length identifier) 5) 0 18
+identifierRefusal identifier = cond (leb (length identifier) mostIdentifier) 0 18
 
 -- and for "a text too long or with a byte it may not have"
 unfoldable pub messageRefusal : List ℕ → List ℕ → ℕ

@@ -11,7 +11,7 @@ use Rattle.laws.specs.Lists.{indexOf, every, padTo}
 use Rattle.callsign.specs.Utf8.{after, characters, utf8}
 use Rattle.callsign.specs.Text.{joined, made, isZero, callAccepted, parted, readUnstarred, readText as readCall}
 use Rattle.callsign.specs.Range.{callPart, ssidPart, textOf as callText, withStar}
-use Rattle.header.specs.Header.{pathOf, hopsOf, headerOf, headerAccepted, unlessRefused, before, withHops}
+use Rattle.header.specs.Header.{blankHeader, pathOf, hopsOf, headerOf, headerAccepted, unlessRefused as unlessHeader, before, withHops}
 use Rattle.header.specs.Text.{onFirst, fields, firstOf, othersOf, isQ, hopOf, readHop, hopThen, textHops, starsOf, anyHeard, carried}
 use Rattle.header.specs.Text.{readRoute, readBefore, readHeaderText, hopsText, routeText, headerText}
 use Rattle.header.proofs.Theorems.{P11-text, P11-hops}
@@ -27,7 +27,7 @@ use Rattle.body.specs.declared.Kind.the-variants.{Position}
 use Rattle.body.specs.Body.{noSpan, noReport, openingOf, spanFrom, positionBody, positionFrom, timeAt, behindTime, positionedFrom, bodyAfter, readBody}
 use Rattle.body.specs.Written.{toAs, writtenTo, positionType, positionBytes, bytesAs, bodyBytes, tailAs, tailBytes}
 use Rattle.packet.specs.declared.Record.{Record}
-use Rattle.packet.specs.Packet.{keptTo, recordOf, packetOf, packetAfter, readAnyText, readText}
+use Rattle.packet.specs.Packet.{keptTo, recordOf, packetOf, holdsPacket, unlessRefused, bodyBehind, packetAfter, readAnyText, readText}
 use Rattle.packet.specs.Written.{writtenHeader, bytesOf, textBytes}
 
 -- `X>Y,A,B*,C:!0000.00N/00000.00E-`
@@ -51,12 +51,14 @@ P11-record =
         identifier = noSpan;
         addressee = noAddressee;
       };
+      innermost = blankHeader;
+      inner = 0;
     }
 
 pub P11-read : readText P11-line ≡ record { refusal = 0; «record» = P11-record }
 unfolding
-    readText readAnyText packetAfter packetOf recordOf keptTo readBody openingOf bodyAfter positionedFrom timeAt behindTime positionFrom positionBody spanFrom readHeaderText
-    readBefore readRoute withHops starsOf pathOf headerOf unlessRefused headerAccepted firstOf othersOf fields onFirst textHops hopThen
+    readText readAnyText packetAfter unlessRefused bodyBehind holdsPacket packetOf recordOf keptTo readBody openingOf bodyAfter positionedFrom timeAt behindTime positionFrom positionBody spanFrom readHeaderText
+    readBefore readRoute withHops starsOf pathOf headerOf unlessHeader headerAccepted firstOf othersOf fields onFirst textHops hopThen
     before readHop isQ hopOf readCall readUnstarred parted callAccepted indexOf utf8 characters after within isZero made
     joined padTo carried anyHeard readPosition isUncompressed isNumeric withLatitude withLongitude
     readLatitude latitudeIn latitudeWith readLongitude longitudeIn longitudeWith blanksIn restBlank countedDigits every

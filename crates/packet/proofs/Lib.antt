@@ -1,8 +1,11 @@
 pub mod Packets
+pub mod Ways
+pub mod ByItself
+pub mod Given
 pub mod Order
 pub mod Behind
 pub mod Lines
-pub mod Given
+pub mod Inside
 pub mod Times
 pub mod Texts
 pub mod Marks

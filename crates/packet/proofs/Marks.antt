@@ -1,13 +1,13 @@
 -- The marks of dropped zeros in a record (document 02, R-2): the bytes of an accepted line stand in them, what is written does not depend on
--- them, and no frame sets one.
+-- them, and no frame's own header sets one.
 -- Assumes nothing.
-use mathlib.Core.Path.{_≡_, refl, ap, _∙_}
-use mathlib.Core.Bool.{Bool, true, false, cond, _&&_}
+use mathlib.Core.Path.{_≡_, refl, sym, ap, _∙_}
+use mathlib.Core.Bool.{Bool, true, false, cond}
 use mathlib.Core.List.{List, []}
-use Prim.Native.Nat.{ℕ}
+use Prim.Native.Nat.{ℕ, _+_}
 use native.Mathlib.Omega.{arith}
 use lib.Dec.{eqb, ltb}
-use borrow.Author.Tests.{eqb-true, eqb-false}
+use borrow.Author.Tests.{ne-eqb}
 use lib.ListN.{length, take}
 use Rattle.laws.proofs.Unique.{alike-without}
 use Rattle.callsign.specs.declared.Callsign.{Callsign}
@@ -18,27 +18,27 @@ use Rattle.header.specs.declared.HeaderRead.{HeaderRead}
 use Rattle.header.specs.Header.{mostBytes, headerOf, headerRefused}
 use Rattle.header.specs.Text.{headerText, readHeaderText, readTextHeader}
 use Rattle.header.specs.Frame.{headerFrame, readFrameHeader}
-use Rattle.header.specs.Range.{headerInRange, frameRefusal as headerFrameRefusal}
+use Rattle.header.specs.Range.{frameRefusal as headerFrameRefusal}
 use Rattle.header.proofs.Kept.{headerTyped, Kept}
-use Rattle.header.proofs.Marks.{unmarked, twice-unmarked, unmarked-in-range, unmarked-text, unmarked-frame, unmarked-frame-refusal}
+use Rattle.header.proofs.Marks.{unmarked, twice-unmarked, unmarked-in-range, unmarked-is-blank, unmarked-text, unmarked-frame, unmarked-frame-refusal}
 use Rattle.header.proofs.Theorems.{any-text-is-kept, frame-has-no-mark, blank-has-no-mark}
 use Rattle.body.specs.declared.Kind.{Kind}
 use Rattle.body.specs.declared.Kind.the-variants.{Unknown, Position, MicE, Message, Status}
 use Rattle.body.specs.declared.Body.{Body}
-use Rattle.body.specs.declared.BodyRead.{BodyRead}
 use Rattle.body.specs.Body.{readBody}
 use Rattle.body.specs.Range.{micEInRange, inRangeAs, bodyInRange}
 use Rattle.body.specs.Written.{toAs, writtenTo}
 use Rattle.packet.specs.declared.Record.{Record}
 use Rattle.packet.specs.Record.{blankRecord, packetRefused}
-use Rattle.packet.specs.Range.{recordInRange, rangeRefusal}
-use Rattle.packet.specs.Packet.{headerTo, keptTo, recordOf, packetOf, packetAfter, readAnyText, readText, readFrame}
-use Rattle.packet.specs.Written.{writtenHeader, bytesOf, textBytes, frameBytes, recordRefusal, textRefusal, frameRefusal}
+use Rattle.packet.specs.Range.{innerInRange, recordInRange, rangeRefusal}
+use Rattle.packet.specs.Packet.{mostInner, headerTo, keptTo, recordOf, innermostOf, recordAround, packetAfter, readAnyText, readText, readFrame}
+use Rattle.packet.specs.Written.{writtenHeader, bytesOf, textBytes, frameBytes, contentRefusal, recordRefusal, textRefusal, frameRefusal}
+use Rattle.packet.proofs.Ways.{inside, by-way}
 
 -- ---- a record without its marks
 
 unfoldable pub unmarkedRecord : Record → Record
-unmarkedRecord r = record { header = unmarked (r .header); body = r .body }
+unmarkedRecord r = record { header = unmarked (r .header); body = r .body; innermost = unmarked (r .innermost); inner = r .inner }
 
 -- ---- the range
 
@@ -50,12 +50,28 @@ body-range Message b to = refl
 body-range Status b to = refl
 body-range MicE b to = rw (mark-of-blank false to)
 
+same-innermost : (r : Record) → innermostOf (unmarkedRecord r) ≡ unmarked (innermostOf r)
+unfolding innermostOf unmarkedRecord
+same-innermost r = go (eqb (r .inner) 0)
+  where
+    go : (t : Bool) → cond t (unmarked (r .header)) (unmarked (r .innermost)) ≡ unmarked (cond t (r .header) (r .innermost))
+    go true = refl
+    go false = refl
+
+same-inner : (r : Record) → innerInRange (unmarkedRecord r) ≡ innerInRange r
+unfolding innerInRange unmarkedRecord
+same-inner r = rw (unmarked-is-blank (r .innermost), unmarked-in-range (r .innermost))
+
+same-body : (b : Body) (h : Header) → bodyInRange b (unmarked h .to) ≡ bodyInRange b (h .to)
+unfolding bodyInRange unmarked headerOf
+same-body b h = body-range (b .kind) b (h .to)
+
 same-range : (r : Record) → recordInRange (unmarkedRecord r) ≡ recordInRange r
-unfolding recordInRange unmarkedRecord bodyInRange
-same-range r = rw (unmarked-in-range (r .header)) (ap (λ (b : Bool). headerInRange (r .header) && b) (unfold unmarked headerOf in body-range (r .body .kind) (r .body) (r .header .to)))
+unfolding recordInRange
+same-range r = rw (same-inner r, same-innermost r) (unfold unmarkedRecord in rw (unmarked-in-range (r .header), same-body (r .body) (innermostOf r)) refl)
 
 same-refusal : (r : Record) (text identifier : List ℕ) → recordRefusal (unmarkedRecord r) text identifier ≡ recordRefusal r text identifier
-unfolding recordRefusal rangeRefusal
+unfolding recordRefusal rangeRefusal contentRefusal
 same-refusal r text identifier = rw (same-range r) (unfold unmarkedRecord in refl)
 
 -- ---- the header that is written
@@ -119,56 +135,47 @@ pub unmarked-blank-record : unmarkedRecord blankRecord ≡ blankRecord
 unfolding unmarkedRecord blankRecord
 unmarked-blank-record = rw blank-has-no-mark
 
-unmarked-after : (h : HeaderRead) (s : List ℕ) → unmarked (h .header) ≡ h .header → unmarkedRecord (packetAfter h s .«record») ≡ packetAfter h s .«record»
-unfolding packetAfter packetOf packetRefused
-unmarked-after h s e = go (eqb (h .refusal) 0) (eqb (b .refusal) 0)
-  where
-    b : BodyRead
-    b = readBody (h .header .to) s (h .body)
+blank-unmarked : unmarked (blankRecord .header) ≡ blankRecord .header
+unfolding blankRecord
+blank-unmarked = blank-has-no-mark
 
-    accepted : unmarkedRecord (recordOf (h .header) (b .body)) ≡ recordOf (h .header) (b .body)
-    accepted = unfold unmarkedRecord recordOf in rw (kept-unmarked (b .body .kind) (h .header) e)
+unmarked-after : (left : ℕ) (h : HeaderRead) (s : List ℕ) → unmarked (h .header) ≡ h .header → unmarked (packetAfter left h s .«record» .header) ≡ packetAfter left h s .«record» .header
+unfolding packetRefused recordOf recordAround
+unmarked-after left h s e =
+    by-way left h s (λ p. unmarked (p .«record» .header) ≡ p .«record» .header) (λ n z. blank-unmarked)
+    (λ o. kept-unmarked (readBody (h .header .to) s (h .body) .body .kind) (h .header) e) (λ a. e)
 
-    go : (t u : Bool)
-        → unmarkedRecord (cond t (cond u (record { refusal = 0; «record» = recordOf (h .header) (b .body) }) (packetRefused (b .refusal))) (packetRefused (h .refusal)) .«record»)
-        ≡ cond t (cond u (record { refusal = 0; «record» = recordOf (h .header) (b .body) }) (packetRefused (b .refusal))) (packetRefused (h .refusal)) .«record»
-    go true true = accepted
-    go true false = unmarked-blank-record
-    go false u = unmarked-blank-record
-
-pub unmarked-frame-record : (s : List ℕ) → unmarkedRecord (readFrame s .«record») ≡ readFrame s .«record»
+pub unmarked-frame-header : (s : List ℕ) → unmarked (readFrame s .«record» .header) ≡ readFrame s .«record» .header
 unfolding readFrame
-unmarked-frame-record s = unmarked-after (readFrameHeader s) s (frame-has-no-mark s)
+unmarked-frame-header s = unmarked-after mostInner (readFrameHeader s) s (frame-has-no-mark s)
 
 -- ---- a line read
 
--- the bytes up to the body, by the stars as typed and the destination that stood there; a Mic-E record does not show that one
+-- the destination that a record shows of the one that stood there: a Mic-E record with no packet inside shows none
+unfoldable pub shownTo : Record → Callsign → Callsign
+shownTo r to = cond (eqb (r .inner) 0) (keptTo (r .body .kind) to) to
+
+-- the bytes up to the body, by the stars as typed and the destination that stood there
 pub record LineKept (s : List ℕ) (h : HeaderRead) (r : Record) : Type 0 where
   pub source : Bool
   pub destination : Bool
   pub to : Callsign
-  pub shown : r .header .to ≡ keptTo (r .body .kind) to
+  pub shown : r .header .to ≡ shownTo r to
   pub text : take (h .body) s ≡ headerTyped source destination (h .stars) (headerTo (r .header) to)
 
-after-kept : (h : HeaderRead) (s : List ℕ) → (h .refusal ≡ 0 → Kept s h) → packetAfter h s .refusal ≡ 0 → LineKept s h (packetAfter h s .«record»)
-unfolding packetAfter packetOf packetRefused
-after-kept h s f = go (eqb (h .refusal) 0) refl (eqb (b .refusal) 0) refl
+after-kept : (left : ℕ) (h : HeaderRead) (s : List ℕ) → (h .refusal ≡ 0 → Kept s h) → packetAfter left h s .refusal ≡ 0 → LineKept s h (packetAfter left h s .«record»)
+unfolding packetRefused recordOf recordAround shownTo
+after-kept left h s f =
+    by-way left h s (λ p. p .refusal ≡ 0 → LineKept s h (p .«record»)) (λ n y z. absurd (y z))
+    (λ o z. let k = f (o .header) in record { source = k .source; destination = k .destination; to = h .header .to; shown = refl; text = k .text })
+    (λ a z. let k = f (a .header) in record { source = k .source; destination = k .destination; to = h .header .to; shown = sym (around-shown (inside left h s .«record» .inner) _ _); text = k .text })
   where
-    b : BodyRead
-    b = readBody (h .header .to) s (h .body)
-
-    go : (t : Bool) → eqb (h .refusal) 0 ≡ t → (u : Bool) → eqb (b .refusal) 0 ≡ u
-        → cond t (cond u (record { refusal = 0; «record» = recordOf (h .header) (b .body) }) (packetRefused (b .refusal))) (packetRefused (h .refusal)) .refusal ≡ 0
-        → LineKept s h (cond t (cond u (record { refusal = 0; «record» = recordOf (h .header) (b .body) }) (packetRefused (b .refusal))) (packetRefused (h .refusal)) .«record»)
-    go true p true q z =
-        let k = f (eqb-true (h .refusal) 0 p) in
-        unfold recordOf in record { source = k .source; destination = k .destination; to = h .header .to; shown = refl; text = k .text }
-    go true p false q z = absurd (eqb-false (b .refusal) 0 q z)
-    go false p u q z = absurd (eqb-false (h .refusal) 0 p z)
+    around-shown : (n : ℕ) (x y : Callsign) → cond (eqb (n + 1) 0) x y ≡ y
+    around-shown n x y = rw (ne-eqb (n + 1) 0 (λ e. omega (arith, e)))
 
 pub any-text-line-kept : (s : List ℕ) → readAnyText s .refusal ≡ 0 → LineKept s (readHeaderText s) (readAnyText s .«record»)
 unfolding readAnyText
-any-text-line-kept s = after-kept (readHeaderText s) s (any-text-is-kept s)
+any-text-line-kept s = after-kept mostInner (readHeaderText s) s (any-text-is-kept s)
 
 pub text-line-kept : (s : List ℕ) → readText s .refusal ≡ 0 → LineKept s (readTextHeader s) (readText s .«record»)
 unfolding readText readTextHeader packetRefused

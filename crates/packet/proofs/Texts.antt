@@ -3,22 +3,22 @@
 -- Assumes nothing.
 use mathlib.Core.Path.{_≡_, refl, sym, ap, _∙_}
 use mathlib.Core.Logic.{_⊎_, inl, inr, ⊎-elim}
-use mathlib.Core.Bool.{Bool, true, false, cond}
+use mathlib.Core.Bool.{Bool, true, false, cond, _&&_, and-false}
 use mathlib.Core.List.{List, _++_, append-assoc}
 use Prim.Native.Nat.{ℕ, _+_, _<_, _≤_}
 use native.Mathlib.Omega.{arith}
-use borrow.Author.Tests.{eq-eqb}
-use lib.Dec.{ltb}
+use borrow.Author.Tests.{eq-eqb, ne-eqb, eqb-true}
+use lib.Dec.{eqb, ltb}
 use lib.ListN.{length, getD, length-append}
-use Rattle.laws.specs.Bytes.{colon, greater}
-use Rattle.laws.proofs.Tests.{passed, and-second}
+use Rattle.laws.specs.Bytes.{colon, greater, closingBrace}
+use Rattle.laws.proofs.Tests.{passed, and-first, and-second}
 use Rattle.buffer.proofs.Wrote.{not-over}
 use Rattle.message.specs.Message.{addresseeBytes}
 use Rattle.header.specs.declared.HeaderRead.{HeaderRead}
 use Rattle.header.specs.Header.{mostBytes, headerRefused}
 use Rattle.header.specs.Text.{readHeaderText, readTextHeader}
 use Rattle.header.specs.Frame.{readFrameHeader}
-use Rattle.header.specs.Range.{headerInRange, textRefusal as headerTextRefusal, frameRefusal as headerFrameRefusal}
+use Rattle.header.specs.Range.{headerInRange, isBlankHeader, textRefusal as headerTextRefusal, frameRefusal as headerFrameRefusal}
 use Rattle.body.specs.declared.Kind.{Kind}
 use Rattle.body.specs.declared.Kind.the-variants.{Message, Status}
 use Rattle.body.specs.Body.{readBody}
@@ -29,10 +29,11 @@ use Rattle.body.proofs.Theorems.{read-message-or-18, read-status-or-18, message
 use Rattle.packet.specs.declared.Record.{Record}
 use Rattle.packet.specs.declared.PacketRead.{PacketRead}
 use Rattle.packet.specs.Record.{packetRefused}
-use Rattle.packet.specs.Packet.{headerTo, recordOf, packetOf, packetAfter, readAnyText, readText, readFrame}
-use Rattle.packet.specs.Range.{recordInRange, rangeRefusal}
-use Rattle.packet.specs.Written.{writtenHeader, bytesOf, textBytes, frameBytes, recordRefusal, textRefusal, frameRefusal}
+use Rattle.packet.specs.Packet.{mostInner, headerTo, recordOf, packetOf, holdsPacket, innermostOf, packetAfter, readAnyText, readText, readFrame}
+use Rattle.packet.specs.Range.{innerInRange, recordInRange, rangeRefusal}
+use Rattle.packet.specs.Written.{writtenHeader, bytesOf, textBytes, frameBytes, contentRefusal, recordRefusal, textRefusal, frameRefusal}
 use Rattle.packet.specs.Private.{headBytes, headRefusal}
+use Rattle.packet.proofs.Ways.{alone-is}
 use Rattle.packet.proofs.Order.{or-none, or-both, record-refuses, header-left}
 use Rattle.packet.proofs.Behind.{head-short}
 
@@ -48,17 +49,22 @@ pub record Starts (k : ℕ) (s : List ℕ) (h : HeaderRead) : Type 0 where
   pub some : h .body < length s
   pub first : getD s (h .body) 0 ≡ k
 
-module _ (kind : Kind) (k : ℕ) (so : (h : HeaderRead) (s : List ℕ) (x : Starts k s h) → TextOr18 s (h .body) (x .some) kind (readBody (h .header .to) s (h .body))) where
-  after-text : (h : HeaderRead) (s : List ℕ) → Starts k s h → PacketText kind s h (packetAfter h s)
-  unfolding packetAfter packetOf recordOf packetRefused
-  after-text h s x =
+-- such a body holds no packet
+starts-alone : (k : ℕ) (s : List ℕ) (h : HeaderRead) → (k ≡ closingBrace → ⊥) → Starts k s h → holdsPacket s (h .body) ≡ false
+unfolding holdsPacket
+starts-alone k s h n x = rw (x .first, ne-eqb k closingBrace n) (and-false (ltb (h .body) (length s)))
+
+module _ (kind : Kind) (k : ℕ) (n : k ≡ closingBrace → ⊥) (so : (h : HeaderRead) (s : List ℕ) (x : Starts k s h) → TextOr18 s (h .body) (x .some) kind (readBody (h .header .to) s (h .body))) where
+  after-text : (left : ℕ) (h : HeaderRead) (s : List ℕ) → Starts k s h → PacketText kind s h (packetAfter left h s)
+  unfolding packetOf recordOf packetRefused
+  after-text left h s x =
       let b = readBody (h .header .to) s (h .body) in
-      rw (eq-eqb (h .refusal) 0 (x .read))
+      rw (alone-is left h s (x .read) (starts-alone k s h n x))
       (⊎-elim (λ y. rw (eq-eqb (b .refusal) 0 (y .0)) (inl (refl, y .1))) (λ e. rw e (inr refl)) (so h s x))
 
   any-text-kind : (s : List ℕ) → Starts k s (readHeaderText s) → PacketText kind s (readHeaderText s) (readAnyText s)
   unfolding readAnyText
-  any-text-kind s = after-text (readHeaderText s) s
+  any-text-kind s = after-text mostInner (readHeaderText s) s
 
   text-kind : (s : List ℕ) → Starts k s (readTextHeader s) → PacketText kind s (readTextHeader s) (readText s)
   unfolding readText readTextHeader headerRefused
@@ -70,7 +76,7 @@ module _ (kind : Kind) (k : ℕ) (so : (h : HeaderRead) (s : List ℕ) (x : Star
 
   frame-kind : (s : List ℕ) → Starts k s (readFrameHeader s) → PacketText kind s (readFrameHeader s) (readFrame s)
   unfolding readFrame
-  frame-kind s = after-text (readFrameHeader s) s
+  frame-kind s = after-text mostInner (readFrameHeader s) s
 
 message-so : (h : HeaderRead) (s : List ℕ) (x : Starts colon s h) → TextOr18 s (h .body) (x .some) Message (readBody (h .header .to) s (h .body))
 message-so h s x = read-message-or-18 (h .header .to) s (h .body) (x .some) (x .first)
@@ -80,33 +86,53 @@ status-so h s x = read-status-or-18 (h .header .to) s (h .body) (x .some) (x .fi
 
 module _ (s : List ℕ) where
   pub any-text-message : Starts colon s (readHeaderText s) → PacketText Message s (readHeaderText s) (readAnyText s)
-  any-text-message = any-text-kind Message colon message-so s
+  any-text-message = any-text-kind Message colon (λ e. omega (arith, e)) message-so s
 
   pub any-text-status : Starts greater s (readHeaderText s) → PacketText Status s (readHeaderText s) (readAnyText s)
-  any-text-status = any-text-kind Status greater status-so s
+  any-text-status = any-text-kind Status greater (λ e. omega (arith, e)) status-so s
 
   pub text-message : Starts colon s (readTextHeader s) → PacketText Message s (readTextHeader s) (readText s)
-  text-message = text-kind Message colon message-so s
+  text-message = text-kind Message colon (λ e. omega (arith, e)) message-so s
 
   pub text-status : Starts greater s (readTextHeader s) → PacketText Status s (readTextHeader s) (readText s)
-  text-status = text-kind Status greater status-so s
+  text-status = text-kind Status greater (λ e. omega (arith, e)) status-so s
 
   pub frame-message : Starts colon s (readFrameHeader s) → PacketText Message s (readFrameHeader s) (readFrame s)
-  frame-message = frame-kind Message colon message-so s
+  frame-message = frame-kind Message colon (λ e. omega (arith, e)) message-so s
 
   pub frame-status : Starts greater s (readFrameHeader s) → PacketText Status s (readFrameHeader s) (readFrame s)
-  frame-status = frame-kind Status greater status-so s
+  frame-status = frame-kind Status greater (λ e. omega (arith, e)) status-so s
 
 -- ---- written: with the longest header at most 262 bytes, so that 1 is never given
 
 module _ (r : Record) (text identifier : List ℕ) (z : recordRefusal r text identifier ≡ 0) where
-  taken : (rangeRefusal r ≡ 0) × (bodyRefusal (r .body) text identifier ≡ 0)
+  taken : (rangeRefusal r ≡ 0) × (contentRefusal r text identifier ≡ 0)
   unfolding recordRefusal
-  taken = or-both (rangeRefusal r) (bodyRefusal (r .body) text identifier) z
+  taken = or-both (rangeRefusal r) (contentRefusal r text identifier) z
+
+  -- there is no packet inside
+  alone : (eqb (r .inner) 0 ≡ true) × (bodyRefusal (r .body) text identifier ≡ 0)
+  unfolding contentRefusal
+  alone = passed (eqb (r .inner) 0) (bodyRefusal (r .body) text identifier) 14 0 (λ q. omega arith) (taken .1)
+
+  range-alone : recordInRange r ≡ (headerInRange (r .header) && (isBlankHeader (r .innermost) && bodyInRange (r .body) (r .header .to)))
+  unfolding recordInRange innerInRange innermostOf
+  range-alone = rw (alone .0)
+
+  parts-in-range : (isBlankHeader (r .innermost) && bodyInRange (r .body) (r .header .to)) ≡ true
+  unfolding rangeRefusal
+  parts-in-range =
+      and-second (headerInRange (r .header)) (isBlankHeader (r .innermost) && bodyInRange (r .body) (r .header .to))
+      (sym range-alone ∙ passed (recordInRange r) 0 15 0 (λ q. omega arith) (taken .0) .0)
 
   in-range : bodyInRange (r .body) (r .header .to) ≡ true
-  unfolding rangeRefusal recordInRange
-  in-range = and-second (headerInRange (r .header)) (bodyInRange (r .body) (r .header .to)) (passed (recordInRange r) 0 15 0 (λ q. omega arith) (taken .0) .0)
+  in-range = and-second (isBlankHeader (r .innermost)) (bodyInRange (r .body) (r .header .to)) parts-in-range
+
+  none : r .inner ≡ 0
+  none = eqb-true (r .inner) 0 (alone .0)
+
+  blank : isBlankHeader (r .innermost) ≡ true
+  blank = and-first (isBlankHeader (r .innermost)) (bodyInRange (r .body) (r .header .to)) parts-in-range
 
   abbrev said : List ℕ
   said = bodyBytes (r .body) ++ (text ++ tailBytes (r .body) identifier)
@@ -121,8 +147,8 @@ module _ (r : Record) (text identifier : List ℕ) (z : recordRefusal r text ide
 
     header-taken : headerTextRefusal (writtenHeader r) ≡ 0
     header-taken =
-        let both = or-both (headerTextRefusal (headerTo (r .header) (writeBody (r .body) (r .header .to) text identifier .to))) (writeBody (r .body) (r .header .to) text identifier .refusal) (sym (record-refuses r text identifier) ∙ z) in
-        sym (header-left r text identifier (both .1)) ∙ z
+        let both = or-both (headerTextRefusal (headerTo (r .header) (writeBody (r .body) (r .header .to) text identifier .to))) (writeBody (r .body) (r .header .to) text identifier .refusal) (sym (record-refuses r none text identifier blank) ∙ z) in
+        sym (header-left r none text identifier blank (both .1)) ∙ z
 
     line-short : length (textBytes r text identifier) ≤ 262
     unfolding textBytes headBytes headRefusal
@@ -140,7 +166,7 @@ module _ (r : Record) (text identifier : List ℕ) (z : recordRefusal r text ide
 
   module _ (k : r .body .kind ≡ Message) (nine : length (r .body .addressee) ≡ addresseeBytes) where
     message-said : length said ≤ 84
-    message-said = message-at-most-84 (r .body) text identifier k nine (taken .1)
+    message-said = message-at-most-84 (r .body) text identifier k nine (alone .1)
 
     pub message-line-short : length (textBytes r text identifier) ≤ 262
     message-line-short = line-short message-said
@@ -153,7 +179,7 @@ module _ (r : Record) (text identifier : List ℕ) (z : recordRefusal r text ide
 
   module _ (k : r .body .kind ≡ Status) where
     status-said : length said ≤ 84
-    status-said = omega (arith, status-at-most-63 (r .body) (r .header .to) text identifier k in-range (taken .1))
+    status-said = omega (arith, status-at-most-63 (r .body) (r .header .to) text identifier k in-range (alone .1))
 
     pub status-line-fits : textRefusal r text identifier ≡ 0
     status-line-fits = line-fits status-said

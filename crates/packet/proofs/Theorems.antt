@@ -1,40 +1,49 @@
--- The crate's theorems: what is read, the boxes of it, the marks of dropped zeros, its time, messages and status
--- lines, and what of it is not written.
+-- The crate's theorems: what is read, the boxes of it, the marks of dropped zeros, its time, messages and status lines, packets inside
+-- packets, and what of it is not written.
 -- Assumes nothing.
 use mathlib.Core.Path.{_≡_, refl, ap, _∙_}
+use mathlib.Core.Logic.{_⊎_}
 use mathlib.Core.Bool.{Bool, true, false, not, cond}
-use mathlib.Core.List.{List}
+use mathlib.Core.List.{List, []}
 use Prim.Native.Nat.{ℕ, _+_, _≤_}
+use native.Mathlib.Omega.{arith}
 use lib.Dec.{ltb}
-use lib.ListN.{length}
+use lib.ListN.{length, drop}
 use Rattle.laws.specs.Bytes.{colon, greater}
+use Rattle.laws.specs.Lists.{indexOf}
 use Rattle.laws.proofs.Unique.{alike-without}
 use Rattle.buffer.specs.Wrote.{overBy, wrote}
+use Rattle.header.specs.declared.HeaderRead.{HeaderRead}
+use Rattle.header.specs.Header.{mostBytes, blankHeader, headerRefused}
 use Rattle.header.specs.Text.{readHeaderText, readTextHeader}
 use Rattle.header.specs.Frame.{readFrameHeader}
 use Rattle.header.specs.Range.{frameRefusal as headerFrameRefusal}
+use Rattle.header.proofs.Marks.{unmarked}
 use Rattle.message.specs.Message.{addresseeBytes}
 use Rattle.body.specs.declared.Kind.the-variants.{Message, Status}
+use Rattle.body.specs.declared.Span.{Span}
 use Rattle.body.specs.Range.{isExcepted}
-use Rattle.body.specs.Written.{bodyRefusal}
+use Rattle.body.proofs.TextBack.{spanned}
 use Rattle.body.proofs.Theorems.{InnerEdges}
 use Rattle.packet.specs.declared.Record.{Record}
+use Rattle.packet.specs.declared.PacketRead.{PacketRead}
 use Rattle.packet.specs.Record.{blankRecord, packetRefused}
 use Rattle.packet.specs.Range.{recordInRange, rangeRefusal}
-use Rattle.packet.specs.Packet.{readAnyText, readText, readFrame}
-use Rattle.header.specs.Header.{mostBytes}
-use Rattle.packet.specs.Written.{writtenHeader, textBytes, frameBytes, orElse, recordRefusal, textRefusal, frameRefusal}
-use Rattle.packet.proofs.Order.{or-or}
-use Rattle.packet.proofs.Given.{Given, after-blank, refused-first, any-text-given, text-given, frame-given}
+use Rattle.packet.specs.Packet.{mostInner, movedSpan, recordAround, unlessRefused, packetAfter, readAnyText, readText, readFrame}
+use Rattle.packet.specs.Written.{writtenHeader, textBytes, frameBytes, orElse, contentRefusal, recordRefusal, textRefusal, frameRefusal}
+use Rattle.packet.proofs.Packets.{any-is, line-read, frame-is}
+use Rattle.packet.proofs.Order.{or-or, inside-refuses}
+use Rattle.packet.proofs.Inside.{Holds, insideAt, insideText, after-around, after-fifth, after-faulty, moved-shows}
+use Rattle.packet.proofs.Given.{Given, after-blank, refused-first, given-range, any-text-given, text-given, frame-given}
 use Rattle.packet.proofs.Times.{TimeKept, any-text-time-kept, text-time-kept, frame-time-kept}
 use Rattle.packet.proofs.Texts.{PacketText, Starts, any-text-message, any-text-status, text-message, text-status, frame-message, frame-status, message-line-short, message-line-fits, message-frame-fits, status-line-fits, status-frame-fits}
-use Rattle.packet.proofs.Marks.{unmarkedRecord, unmarked-text-bytes, unmarked-frame-bytes, unmarked-refusal-of-text, unmarked-refusal-of-frame, unmarked-blank-record, unmarked-frame-record, LineKept, any-text-line-kept, text-line-kept}
+use Rattle.packet.proofs.Marks.{unmarkedRecord, unmarked-text-bytes, unmarked-frame-bytes, unmarked-refusal-of-text, unmarked-refusal-of-frame, unmarked-blank-record, unmarked-frame-header, LineKept, any-text-line-kept, text-line-kept}
 
 -- ---- "A refused decode returns the blank record"
 
 pub any-text-refused-blank : (s : List ℕ) → (readAnyText s .refusal ≡ 0 → ⊥) → readAnyText s ≡ packetRefused (readAnyText s .refusal)
 unfolding readAnyText
-any-text-refused-blank s = after-blank (readHeaderText s) s
+any-text-refused-blank s = after-blank mostInner (readHeaderText s) s
 
 pub text-refused-blank : (s : List ℕ) → (readText s .refusal ≡ 0 → ⊥) → readText s ≡ packetRefused (readText s .refusal)
 unfolding readText
@@ -42,18 +51,18 @@ text-refused-blank s = refused-first (ltb mostBytes (length s)) 1 (readAnyText s
 
 pub frame-refused-blank : (s : List ℕ) → (readFrame s .refusal ≡ 0 → ⊥) → readFrame s ≡ packetRefused (readFrame s .refusal)
 unfolding readFrame
-frame-refused-blank s = after-blank (readFrameHeader s) s
+frame-refused-blank s = after-blank mostInner (readFrameHeader s) s
 
 -- ---- what is read is in range but for a Mic-E angle of 180 degrees and a position symbol byte of 128 or more
 
 pub any-text-range : (s : List ℕ) → recordInRange (readAnyText s .«record») ≡ not (isExcepted (readAnyText s .«record» .body))
-any-text-range s = any-text-given s .range
+any-text-range s = given-range (omega arith) (any-text-given s)
 
 pub text-range : (s : List ℕ) → recordInRange (readText s .«record») ≡ not (isExcepted (readText s .«record» .body))
-text-range s = text-given s .range
+text-range s = given-range (omega arith) (text-given s)
 
 pub frame-range : (s : List ℕ) → recordInRange (readFrame s .«record») ≡ not (isExcepted (readFrame s .«record» .body))
-frame-range s = frame-given s .range
+frame-range s = given-range (omega arith) (frame-given s)
 
 -- ---- a comment or a text is a place in the input
 
@@ -98,11 +107,11 @@ any-text-is-kept = any-text-line-kept
 pub text-is-kept : (s : List ℕ) → readText s .refusal ≡ 0 → LineKept s (readTextHeader s) (readText s .«record»)
 text-is-kept = text-line-kept
 
--- "In frames it is never set": the record of any frame, accepted or not, has no mark
-pub frame-has-no-mark : (s : List ℕ) → unmarkedRecord (readFrame s .«record») ≡ readFrame s .«record»
-frame-has-no-mark = unmarked-frame-record
+-- "In frames it is never set": the header of any frame, accepted or not, has no mark; a packet inside it is text, and may have some
+pub frame-has-no-mark : (s : List ℕ) → unmarked (readFrame s .«record» .header) ≡ readFrame s .«record» .header
+frame-has-no-mark = unmarked-frame-header
 
--- nor has the blank one, which refusals return
+-- nor has the blank record any, which refusals return
 pub blank-has-no-mark : unmarkedRecord blankRecord ≡ blankRecord
 blank-has-no-mark = unmarked-blank-record
 
@@ -116,7 +125,7 @@ module _ (r r′ : Record) (e : unmarkedRecord r ≡ unmarkedRecord r′) (text 
 
 -- ---- document 02, R-3: "two digits each, zeros kept"
 
--- the seven bytes of a record's time stood behind the type byte of its body, as they are written
+-- with no packet inside, the seven bytes of a record's time stood behind the type byte of its body, as they are written
 pub any-text-time-is-kept : (s : List ℕ) → TimeKept s (readHeaderText s) (readAnyText s .«record»)
 any-text-time-is-kept = any-text-time-kept
 
@@ -168,41 +177,96 @@ module _ (r : Record) (text identifier : List ℕ) (z : recordRefusal r text ide
   pub status-frame-is-never-too-long : r .body .kind ≡ Status → headerFrameRefusal (writtenHeader r) ≡ 0 → frameRefusal r text identifier ≡ 0
   status-frame-is-never-too-long = status-frame-fits r text identifier z
 
--- ---- which read records are not written: 15 for those two, 14 for Unknown, 18 for what is handed over with a message or
--- a status, 1 over 512 bytes, and no other
+-- ---- document 02, R-6: third-party traffic
 
-given-range : {size : ℕ} {r : Record} → Given size r → rangeRefusal r ≡ cond (isExcepted (r .body)) 15 0
-unfolding rangeRefusal
-given-range {size} {r} g = rw (g .range) (turned (isExcepted (r .body)))
-  where
-    turned : (b : Bool) → _≡_ {A = ℕ} (cond (not b) 0 15) (cond b 15 0)
-    turned true = refl
-    turned false = refl
+-- "Up to four inner packets are read": the number of every record is 0 to 4
+pub any-text-at-most-four : (s : List ℕ) → readAnyText s .«record» .inner ≤ 4
+any-text-at-most-four s = any-text-given s .number
 
-module _ {size : ℕ} {r : Record} (g : Given size r) where
-  given-refusal : (text identifier : List ℕ) (n : ℕ) → orElse (recordRefusal r text identifier) n ≡ orElse (cond (isExcepted (r .body)) 15 0) (orElse (bodyRefusal (r .body) text identifier) n)
+pub text-at-most-four : (s : List ℕ) → readText s .«record» .inner ≤ 4
+text-at-most-four s = text-given s .number
+
+pub frame-at-most-four : (s : List ℕ) → readFrame s .«record» .inner ≤ 4
+frame-at-most-four s = frame-given s .number
+
+-- and at 0 the inner header is blank
+pub any-text-blank-at-0 : (s : List ℕ) → readAnyText s .«record» .inner ≡ 0 → readAnyText s .«record» .innermost ≡ blankHeader
+any-text-blank-at-0 s = any-text-given s .blank
+
+pub text-blank-at-0 : (s : List ℕ) → readText s .«record» .inner ≡ 0 → readText s .«record» .innermost ≡ blankHeader
+text-blank-at-0 s = text-given s .blank
+
+pub frame-blank-at-0 : (s : List ℕ) → readFrame s .«record» .inner ≡ 0 → readFrame s .«record» .innermost ≡ blankHeader
+frame-blank-at-0 s = frame-given s .blank
+
+-- what a packet is whose header was read and whose body holds a text, by what that text is by itself: with up to three packets inside it,
+-- its record with the outermost header, the number one higher and the places moved by where it starts; with four, 19; refused, the same
+-- refusal, or 19 for a fault behind a fifth
+pub record ThirdParty (h : HeaderRead) (inner p : PacketRead) : Type 0 where
+  pub accepted : inner .refusal ≡ 0 → inner .«record» .inner ≤ 3 → p ≡ record { refusal = 0; «record» = recordAround (h .header) (insideAt h) (inner .«record») }
+  pub fifth : inner .«record» .inner ≡ 4 → p ≡ packetRefused 19
+  pub faulty : (inner .refusal ≡ 0 → ⊥) → (p ≡ packetRefused (inner .refusal)) ⊎ (p ≡ packetRefused 19)
+
+after-third-party : (s : List ℕ) (h : HeaderRead) → Holds s h → ThirdParty h (readAnyText (insideText s h)) (packetAfter mostInner h s)
+after-third-party s h x = record { accepted = after-around s h x; fifth = after-fifth s h x; faulty = after-faulty s h x }
+
+pub any-text-third-party : (s : List ℕ) → Holds s (readHeaderText s) → ThirdParty (readHeaderText s) (readAnyText (insideText s (readHeaderText s))) (readAnyText s)
+any-text-third-party s x = rw (any-is s) (after-third-party s (readHeaderText s) x)
+
+pub text-third-party : (s : List ℕ) → Holds s (readTextHeader s) → ThirdParty (readTextHeader s) (readAnyText (insideText s (readTextHeader s))) (readText s)
+text-third-party s x = rw (← line-read s) (after-third-party s (readTextHeader s) x)
+
+pub frame-third-party : (s : List ℕ) → Holds s (readFrameHeader s) → ThirdParty (readFrameHeader s) (readAnyText (insideText s (readFrameHeader s))) (readFrame s)
+frame-third-party s x = rw (frame-is s) (after-third-party s (readFrameHeader s) x)
+
+-- "`}` alone is 2": so is a text inside that has no header
+pub nothing-inside-is-2 : readAnyText [] ≡ packetRefused 2
+unfolding readAnyText packetAfter unlessRefused readHeaderText indexOf headerRefused
+nothing-inside-is-2 = refl
+
+-- "places counted in the whole input": what stands at a place inside stands at the moved one in the whole
+pub moved-places-show-the-same : (by : ℕ) (s : List ℕ) (p : Span) → spanned (movedSpan by p) s ≡ spanned p (drop by s)
+moved-places-show-the-same = moved-shows
+
+-- "Writing them remains refused with 14", after 15
+pub third-party-is-never-written : (r : Record) → (r .inner ≡ 0 → ⊥) → (text identifier : List ℕ) → recordRefusal r text identifier ≡ orElse (rangeRefusal r) 14
+third-party-is-never-written r z text identifier = inside-refuses r z text identifier
+
+-- ---- which read records are not written: 15 for those two, 14 for Unknown and with a packet inside, 18 for what is handed over with a
+-- message or a status, 1 over 512 bytes, and no other
+
+module _ {size : ℕ} {r : Record} (g : Given mostInner size r) where
+  given-first : rangeRefusal r ≡ cond (isExcepted (r .body)) 15 0
+  unfolding rangeRefusal
+  given-first = rw (given-range (omega arith) g) (turned (isExcepted (r .body)))
+    where
+      turned : (b : Bool) → _≡_ {A = ℕ} (cond (not b) 0 15) (cond b 15 0)
+      turned true = refl
+      turned false = refl
+
+  given-refusal : (text identifier : List ℕ) (n : ℕ) → orElse (recordRefusal r text identifier) n ≡ orElse (cond (isExcepted (r .body)) 15 0) (orElse (contentRefusal r text identifier) n)
   unfolding recordRefusal
-  given-refusal text identifier n = or-or (rangeRefusal r) (bodyRefusal (r .body) text identifier) n ∙ ap (λ (k : ℕ). orElse k (orElse (bodyRefusal (r .body) text identifier) n)) (given-range g)
+  given-refusal text identifier n = or-or (rangeRefusal r) (contentRefusal r text identifier) n ∙ ap (λ (k : ℕ). orElse k (orElse (contentRefusal r text identifier) n)) given-first
 
   given-text : (text identifier : List ℕ) → textRefusal r text identifier
-      ≡ orElse (cond (isExcepted (r .body)) 15 0) (orElse (bodyRefusal (r .body) text identifier) (overBy mostBytes (textBytes r text identifier)))
+      ≡ orElse (cond (isExcepted (r .body)) 15 0) (orElse (contentRefusal r text identifier) (overBy mostBytes (textBytes r text identifier)))
   unfolding textRefusal
   given-text text identifier = given-refusal text identifier (overBy mostBytes (textBytes r text identifier))
 
 pub any-text-unwritten : (s text identifier : List ℕ) → textRefusal (readAnyText s .«record») text identifier
     ≡ orElse (cond (isExcepted (readAnyText s .«record» .body)) 15 0)
-    (orElse (bodyRefusal (readAnyText s .«record» .body) text identifier) (overBy mostBytes (textBytes (readAnyText s .«record») text identifier)))
+    (orElse (contentRefusal (readAnyText s .«record») text identifier) (overBy mostBytes (textBytes (readAnyText s .«record») text identifier)))
 any-text-unwritten s = given-text (any-text-given s)
 
 pub text-unwritten : (s text identifier : List ℕ) → textRefusal (readText s .«record») text identifier
     ≡ orElse (cond (isExcepted (readText s .«record» .body)) 15 0)
-    (orElse (bodyRefusal (readText s .«record» .body) text identifier) (overBy mostBytes (textBytes (readText s .«record») text identifier)))
+    (orElse (contentRefusal (readText s .«record») text identifier) (overBy mostBytes (textBytes (readText s .«record») text identifier)))
 text-unwritten s = given-text (text-given s)
 
 -- the same of a frame, where 13 stands before 1
 pub frame-unwritten : (s text identifier : List ℕ) → frameRefusal (readFrame s .«record») text identifier
     ≡ orElse (cond (isExcepted (readFrame s .«record» .body)) 15 0)
-    (orElse (bodyRefusal (readFrame s .«record» .body) text identifier)
+    (orElse (contentRefusal (readFrame s .«record») text identifier)
     (orElse (headerFrameRefusal (writtenHeader (readFrame s .«record»))) (overBy mostBytes (frameBytes (readFrame s .«record») text identifier))))
 unfolding frameRefusal
 frame-unwritten s text identifier =

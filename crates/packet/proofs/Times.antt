@@ -1,48 +1,41 @@
--- The time of a record that was read: its seven bytes stood behind the body's type byte as they are written.
+-- The time of a record that was read, with no packet inside: its seven bytes stood behind the body's type byte as they are written.
 -- Assumes nothing.
 use mathlib.Core.Path.{_≡_}
 use mathlib.Core.Bool.{Bool, true, false, cond, false≢true}
 use mathlib.Core.List.{List}
 use Prim.Native.Nat.{ℕ, _+_}
-use lib.Dec.{eqb, ltb}
+use native.Mathlib.Omega.{arith}
+use lib.Dec.{ltb}
 use lib.ListN.{length, take, drop}
 use Rattle.header.specs.declared.HeaderRead.{HeaderRead}
 use Rattle.header.specs.Header.{mostBytes, headerRefused}
 use Rattle.header.specs.Text.{readHeaderText, readTextHeader}
 use Rattle.header.specs.Frame.{readFrameHeader}
 use Rattle.time.specs.Time.{noTime, isPresent, timeBytes, timeText}
-use Rattle.body.specs.declared.BodyRead.{BodyRead}
-use Rattle.body.specs.Body.{blankBody, readBody}
+use Rattle.body.specs.Body.{blankBody}
 use Rattle.body.proofs.Theorems.{read-time-is-kept}
 use Rattle.packet.specs.declared.Record.{Record}
 use Rattle.packet.specs.Record.{blankRecord, packetRefused}
-use Rattle.packet.specs.Packet.{recordOf, packetOf, packetAfter, readAnyText, readText, readFrame}
+use Rattle.packet.specs.Packet.{mostInner, recordOf, recordAround, packetAfter, readAnyText, readText, readFrame}
+use Rattle.packet.proofs.Ways.{by-way}
 
--- a record whose time, if it has one, stood in the input behind the type byte of its body
+-- a record whose time, if it has one and is its own, stood in the input behind the type byte of its body
 abbrev pub TimeKept : List ℕ → HeaderRead → Record → Type 0
-TimeKept s h r = isPresent (r .body .time) ≡ true → take timeBytes (drop (h .body + 1) s) ≡ timeText (r .body .time)
+TimeKept s h r = r .inner ≡ 0 → isPresent (r .body .time) ≡ true → take timeBytes (drop (h .body + 1) s) ≡ timeText (r .body .time)
 
 blank-kept : (s : List ℕ) (h : HeaderRead) → TimeKept s h blankRecord
 unfolding blankRecord blankBody noTime isPresent
-blank-kept s h e = absurd (false≢true e)
+blank-kept s h z e = absurd (false≢true e)
 
-module _ (s : List ℕ) (h : HeaderRead) where
-  abbrev b : BodyRead
-  b = readBody (h .header .to) s (h .body)
-
-  after-kept : TimeKept s h (packetAfter h s .«record»)
-  unfolding packetAfter packetOf packetRefused recordOf
-  after-kept = go (eqb (h .refusal) 0) (eqb (b .refusal) 0)
-    where
-      go : (t u : Bool) → TimeKept s h (cond t (cond u (record { refusal = 0; «record» = recordOf (h .header) (b .body) }) (packetRefused (b .refusal))) (packetRefused (h .refusal)) .«record»)
-      go true true = read-time-is-kept (h .header .to) s (h .body)
-      go true false = blank-kept s h
-      go false u = blank-kept s h
+after-kept : (left : ℕ) (s : List ℕ) (h : HeaderRead) → TimeKept s h (packetAfter left h s .«record»)
+unfolding packetRefused recordOf recordAround
+after-kept left s h =
+    by-way left h s (λ p. TimeKept s h (p .«record»)) (λ n y. blank-kept s h) (λ o z. read-time-is-kept (h .header .to) s (h .body)) (λ a z. absurd (omega (arith, z)))
 
 module _ (s : List ℕ) where
   pub any-text-time-kept : TimeKept s (readHeaderText s) (readAnyText s .«record»)
   unfolding readAnyText
-  any-text-time-kept = after-kept s (readHeaderText s)
+  any-text-time-kept = after-kept mostInner s (readHeaderText s)
 
   pub text-time-kept : TimeKept s (readTextHeader s) (readText s .«record»)
   unfolding readText readTextHeader packetRefused
@@ -54,4 +47,4 @@ module _ (s : List ℕ) where
 
   pub frame-time-kept : TimeKept s (readFrameHeader s) (readFrame s .«record»)
   unfolding readFrame
-  frame-time-kept = after-kept s (readFrameHeader s)
+  frame-time-kept = after-kept mostInner s (readFrameHeader s)

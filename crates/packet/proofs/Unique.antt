@@ -11,11 +11,22 @@ use Rattle.buffer.proofs.Wrote.{one-end}
 use Rattle.packet.specs.declared.Record.{Record}
 use Rattle.packet.specs.declared.PacketRead.{PacketRead}
 use Rattle.packet.specs.Record.{blankRecord}
-use Rattle.packet.specs.Packet.{readAnyText, readText, readFrame}
+use Rattle.packet.specs.declared.Outer.{Outer}
+use Rattle.packet.specs.Outer.{outerText, outerFrame, packetFrom}
+use Rattle.packet.specs.Packet.{mostInner, holdsPacket, readAnyText, readText, readFrame}
 use Rattle.packet.specs.Written.{textBytes, frameBytes, textRefusal, frameRefusal}
 
 pub unique-blank : (r r′ : Record) → r ≡ blankRecord → r′ ≡ blankRecord → r ≡ r′
 unique-blank r r′ = one-value r r′ blankRecord
+
+pub unique-read-outer : (framed : Bool) (s : List ℕ) (r r′ : Outer) → r ≡ cond framed (outerFrame s) (outerText s) → r′ ≡ cond framed (outerFrame s) (outerText s) → r ≡ r′
+unique-read-outer framed s r r′ = one-value r r′ (cond framed (outerFrame s) (outerText s))
+
+pub unique-holds-packet : (s : List ℕ) (at : ℕ) (r r′ : Bool) → r ≡ holdsPacket s at → r′ ≡ holdsPacket s at → r ≡ r′
+unique-holds-packet s at r r′ = one-value r r′ (holdsPacket s at)
+
+pub unique-read-inside : (o : Outer) (s : List ℕ) (r r′ : PacketRead) → r ≡ packetFrom mostInner o s → r′ ≡ packetFrom mostInner o s → r ≡ r′
+unique-read-inside o s r r′ = one-value r r′ (packetFrom mostInner o s)
 
 pub unique-read-any-length : (s : List ℕ) (r r′ : PacketRead) → r ≡ readAnyText s → r′ ≡ readAnyText s → r ≡ r′
 unique-read-any-length s r r′ = one-value r r′ (readAnyText s)

@@ -1,5 +1,6 @@
 pub mod Record
-pub mod Range
 pub mod Packet
+pub mod Outer
+pub mod Range
 pub mod Written
 pub mod Private

@@ -4,13 +4,19 @@
 -- Assumes nothing.
 use Prim.Native.Nat.{ℕ}
 use mathlib.Core.Bool.{Bool, cond, _&&_}
-use Rattle.header.specs.Range.{headerInRange}
+use lib.Dec.{eqb, leb}
+use Rattle.header.specs.Range.{headerInRange, isBlankHeader}
 use Rattle.body.specs.Range.{bodyInRange}
 use Rattle.packet.specs.declared.Record.{Record}
+use Rattle.packet.specs.Packet.{mostInner, innermostOf}
 
--- the header's callsigns and hops; the body's parts, and whether its kind has a destination
+-- document 02, R-6: at most four packets inside, and the header of the innermost; "an inner header that is not blank at number 0" is 15
+unfoldable pub innerInRange : Record → Bool
+innerInRange r = cond (eqb (r .inner) 0) (isBlankHeader (r .innermost)) (leb (r .inner) mostInner && headerInRange (r .innermost))
+
+-- the callsigns and hops of both headers; the body's parts, and whether its kind has a destination, which is the innermost header's
 unfoldable pub recordInRange : Record → Bool
-recordInRange r = headerInRange (r .header) && bodyInRange (r .body) (r .header .to)
+recordInRange r = headerInRange (r .header) && (innerInRange r && bodyInRange (r .body) (innermostOf r .to))
 
 -- 15 for a record out of range
 unfoldable pub rangeRefusal : Record → ℕ

@@ -7,9 +7,9 @@ use Rattle.body.specs.Body.{blankBody}
 use Rattle.packet.specs.declared.Record.{Record}
 use Rattle.packet.specs.declared.PacketRead.{PacketRead}
 
--- the blank header and the blank body
+-- the blank header and the blank body, and no packet inside
 unfoldable pub blankRecord : Record
-blankRecord = record { header = blankHeader; body = blankBody }
+blankRecord = record { header = blankHeader; body = blankBody; innermost = blankHeader; inner = 0 }
 
 -- a refusal: the blank record
 unfoldable pub packetRefused : ℕ → PacketRead

@@ -3,7 +3,9 @@
 -- after 14" (document 02, R-5).
 -- Assumes nothing.
 use Prim.Native.Nat.{ℕ, zero, suc}
+use mathlib.Core.Bool.{cond}
 use mathlib.Core.List.{List, _++_}
+use lib.Dec.{eqb}
 use Rattle.buffer.specs.Wrote.{overBy}
 use Rattle.header.specs.declared.Header.{Header}
 use Rattle.header.specs.Header.{mostBytes}
@@ -40,9 +42,13 @@ unfoldable pub orElse : ℕ → ℕ → ℕ
 orElse zero n = n
 orElse (suc k) n = suc k
 
+-- with a packet inside 14, document 02, R-6: "Writing them remains refused with 14"; else the body's 14 or 18
+unfoldable pub contentRefusal : Record → List ℕ → List ℕ → ℕ
+contentRefusal r text identifier = cond (eqb (r .inner) 0) (bodyRefusal (r .body) text identifier) 14
+
 -- 15, then 14 or 18
 unfoldable pub recordRefusal : Record → List ℕ → List ℕ → ℕ
-recordRefusal r text identifier = orElse (rangeRefusal r) (bodyRefusal (r .body) text identifier)
+recordRefusal r text identifier = orElse (rangeRefusal r) (contentRefusal r text identifier)
 
 -- 15, 14, 18, 1
 unfoldable pub textRefusal : Record → List ℕ → List ℕ → ℕ

@@ -1,26 +1,33 @@
-// A packet: the record of its header and body, read from a line of text or an AX.25 frame, and written as either.
+// A packet: the record of its header and body, read from a line of text or an AX.25 frame, and written as either. A body may hold
+// another packet, as text, and so on up to four: then the record has the innermost header and body beside the outermost header.
 ghost use mathlib.Core.Path.{_≡_};
 ghost use mathlib.Core.Bool.{cond};
-ghost use Prim.Native.Nat.{_≤_};
-ghost use lib.ListN.{length};
-ghost use Rattle.header.specs.Text.{readTextHeader};
+ghost use Prim.Native.Nat.{_+_, _^_, _≤_, _<_};
+ghost use lib.ListN.{length, drop};
+ghost use Rattle.header.specs.Text.{readHeaderText};
 ghost use Rattle.header.specs.Frame.{readFrameHeader};
 ghost use Rattle.header.specs.Range.{textRefusal as headerTextRefusal};
 ghost use Rattle.buffer.specs.Wrote.{refusedBy, ends, wrote};
 ghost use Rattle.packet.specs.Record.{blankRecord, packetRefused};
-ghost use Rattle.packet.specs.Packet.{headerTo, keptTo, recordOf, packetAfter, readAnyText, readText, readFrame};
+ghost use Rattle.packet.specs.Packet.{mostInner, headerTo, keptTo, holdsPacket, isNowhere, movedSpan, movedBody, innermostOf, packetAround, readAnyText, readText, readFrame};
+ghost use Rattle.packet.specs.Outer.{outerRefused, outerAfter, outerText, outerFrame, aloneOf, insideOf, packetFrom};
+ghost use Rattle.packet.specs.Range.{rangeRefusal};
 ghost use Rattle.packet.specs.Written.{textBytes, frameBytes, orElse, textRefusal, frameRefusal};
 ghost use Rattle.packet.specs.Private.{headBytes, headRefusal, wroteBehind};
 use body::Body;
 use body::Kind;
+use body::Span;
 use callsign::Callsign;
 use header::Header;
 use header::HeaderRead;
 
-// A packet by its parts. A Mic-E record has no destination.
+// A packet by its parts: its own header, and how many packets are inside it, with the header of the innermost and its body. Without
+// one the body is the packet's own and the innermost header blank. The header that a Mic-E body belongs to has no destination.
 pub struct Record {
     pub header: Header,
     pub body: Body,
+    pub innermost: Header,
+    pub inner: u8,
 }
 
 // What reading gives: the refusal's number and the blank record, or 0 and the record.
@@ -29,8 +36,20 @@ pub struct PacketRead {
     pub refusal: u8,
 }
 
+// A packet read by itself, whatever its body holds: its header, its body by the type byte, of Unknown kind where it holds a packet, and
+// the place of the body; or the refusal's number, nothing, and the end of the input for the place.
+pub struct Outer {
+    pub header: Header,
+    pub body: Body,
+    pub at: usize,
+    pub refusal: u8,
+}
+
 // The most bytes of a line or a frame.
 const MOST: usize = 512;
+
+// The most packets inside a packet.
+const MOST_INNER: u8 = 4;
 
 // ---- nothing
 
@@ -40,7 +59,12 @@ pub fn blank() -> Record
 {
     let header = header::blank();
     let body = body::blank();
-    Record { header, body }
+    Record {
+        header,
+        body,
+        innermost: header,
+        inner: 0,
+    }
 }
 
 fn refused(n: u8) -> PacketRead
@@ -72,51 +96,201 @@ fn kept_to(kind: Kind, to: Callsign) -> Callsign
     }
 }
 
-fn record_of(h: Header, body: Body) -> Record
-    ensures { λ r. ⌜ r ≡ recordOf h body ⌝ }
+fn outer_refused(s: &[u8], n: u8) -> Outer
+    ensures { λ r. ⌜ r ≡ outerRefused (now (s .entry)) n ⌝ }
 {
-    let kind = body.kind;
-    let to = kept_to(kind, h.to);
-    let header = header_to(h, to);
-    Record { header, body }
+    let header = header::blank();
+    let body = body::blank();
+    Outer {
+        header,
+        body,
+        at: s.len(),
+        refusal: n,
+    }
 }
 
-// The packet of a header that was read from s, whose body follows it.
-fn packet_after(h: HeaderRead, s: &[u8]) -> PacketRead
-    ensures { λ r. ⌜ r ≡ packetAfter h (now (s .entry)) ⌝ }
+// The packet of a header that was read from s, and of the body that follows it.
+fn outer_after(h: HeaderRead, s: &[u8]) -> Outer
+    ensures { λ r. ⌜ r ≡ outerAfter h (now (s .entry)) ⌝ }
 {
     if h.refusal != 0 {
-        return refused(h.refusal);
+        return outer_refused(s, h.refusal);
     }
     let found = body::read(h.header.to, s, h.body);
     if found.refusal != 0 {
-        return refused(found.refusal);
+        return outer_refused(s, found.refusal);
     }
-    let record = record_of(h.header, found.body);
-    PacketRead { record, refusal: 0 }
+    let body = found.body;
+    let kind = body.kind;
+    let to = kept_to(kind, h.header.to);
+    let header = header_to(h.header, to);
+    Outer {
+        header,
+        body,
+        at: h.body,
+        refusal: 0,
+    }
+}
+
+// The header of an AX.25 frame where framed, else of a text, however long.
+fn header_in(s: &[u8], framed: bool) -> HeaderRead
+    ensures { λ r. ⌜ r ≡ cond framed (readFrameHeader (now (s .entry))) (readHeaderText (now (s .entry))) ⌝ }
+{
+    if framed {
+        return header::read_frame(s);
+    }
+    header::read_any_length(s)
+}
+
+fn outer_in(s: &[u8], framed: bool) -> Outer
+    ensures { λ r. ⌜ r ≡ outerAfter (cond framed (readFrameHeader (now (s .entry))) (readHeaderText (now (s .entry)))) (now (s .entry)) ⌝ }
+{
+    outer_after(header_in(s, framed), s)
+}
+
+// Reads an AX.25 frame where framed, else a line of text, by itself.
+pub fn read_outer(s: &[u8], framed: bool) -> Outer
+    ensures { λ r. ⌜ r ≡ cond framed (outerFrame (now (s .entry))) (outerText (now (s .entry))) ⌝ }
+{
+    if MOST < s.len() {
+        return outer_refused(s, 1);
+    }
+    outer_in(s, framed)
+}
+
+// A packet with none inside.
+fn alone(o: Outer) -> PacketRead
+    ensures { λ r. ⌜ r ≡ aloneOf o ⌝ }
+{
+    let header = o.header;
+    let body = o.body;
+    let innermost = header::blank();
+    PacketRead {
+        record: Record {
+            header,
+            body,
+            innermost,
+            inner: 0,
+        },
+        refusal: o.refusal,
+    }
+}
+
+// Whether the body that stands in s from the place `at` on holds a packet.
+pub fn holds_packet(s: &[u8], at: usize) -> bool
+    ensures { λ r. ⌜ r ≡ holdsPacket (now (s .entry)) at ⌝ }
+{
+    if at < s.len() {
+        return s[at] == b'}';
+    }
+    false
+}
+
+fn is_nowhere(p: Span) -> bool
+    ensures { λ r. ⌜ r ≡ isNowhere p ⌝ }
+{
+    if p.at != 0 {
+        return false;
+    }
+    p.len == 0
+}
+
+fn moved_span(p: Span, by: usize) -> Span
+    requires { ⌜ p .at + by < 2 ^ 64 ⌝ }
+    ensures { λ r. ⌜ r ≡ movedSpan by p ⌝ }
+{
+    if is_nowhere(p) {
+        return p;
+    }
+    Span {
+        at: p.at + by,
+        len: p.len,
+    }
+}
+
+// The body of a packet that starts so far inside another, with the places of the whole.
+fn moved_body(b: Body, by: usize) -> Body
+    requires { ⌜ (b .comment .at + by < 2 ^ 64) × (b .identifier .at + by < 2 ^ 64) ⌝ }
+    ensures { λ r. ⌜ r ≡ movedBody by b ⌝ }
+{
+    let mut moved = b;
+    moved.comment = moved_span(b.comment, by);
+    moved.identifier = moved_span(b.identifier, by);
+    moved
+}
+
+fn innermost_of(r: Record) -> Header
+    ensures { λ h. ⌜ h ≡ innermostOf r ⌝ }
+{
+    if r.inner == 0 {
+        return r.header;
+    }
+    r.innermost
+}
+
+// The packet of a header around another packet, which starts at the place `at`.
+fn packet_around(h: Header, at: usize, p: PacketRead) -> PacketRead
+    requires { ⌜ (p .record .inner < 255) × (p .record .body .comment .at + at < 2 ^ 64) × (p .record .body .identifier .at + at < 2 ^ 64) ⌝ }
+    ensures { λ r. ⌜ r ≡ packetAround h at p ⌝ }
+{
+    if p.refusal != 0 {
+        return refused(p.refusal);
+    }
+    let body = moved_body(p.record.body, at);
+    let innermost = innermost_of(p.record);
+    let inner = p.record.inner + 1;
+    PacketRead {
+        record: Record {
+            header: h,
+            body,
+            innermost,
+            inner,
+        },
+        refusal: 0,
+    }
+}
+
+// The packet reader: what an outer packet, read from s, is with the packets that it holds, `left` of which may still be read.
+fn packet_from(o: Outer, s: &[u8], left: u8) -> PacketRead
+    ensures { λ r. ⌜ r ≡ packetFrom left o (now (s .entry)) ⌝ }
+{
+    if holds_packet(s, o.at) {
+        return packet_around(o.header, o.at + 1, body_from(s, o.at, left));
+    }
+    alone(o)
+}
+
+// The body reader: the packet that the body at the place `at` holds.
+fn body_from(s: &[u8], at: usize, left: u8) -> PacketRead
+    requires { ⌜ at < length (now s) ⌝ }
+    ensures { λ r. ⌜ r ≡ insideOf left (drop (at + 1) (now (s .entry))) ⌝ }
+{
+    if left == 0 {
+        return refused(19);
+    }
+    let inside = &s[at + 1..];
+    packet_from(outer_in(inside, false), inside, left - 1)
+}
+
+// What an outer packet, read from s, is with the packets that it holds.
+pub fn read_inside(o: Outer, s: &[u8]) -> PacketRead
+    ensures { λ r. ⌜ r ≡ packetFrom mostInner o (now (s .entry)) ⌝ }
+{
+    packet_from(o, s, MOST_INNER)
 }
 
 // Reads a text, however long: the record, or the number of its first fault and the blank record.
 pub fn read_any_length(s: &[u8]) -> PacketRead
     ensures { λ r. ⌜ r ≡ readAnyText (now (s .entry)) ⌝ }
 {
-    packet_after(header::read_any_length(s), s)
-}
-
-fn header_in(s: &[u8], framed: bool) -> HeaderRead
-    ensures { λ r. ⌜ r ≡ cond framed (readFrameHeader (now (s .entry))) (readTextHeader (now (s .entry))) ⌝ }
-{
-    if framed {
-        return header::read_frame(s);
-    }
-    header::read_text(s)
+    packet_from(outer_in(s, false), s, MOST_INNER)
 }
 
 // Reads an AX.25 frame where framed, else a line of text: refused with 1, and then as a text of any length.
 pub fn read(s: &[u8], framed: bool) -> PacketRead
     ensures { λ r. ⌜ r ≡ cond framed (readFrame (now (s .entry))) (readText (now (s .entry))) ⌝ }
 {
-    packet_after(header_in(s, framed), s)
+    read_inside(read_outer(s, framed), s)
 }
 
 // Reads a line of text.
@@ -177,6 +351,22 @@ fn write_behind(
     buffer::write_three(MOST, &bytes[..m], text, tail, out)
 }
 
+// The answer where there is a packet inside: 15 for a number, a header or a part out of range, else 14.
+fn refused_inside(r: Record) -> buffer::Answer
+    requires { ⌜ (r .inner ≡ 0 → ⊥) ⌝ }
+    ensures { λ a. ⌜ a ≡ refusedBy (orElse (rangeRefusal r) 14) ⌝ }
+{
+    if MOST_INNER < r.inner {
+        return buffer::refused(15);
+    }
+    let b = body::write(r.body, r.innermost.to, b"", b"");
+    if b.refusal == 15 {
+        return buffer::refused(15);
+    }
+    let judged = refused_beside(r.innermost, 14);
+    refused_beside(r.header, judged.refusal)
+}
+
 // Writes a record with its comment, or its text and identifier, as an AX.25 frame where framed, else as a line of text; refused with 15,
 // 14, 18, 13 (a frame alone), 1 or 16. Where the record says that they stood is ignored. Only a message takes the identifier; an empty
 // one is none.
@@ -189,6 +379,12 @@ pub fn write(
 ) -> buffer::Answer
     ensures { λ a. ⌜ ends a (now (out .exit)) ≡ cond framed (wrote (frameRefusal r (now (text .entry)) (now (identifier .entry))) (frameBytes r (now (text .entry)) (now (identifier .entry))) (now (out .entry))) (wrote (textRefusal r (now (text .entry)) (now (identifier .entry))) (textBytes r (now (text .entry)) (now (identifier .entry))) (now (out .entry))) ⌝ }
 {
+    if r.inner != 0 {
+        return refused_inside(r);
+    }
+    if !header::is_blank(r.innermost) {
+        return buffer::refused(15);
+    }
     let b = body::write(r.body, r.header.to, text, identifier);
     let mut header = r.header;
     let to = b.to;

@@ -56,13 +56,24 @@ fn made(
     if !named.good {
         return at;
     }
+    let inside = ask::inner_word(s);
+    if !inside.good {
+        return at;
+    }
     if !told.held {
         return unwritten(room, out, at);
     }
     let header = named.header;
     let body = told.body;
+    let innermost = inside.innermost;
+    let inner = inside.inner;
     written(
-        Record { header, body },
+        Record {
+            header,
+            body,
+            innermost,
+            inner,
+        },
         framed,
         room,
         comment,
@@ -97,7 +108,7 @@ fn handed_over(framed: bool, room: usize, s: &[u8], out: &mut [u8], at: usize) -
 }
 
 // `W WHERE ROOM COMMENT KIND FLAG FROM TO HOPS LAT LON BLANKS TABLE CODE MESSAGE SPEED COURSE`, and `[letters=XY] [zeros=BITS]
-// [time=TIME] [addressee=HEX] [id=HEX]`
+// [time=TIME] [addressee=HEX] [id=HEX] [inner=N] [inner-from=CALL/SSID] [inner-to=CALL/SSID] [inner-hops=HOPS] [inner-zeros=BITS]`
 pub fn answer(s: &[u8], out: &mut [u8], at: usize) -> usize {
     let form = words::either(lines::first(s), b"text", b"frame");
     if 1 < form {

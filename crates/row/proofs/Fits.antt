@@ -24,7 +24,8 @@ use Rattle.header.specs.declared.Path.{Path}
 use Rattle.body.specs.declared.Kind.{Kind}
 use Rattle.packet.specs.declared.Record.{Record}
 use Rattle.packet.specs.declared.PacketRead.{PacketRead}
-use Rattle.row.specs.Row.{absent, orPoint, callField, toField, heardAmong, heardHops, angleFields, absentAngles, placeFields, recordFields, refusedFields, rowFields, spaced, rowOf, widthOf}
+use Rattle.row.proofs.Theorems.{outermost-to, own-to}
+use Rattle.row.specs.Row.{absent, orPoint, callField, ownToField, toField, heardAmong, heardHops, angleFields, absentAngles, placeFields, recordFields, refusedFields, rowFields, spaced, rowOf, widthOf}
 
 -- ---- fields with a byte behind each
 
@@ -74,12 +75,20 @@ module _ (kind k : Kind) (is : kind ≡ k) where
   pub place-width : (p : Place) → widthOf (placeFields k p) ≤ 24 → widthOf (placeFields kind p) ≤ 24
   place-width p h = rw is h
 
-  pub to-width : (to : Callsign) → length (toField k to) ≤ 16 → length (toField kind to) ≤ 16
-  to-width to h = rw is h
+  pub own-to-width : (to : Callsign) → length (ownToField k to) ≤ 16 → length (ownToField kind to) ≤ 16
+  own-to-width to h = rw is h
+
+-- by the number of packets inside
+module _ (inner : ℕ) (kind : Kind) (to : Callsign) where
+  pub to-width : inner ≡ 0 → length (ownToField kind to) ≤ 16 → length (toField inner kind to) ≤ 16
+  to-width z h = rw (own-to inner kind to z) h
+
+  pub outer-to-width : (inner ≡ 0 → ⊥) → length (callField to) ≤ 16 → length (toField inner kind to) ≤ 16
+  outer-to-width z h = rw (outermost-to inner kind to z) h
 
 -- ---- the row
 
-module _ (r : Record) (from : length (callField (r .header .from)) ≤ 16) (to : length (toField (r .body .kind) (r .header .to)) ≤ 16)
+module _ (r : Record) (from : length (callField (r .header .from)) ≤ 16) (to : length (toField (r .inner) (r .body .kind) (r .header .to)) ≤ 16)
     (hops : widthOf (digits (r .header .path .count) ∷ digits (heardHops (r .header .path)) ∷ []) ≤ 42) (place : widthOf (placeFields (r .body .kind) (r .body .place)) ≤ 24) where
   pub record-width : widthOf (recordFields r) ≤ 100
   unfolding recordFields widthOf

@@ -24,7 +24,8 @@ use Rattle.packet.specs.declared.Record.{Record}
 use Rattle.packet.specs.declared.PacketRead.{PacketRead}
 use Rattle.packet.specs.Packet.{readText}
 use Rattle.row.proofs.Fits.{row-fits}
-use Rattle.row.specs.Row.{callField, toField, heardAmong, heardHops, angleFields, absentAngles, placeFields, recordFields, refusedFields, rowFields, spaced, rowOf, row}
+use Rattle.row.proofs.Theorems.{outermost-to, own-to}
+use Rattle.row.specs.Row.{callField, ownToField, toField, heardAmong, heardHops, angleFields, absentAngles, placeFields, recordFields, refusedFields, rowFields, spaced, rowOf, row}
 
 -- ---- one field
 
@@ -37,8 +38,16 @@ pub number-put : (f g h : Filled) (z : ℤ) (after : ℕ) → SFits w32 z → g 
 number-put f g h z after s e k = two-added f g h (decimal z) (after ∷ []) (e ∙ ap (λ (y : ℤ). added f (decimal y)) (back z s)) k
 
 -- the destination by the kind; k is what it is
-pub to-put : (kind k : Kind) (to : Callsign) (f g : Filled) (after : ℕ) → kind ≡ k → g ≡ addedAll f (toField k to ∷ (after ∷ []) ∷ []) → g ≡ addedAll f (toField kind to ∷ (after ∷ []) ∷ [])
-to-put kind k to f g after is p = rw is p
+pub own-to-put : (kind k : Kind) (to : Callsign) (f g : Filled) (after : ℕ) → kind ≡ k → g ≡ addedAll f (ownToField k to ∷ (after ∷ []) ∷ []) → g ≡ addedAll f (ownToField kind to ∷ (after ∷ []) ∷ [])
+own-to-put kind k to f g after is p = rw is p
+
+-- and by the number of packets inside
+module _ (inner : ℕ) (kind : Kind) (to : Callsign) (f g : Filled) (after : ℕ) where
+  pub to-put : inner ≡ 0 → g ≡ addedAll f (ownToField kind to ∷ (after ∷ []) ∷ []) → g ≡ addedAll f (toField inner kind to ∷ (after ∷ []) ∷ [])
+  to-put z p = rw (own-to inner kind to z) p
+
+  pub outer-to-put : (inner ≡ 0 → ⊥) → g ≡ addedAll f (callField to ∷ (after ∷ []) ∷ []) → g ≡ addedAll f (toField inner kind to ∷ (after ∷ []) ∷ [])
+  outer-to-put z p = rw (outermost-to inner kind to z) p
 
 -- ---- several
 
@@ -77,14 +86,14 @@ before-place Status place field = refl
 
 pub record-put : (r : Record) (f g h k l : Filled)
     → g ≡ addedAll f (callField (r .header .from) ∷ (space ∷ []) ∷ [])
-    → h ≡ addedAll g (toField (r .body .kind) (r .header .to) ∷ (space ∷ []) ∷ [])
+    → h ≡ addedAll g (toField (r .inner) (r .body .kind) (r .header .to) ∷ (space ∷ []) ∷ [])
     → k ≡ addedAll h (digits (r .header .path .count) ∷ (space ∷ []) ∷ digits (heardHops (r .header .path)) ∷ (space ∷ []) ∷ [])
     → l ≡ addedAll k (spaced (placeFields (r .body .kind) (r .body .place)))
     → l ≡ addedAll f (spaced (recordFields r))
 unfolding spaced recordFields
 record-put r f g h k l p q s t =
     let from = callField (r .header .from) in
-    let to = toField (r .body .kind) (r .header .to) in
+    let to = toField (r .inner) (r .body .kind) (r .header .to) in
     let count = digits (r .header .path .count) in
     let heard = digits (heardHops (r .header .path)) in
     let place = spaced (placeFields (r .body .kind) (r .body .place)) in

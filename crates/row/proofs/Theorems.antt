@@ -1,14 +1,28 @@
--- What the definition of a row amounts to: a callsign in a row is what would be written of it.
+-- What the definition of a row amounts to: a callsign in a row is what would be written of it, and the destination is the outermost
+-- header's.
 -- Assumes nothing.
-use mathlib.Core.Path.{_≡_, sym, ap}
+use mathlib.Core.Path.{_≡_, refl, sym, ap}
 use mathlib.Core.Bool.{true}
+use Prim.Native.Nat.{ℕ}
+use borrow.Author.Tests.{eq-eqb, ne-eqb}
 use lib.ListN.{length}
 use Rattle.callsign.specs.declared.Callsign.{Callsign}
 use Rattle.callsign.specs.Range.{inRange, textOf}
 use Rattle.callsign.proofs.Ranges.{text-in-use}
-use Rattle.row.specs.Row.{orPoint, callField}
+use Rattle.body.specs.declared.Kind.{Kind}
+use Rattle.row.specs.Row.{orPoint, callField, ownToField, toField}
 
 -- a callsign in range stands in its row as it would be written, and a point stands for an empty one
 pub call-as-written : (c : Callsign) → inRange c ≡ true → length (c .text) ≡ 16 → callField c ≡ orPoint (textOf c)
 unfolding callField
 call-as-written c e long = ap orPoint (sym (text-in-use c e long))
+
+-- with a packet inside, the destination of a row is the outermost one, whatever the innermost body is; with none, it is by the kind
+module _ (inner : ℕ) (kind : Kind) (to : Callsign) where
+  pub outermost-to : (inner ≡ 0 → ⊥) → toField inner kind to ≡ callField to
+  unfolding toField
+  outermost-to z = rw (ne-eqb inner 0 z) refl
+
+  pub own-to : inner ≡ 0 → toField inner kind to ≡ ownToField kind to
+  unfolding toField
+  own-to z = rw (eq-eqb inner 0 z) refl

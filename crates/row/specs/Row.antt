@@ -1,7 +1,8 @@
 -- The row of the listing for a line (document 01, 'Values for the bench'): "Output: line, answer, source, destination, hops,
 -- heard hops, latitude, longitude." "`-` is absent; an accepted empty callsign prints `.`." A refused line has no hops; a
 -- Mic-E record has no destination. Document 02, R-5: line 2 "then answers `2 0 N0CALL APRS 0 0 - -`": a message and a status line
--- keep their destination and have no place, as the Unknown kind.
+-- keep their destination and have no place, as the Unknown kind. Document 02, R-6: "the listing prints the outermost header", and
+-- the innermost body's place.
 -- Assumes nothing.
 use Prim.Native.Nat.{ℕ, zero, suc, _+_}
 use mathlib.Core.Bool.{cond}
@@ -37,13 +38,17 @@ orPoint (b ∷ l) = b ∷ l
 unfoldable pub callField : Callsign → List ℕ
 callField c = orPoint (take (textLen c) (c .text))
 
--- a Mic-E record has no destination
-unfoldable pub toField : Kind → Callsign → List ℕ
-toField Unknown to = callField to
-toField Position to = callField to
-toField MicE to = absent
-toField Message to = callField to
-toField Status to = callField to
+-- of the header that a body belongs to: "a Mic-E record has no destination"
+unfoldable pub ownToField : Kind → Callsign → List ℕ
+ownToField Unknown to = callField to
+ownToField Position to = callField to
+ownToField MicE to = absent
+ownToField Message to = callField to
+ownToField Status to = callField to
+
+-- of the outermost header, which with a packet inside is not the body's: "`to` also where the innermost is Mic-E"
+unfoldable pub toField : ℕ → Kind → Callsign → List ℕ
+toField inner kind to = cond (eqb inner 0) (ownToField kind to) (callField to)
 
 unfoldable pub heardAmong : List Hop → ℕ
 heardAmong [] = zero
@@ -72,7 +77,7 @@ placeFields Status p = absentAngles
 -- "source, destination, hops, heard hops, latitude, longitude" of an accepted line
 unfoldable pub recordFields : Record → List (List ℕ)
 recordFields r =
-    callField (r .header .from) ∷ toField (r .body .kind) (r .header .to)
+    callField (r .header .from) ∷ toField (r .inner) (r .body .kind) (r .header .to)
     ∷ digits (r .header .path .count) ∷ digits (heardHops (r .header .path))
     ∷ placeFields (r .body .kind) (r .body .place)
 

@@ -7,7 +7,7 @@ ghost use Rattle.laws.specs.Bytes.{space};
 ghost use Rattle.buffer.specs.Wrote.{ends, wrote};
 ghost use Rattle.buffer.specs.Filled.{filled, addedAll};
 ghost use Rattle.numbers.specs.Numbers.{digits, decimal};
-ghost use Rattle.row.specs.Row.{callField, toField, heardAmong, heardHops, angleFields, placeFields, recordFields, spaced, rowFields, rowOf, row, widthOf};
+ghost use Rattle.row.specs.Row.{callField, ownToField, toField, heardAmong, heardHops, angleFields, placeFields, recordFields, spaced, rowFields, rowOf, row, widthOf};
 use body::Kind;
 use callsign::Callsign;
 use header::Hop;
@@ -56,10 +56,10 @@ fn put_call(c: Callsign, row: &mut [u8], at: usize) -> usize
     put_text(&text[..n], b' ', row, at)
 }
 
-// A Mic-E record has no destination.
-fn put_to(kind: Kind, to: Callsign, row: &mut [u8], at: usize) -> usize
-    ensures { λ r. ⌜ filled (now (row .exit)) r ≡ addedAll (filled (now (row .entry)) at) (toField kind to ∷ (space ∷ []) ∷ []) ⌝ }
-    ensures { λ _. ⌜ length (toField kind to) ≤ 16 ⌝ }
+// The destination of the header that a body belongs to; a Mic-E body leaves it none.
+fn put_own_to(kind: Kind, to: Callsign, row: &mut [u8], at: usize) -> usize
+    ensures { λ r. ⌜ filled (now (row .exit)) r ≡ addedAll (filled (now (row .entry)) at) (ownToField kind to ∷ (space ∷ []) ∷ []) ⌝ }
+    ensures { λ _. ⌜ length (ownToField kind to) ≤ 16 ⌝ }
 {
     match kind {
         Kind::Unknown => put_call(to, row, at),
@@ -68,6 +68,17 @@ fn put_to(kind: Kind, to: Callsign, row: &mut [u8], at: usize) -> usize
         Kind::Message => put_call(to, row, at),
         Kind::Status => put_call(to, row, at),
     }
+}
+
+// The outermost destination: with a packet inside, the body is another header's.
+fn put_to(inner: u8, kind: Kind, to: Callsign, row: &mut [u8], at: usize) -> usize
+    ensures { λ r. ⌜ filled (now (row .exit)) r ≡ addedAll (filled (now (row .entry)) at) (toField inner kind to ∷ (space ∷ []) ∷ []) ⌝ }
+    ensures { λ _. ⌜ length (toField inner kind to) ≤ 16 ⌝ }
+{
+    if inner == 0 {
+        return put_own_to(kind, to, row, at);
+    }
+    put_call(to, row, at)
 }
 
 // ---- several fields
@@ -126,7 +137,7 @@ fn put_place(kind: Kind, place: Place, row: &mut [u8], at: usize) -> usize
     }
 }
 
-// Source and destination, hops, and place.
+// Source, destination and hops of the outermost header, and the body's place.
 fn put_record(r: Record, row: &mut [u8], at: usize) -> usize
     ensures { λ end. ⌜ filled (now (row .exit)) end ≡ addedAll (filled (now (row .entry)) at) (spaced (recordFields r)) ⌝ }
     ensures { λ _. ⌜ widthOf (recordFields r) ≤ 100 ⌝ }
@@ -135,7 +146,7 @@ fn put_record(r: Record, row: &mut [u8], at: usize) -> usize
     let body = r.body;
     let kind = body.kind;
     let mut end = put_call(header.from, row, at);
-    end = put_to(kind, header.to, row, end);
+    end = put_to(r.inner, kind, header.to, row, end);
     end = put_hops(header.path, row, end);
     put_place(kind, body.place, row, end)
 }

@@ -1,5 +1,6 @@
 // A record in words, and written again: `KIND from= to= hops= lat= lon= blanks= table= code= flag= message= speed= course= comment=
-// text= frame= letters= zeros= time= addressee= id=`. Part of the programs inspect and bench.
+// text= frame= letters= zeros= time= addressee= id= inner= inner-from= inner-to= inner-hops= inner-zeros=`. Part of the programs
+// inspect and bench.
 use body::Body;
 use body::Kind;
 use body::Report;
@@ -30,8 +31,8 @@ fn hop(h: Hop, first: bool, plain: bool, out: &mut [u8], at: usize) -> usize {
     buffer::put(lines::cut(b"*", h.heard as usize), out, end)
 }
 
-fn hops(path: Path, plain: bool, out: &mut [u8], at: usize) -> usize {
-    let mut end = buffer::put(b" hops=", out, at);
+fn hops(label: &[u8], path: Path, plain: bool, out: &mut [u8], at: usize) -> usize {
+    let mut end = buffer::put(label, out, at);
     if path.count == 0 {
         return buffer::put_byte(b'-', out, end);
     }
@@ -47,14 +48,14 @@ fn hops(path: Path, plain: bool, out: &mut [u8], at: usize) -> usize {
     end
 }
 
-// Callsigns and hops.
+// Callsigns and hops of the outermost header.
 fn header(h: Header, plain: bool, out: &mut [u8], at: usize) -> usize {
     let from = h.from;
     let to = h.to;
     let path = h.path;
     let mut end = words::call(b" from=", from, plain, out, at);
     end = words::call(b" to=", to, plain, out, end);
-    hops(path, plain, out, end)
+    hops(b" hops=", path, plain, out, end)
 }
 
 // Latitude, longitude and blanks.
@@ -193,8 +194,8 @@ fn hop_zeros(path: Path, out: &mut [u8], at: usize) -> usize {
 }
 
 // A digit for the source, one for the destination and one for each hop.
-fn zeros(h: Header, out: &mut [u8], at: usize) -> usize {
-    let mut end = buffer::put(b" zeros=", out, at);
+fn zeros(label: &[u8], h: Header, out: &mut [u8], at: usize) -> usize {
+    let mut end = buffer::put(label, out, at);
     end = zero(h.from, out, end);
     end = zero(h.to, out, end);
     hop_zeros(h.path, out, end)
@@ -228,15 +229,28 @@ fn addressee(k: Kind, a: [u8; 9], plain: bool, out: &mut [u8], at: usize) -> usi
     }
 }
 
-// All of them. The words of a later request go behind them.
+// The words of a header and a body.
 fn requested(h: Header, b: Body, plain: bool, out: &mut [u8], at: usize) -> usize {
     let k = b.kind;
     let a = b.addressee;
     let mut end = letters(k, b.place, out, at);
-    end = zeros(h, out, end);
+    end = zeros(b" zeros=", h, out, end);
     end = time(b.time, out, end);
     end = addressee(k, a, plain, out, end);
     span(b" id=", b.identifier, out, end)
+}
+
+// How many packets are inside, and the innermost header, which is blank where there is none. The words of a later request go behind
+// them.
+fn inside(inner: u8, h: Header, plain: bool, out: &mut [u8], at: usize) -> usize {
+    let from = h.from;
+    let to = h.to;
+    let path = h.path;
+    let mut end = words::count(b" inner=", inner as usize, out, at);
+    end = words::call(b" inner-from=", from, plain, out, end);
+    end = words::call(b" inner-to=", to, plain, out, end);
+    end = hops(b" inner-hops=", path, plain, out, end);
+    zeros(b" inner-zeros=", h, out, end)
 }
 
 // A record in words, from the answer 0 on.
@@ -250,5 +264,6 @@ pub fn record(r: Record, line: &[u8], plain: bool, out: &mut [u8], at: usize) ->
     end = header(h, plain, out, end);
     end = body(b, out, end);
     end = again(r, text, identifier, plain, out, end);
-    requested(h, b, plain, out, end)
+    end = requested(h, b, plain, out, end);
+    inside(r.inner, r.innermost, plain, out, end)
 }

@@ -1,5 +1,5 @@
-// A line of a capture held against the page of a setting: the row of a Mic-E packet, and what was heard so far. Part of the program
-// on_page.
+// A line of a capture held against the page of a setting: the row of a Mic-E packet, also of one inside others, and what was heard
+// so far. Part of the program on_page.
 mod against;
 mod heard;
 mod row;
@@ -73,14 +73,21 @@ pub fn line(
     out: &mut [u8],
     t: Tally,
 ) -> Tally {
-    let heard = heard::hear(line);
+    let read = packet::read_text(line);
+    if read.refusal != 0 {
+        return refused(t);
+    }
+    let record = read.record;
+    let body = record.body;
+    let kind = body.kind;
+    let inside = heard::innermost(line, record.inner);
+    let heard = heard::hear(inside, kind);
     match heard {
         Heard::MicE(at, hundred, west) => {
-            let field = against::field_at(lines::tail(line, at), page.field);
+            let field = against::field_at(lines::tail(inside, at), page.field);
             let verdict = against::verdict_of(page, found, field, hundred, west);
             packet(number, field, verdict, out, t)
         }
         Heard::Other => other(t),
-        Heard::Refused => refused(t),
     }
 }

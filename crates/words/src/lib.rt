@@ -26,3 +26,4 @@ pub use word::place;
 pub use word::plain;
 pub use word::skip;
 pub use word::value;
+pub use word::value_or;

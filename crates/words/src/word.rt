@@ -44,6 +44,14 @@ pub fn value<'a>(s: &'a [u8], name: &[u8]) -> &'a [u8] {
     lines::first(lines::tail(s, name.len()))
 }
 
+// Its value, or another where it is not next.
+pub fn value_or<'a>(s: &'a [u8], name: &[u8], other: &'a [u8]) -> &'a [u8] {
+    if has(s, name) {
+        return value(s, name);
+    }
+    other
+}
+
 // What stands behind it; all of s where it is not next.
 pub fn past<'a>(s: &'a [u8], name: &[u8]) -> &'a [u8] {
     if has(s, name) {

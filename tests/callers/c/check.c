@@ -131,8 +131,27 @@ bool wrote(tusselgro_answer answer, const uint8_t *bytes, size_t size) {
     return answer.refusal == 0 && answer.reported == size && memcmp(written, bytes, size) == 0;
 }
 
+const form forms[2] = {
+    {tusselgro_read_text, tusselgro_write_text, {BYTES("A>B:")}},
+    {tusselgro_read_frame, tusselgro_write_frame, {BYTES("\x84@@@@@\xe0\x82@@@@@\x61\x03\xf0")}},
+};
+
+slice behind_header(const form *f, slice body, uint8_t *packet) {
+    memcpy(packet, f->header.bytes, f->header.size);
+    if (body.size > 0) memcpy(packet + f->header.size, body.bytes, body.size);
+    return (slice){packet, f->header.size + body.size};
+}
+
+void refuses(tusselgro_record record, slice text, slice identifier, int expected, const char *file, int line) {
+    for (const form *f = forms; f < forms + 2; f++) {
+        refused(write_lent(f->write, record, text, identifier, 512).refusal, expected, file, line);
+        refused(write_lent(f->write, record, text, identifier, 0).refusal, expected, file, line);
+    }
+}
+
 bool *mark_of(tusselgro_record *record, size_t place) {
-    tusselgro_header *h = &record->header;
+    tusselgro_header *h = place < HEADER_MARKS ? &record->header : &record->innermost;
+    place %= HEADER_MARKS;
     tusselgro_callsign *call = place == 0 ? &h->from : place == 1 ? &h->to : &h->path.hops[place - 2].call;
     return &call->had_zero_ssid;
 }
@@ -164,16 +183,20 @@ bool same_time(tusselgro_time a, tusselgro_time b) {
 
 static bool same_span(tusselgro_span a, tusselgro_span b) { return a.at == b.at && a.len == b.len; }
 
-static bool same_body(const tusselgro_body *a, const tusselgro_body *b) {
+bool same_body(const tusselgro_body *a, const tusselgro_body *b) {
     return same_place(&a->place, &b->place) && same_report(&a->report, &b->report) &&
            same_span(a->comment, b->comment) && same_span(a->identifier, b->identifier) && same_time(a->time, b->time) &&
            memcmp(a->addressee, b->addressee, sizeof a->addressee) == 0 && a->messaging == b->messaging &&
            a->kind == b->kind;
 }
 
+bool same_header(const tusselgro_header *a, const tusselgro_header *b) {
+    return same_callsign(&a->from, &b->from) && same_callsign(&a->to, &b->to) && same_path(&a->path, &b->path);
+}
+
 bool same_record(const tusselgro_record *a, const tusselgro_record *b) {
-    return same_callsign(&a->header.from, &b->header.from) && same_callsign(&a->header.to, &b->header.to) &&
-           same_path(&a->header.path, &b->header.path) && same_body(&a->body, &b->body);
+    return same_header(&a->header, &b->header) && same_body(&a->body, &b->body) &&
+           same_header(&a->innermost, &b->innermost) && a->inner == b->inner;
 }
 
 bool is_blank(const tusselgro_record *record) {
@@ -189,6 +212,7 @@ static void check_all(void) {
     check_parts();
     check_times();
     check_messages();
+    check_inner();
     check_listing();
     check_bounds();
     check_meanings();

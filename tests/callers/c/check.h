@@ -8,7 +8,7 @@
 #define HOLDS(fact) holds((fact), #fact, __FILE__, __LINE__)
 void holds(bool fact, const char *text, const char *file, int line);
 
-enum { REFUSALS = TUSSELGRO_MALFORMED + 1 };
+enum { REFUSALS = TUSSELGRO_TOO_MANY_INNER + 1 };
 
 /* Counts a refusal as met, and whether it is the one expected. */
 #define REFUSED(answer, expected) refused((answer).refusal, (expected), __FILE__, __LINE__)
@@ -47,8 +47,28 @@ extern uint8_t written[1024];
 /* Whether those bytes are these, as many as were reported. */
 bool wrote(tusselgro_answer answer, const uint8_t *bytes, size_t size);
 
-/* The marks of dropped zeros in a record by their places: the source's, the destination's, those of all eight hops. */
-enum { MARKS = 2 + TUSSELGRO_MOST_HOPS };
+/* A line and a frame from A to B: what reads and writes it, and its header. */
+typedef struct {
+    reader *read;
+    writer *write;
+    slice header;
+} form;
+extern const form forms[2];
+
+/* The packet of that header and a body. */
+slice behind_header(const form *f, slice body, uint8_t *packet);
+
+/* Counts whether both writers refuse a record with that number, whatever room they have. */
+#define REFUSES(record, text, identifier, expected) \
+    refuses(record, SLICE(text), SLICE(identifier), expected, __FILE__, __LINE__)
+void refuses(tusselgro_record record, slice text, slice identifier, int expected, const char *file, int line);
+
+#define X10 "xxxxxxxxxx"
+#define X50 X10 X10 X10 X10 X10
+
+/* The marks of dropped zeros in a record by their places: the source's, the destination's, those of all eight hops; those of
+   the outermost header, and then of the innermost. */
+enum { HEADER_MARKS = 2 + TUSSELGRO_MOST_HOPS, MARKS = 2 * HEADER_MARKS };
 bool *mark_of(tusselgro_record *record, size_t place);
 
 /* What document 02 says of times: whether seven bytes are one, and whether the numbers of a record are one, or none. */
@@ -73,9 +93,15 @@ bool is_status_text(slice text, bool timed);
 /* Whether what was read of an input is what those say of its body, which starts there with ':' or '>'. */
 bool is_read_rightly(const tusselgro_read *read, slice input, size_t at);
 
+/* Whether what was read of an input is what document 02 says of its body, which starts there with '}', given what its inner
+   packet is read as by itself. */
+bool is_read_around(const tusselgro_read *read, slice input, size_t at);
+
 bool same_answer(tusselgro_answer a, tusselgro_answer b);
 bool same_callsign(const tusselgro_callsign *a, const tusselgro_callsign *b);
 bool same_time(tusselgro_time a, tusselgro_time b);
+bool same_header(const tusselgro_header *a, const tusselgro_header *b);
+bool same_body(const tusselgro_body *a, const tusselgro_body *b);
 bool same_record(const tusselgro_record *a, const tusselgro_record *b);
 bool is_blank(const tusselgro_record *record);
 
@@ -84,6 +110,7 @@ void check_writing(void);
 void check_parts(void);
 void check_times(void);
 void check_messages(void);
+void check_inner(void);
 void check_listing(void);
 void check_bounds(void);
 void check_meanings(void);

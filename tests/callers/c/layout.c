@@ -13,8 +13,8 @@ SIZE(report, 12);
 SIZE(span, 16);
 SIZE(time, 5);
 SIZE(body, 80);
-SIZE(record, 288);
-SIZE(read, 296);
+SIZE(record, 504);
+SIZE(read, 512);
 SIZE(answer, 24);
 SIZE(callsign_read, 21);
 SIZE(address_read, 22);
@@ -80,9 +80,11 @@ STARTS(body, kind, 79);
 
 STARTS(record, header, 0);
 STARTS(record, body, 208);
+STARTS(record, innermost, 288);
+STARTS(record, inner, 496);
 
 STARTS(read, record, 0);
-STARTS(read, refusal, 288);
+STARTS(read, refusal, 504);
 
 STARTS(answer, refusal, 0);
 STARTS(answer, reported, 8);

@@ -129,6 +129,7 @@ void check_meanings(void) {
     HOLDS(strncmp(tusselgro_meaning(TUSSELGRO_NO_ROOM), "output buffer too short", 23) == 0);
     HOLDS(strcmp(tusselgro_meaning(TUSSELGRO_TIME), "time cannot be read") == 0);
     HOLDS(strncmp(tusselgro_meaning(TUSSELGRO_MALFORMED), "a message or status is malformed", 32) == 0);
+    HOLDS(strncmp(tusselgro_meaning(TUSSELGRO_TOO_MANY_INNER), "a fifth inner packet", 20) == 0);
     HOLDS(strcmp(tusselgro_meaning(REFUSALS), "no such refusal") == 0);
     HOLDS(strcmp(tusselgro_meaning(255), "no such refusal") == 0);
 }

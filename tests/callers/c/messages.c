@@ -80,23 +80,6 @@ bool is_read_rightly(const tusselgro_read *read, slice input, size_t at) {
 
 enum { MOST = 128, TOLD = 64 };
 
-typedef struct {
-    reader *read;
-    writer *write;
-    slice header;
-} form;
-
-static const form forms[2] = {
-    {tusselgro_read_text, tusselgro_write_text, {BYTES("A>B:")}},
-    {tusselgro_read_frame, tusselgro_write_frame, {BYTES("\x84@@@@@\xe0\x82@@@@@\x61\x03\xf0")}},
-};
-
-static slice behind_header(const form *f, slice body, uint8_t packet[MOST]) {
-    memcpy(packet, f->header.bytes, f->header.size);
-    if (body.size > 0) memcpy(packet + f->header.size, body.bytes, body.size);
-    return (slice){packet, f->header.size + body.size};
-}
-
 static slice part_of(slice input, tusselgro_span span) { return (slice){input.bytes + span.at, span.len}; }
 
 /* What was read is written as it stood, whatever its places say by then. */
@@ -140,8 +123,6 @@ static void reads(slice body, const char *expected, const char *file, int line) 
 }
 
 #define READS(string, expected) reads(SLICE(string), expected, __FILE__, __LINE__)
-#define X10 "xxxxxxxxxx"
-#define X50 X10 X10 X10 X10 X10
 
 /* The first two are of APRS 1.0.1, chapter 14. */
 static void check_messages_read(void) {
@@ -377,17 +358,6 @@ static void writes(tusselgro_record record, slice text, slice identifier, slice 
 
 #define WRITES(record, text, identifier, body) \
     writes(record, SLICE(text), SLICE(identifier), SLICE(body), __FILE__, __LINE__)
-
-/* write_lent sees that no byte of either buffer is touched. */
-static void refuses(tusselgro_record record, slice text, slice identifier, int expected, const char *file, int line) {
-    for (const form *f = forms; f < forms + 2; f++) {
-        refused(write_lent(f->write, record, text, identifier, 512).refusal, expected, file, line);
-        refused(write_lent(f->write, record, text, identifier, 0).refusal, expected, file, line);
-    }
-}
-
-#define REFUSES(record, text, identifier, expected) \
-    refuses(record, SLICE(text), SLICE(identifier), expected, __FILE__, __LINE__)
 
 static const char wu2z[] = "WU2Z     ";
 

@@ -58,7 +58,10 @@ static const char *const lines[] = {
     "\xc3\xa9-00>\xe2\x82\xac*:!9000.00S/18000.00W!",
     "N0CALL-0>APRS-0,WIDE1-0,WIDE2-0*,K1A-00:!4903.50N/07201.75W-",
     "A-0>S32U6T-0,B-0,C*:`(_fn\"Oj/",
+    "A>B:}C>D:}E>F:}G>H:}I>J:",
 };
+
+static const char *any_of_lines(void) { return lines[below(sizeof lines / sizeof *lines)]; }
 
 static size_t damaged(uint8_t *bytes, size_t size) {
     for (size_t edits = below(4); edits > 0; edits--) {
@@ -71,7 +74,7 @@ static size_t damaged(uint8_t *bytes, size_t size) {
             memmove(bytes + at, bytes + at + 1, size - at - 1);
             size--;
         } else if (at < size) {
-            static const char telling[] = "*-,:>!=`'@ 012356789AKLPZqhz/.{|~";
+            static const char telling[] = "*-,:>!=`'@ 012356789AKLPZqhz/.{|~}";
             bytes[at] = one_in(2) ? (uint8_t)next() : (uint8_t)telling[below(sizeof telling - 1)];
         }
     }
@@ -82,12 +85,24 @@ static size_t comment_behind(uint8_t *bytes, size_t size) {
     return one_in(4) ? size + any_bytes(bytes + size, below(MOST - size)) : size;
 }
 
+/* a line, or one inside others: their headers, each with a '}' behind it */
+static size_t line_inside(uint8_t *bytes, size_t around) {
+    size_t size = 0;
+    for (; around > 0; around--) {
+        const char *line = any_of_lines();
+        size_t header = (size_t)(strchr(line, ':') + 1 - line);
+        memcpy(bytes + size, line, header);
+        size += header;
+        bytes[size++] = '}';
+    }
+    const char *line = any_of_lines();
+    memcpy(bytes + size, line, strlen(line));
+    return size + strlen(line);
+}
+
 static size_t any_line(uint8_t *bytes) {
     if (one_in(8)) return any_bytes(bytes, below(MOST));
-    const char *line = lines[below(sizeof lines / sizeof *lines)];
-    size_t size = strlen(line);
-    memcpy(bytes, line, size);
-    return damaged(bytes, comment_behind(bytes, size));
+    return damaged(bytes, comment_behind(bytes, line_inside(bytes, one_in(3) ? below(6) : 0)));
 }
 
 static size_t any_frame(uint8_t *bytes) {
@@ -98,11 +113,17 @@ static size_t any_frame(uint8_t *bytes) {
             bytes[size++] = (uint8_t)(2 * "ABCKLPZ0159 "[below(place < 3 ? 11 : 12)]);
         bytes[size++] = (uint8_t)((next() & 0xfe) | (at + 1 == addresses));
     }
-    const char *body = strchr(lines[below(FRAMED)], ':') + 1;
     bytes[size++] = 0x03;
     bytes[size++] = 0xf0;
-    memcpy(bytes + size, body, strlen(body));
-    return damaged(bytes, comment_behind(bytes, size + strlen(body)));
+    if (one_in(3)) {
+        bytes[size++] = '}';
+        size += line_inside(bytes + size, below(5));
+    } else {
+        const char *body = strchr(lines[below(FRAMED)], ':') + 1;
+        memcpy(bytes + size, body, strlen(body));
+        size += strlen(body);
+    }
+    return damaged(bytes, comment_behind(bytes, size));
 }
 
 /* ---- what is called */
@@ -127,9 +148,10 @@ static bool has_zero(const uint8_t *text, size_t size) {
     return dash != NULL && dash + 2 == text + size && dash[1] == '0';
 }
 
+/* Of the outermost header: what is inside a frame is text. */
 static bool is_unmarked(tusselgro_record record) {
     bool none = true;
-    for (size_t place = 0; place < MARKS; place++) none = none && !*mark_of(&record, place);
+    for (size_t place = 0; place < HEADER_MARKS; place++) none = none && !*mark_of(&record, place);
     return none;
 }
 
@@ -140,10 +162,10 @@ static size_t before(const uint8_t *bytes, uint8_t one, uint8_t other) {
     return size;
 }
 
-/* The marks of a record are those of the line that it was read from, but for the destination that Mic-E has not. */
+/* The marks of the outermost header are those of the line that it was read from, but for the destination that Mic-E has not. */
 static bool is_marked_by(tusselgro_record record, const uint8_t *line) {
-    bool same = true, ended = false, mic_e = record.body.kind == TUSSELGRO_MIC_E;
-    for (size_t place = 0; place < MARKS; place++) {
+    bool same = true, ended = false, mic_e = record.body.kind == TUSSELGRO_MIC_E && record.inner == 0;
+    for (size_t place = 0; place < HEADER_MARKS; place++) {
         size_t size = ended ? 0 : before(line, place == 0 ? '>' : ',', ':');
         bool marked = !ended && !(mic_e && place == 1) && has_zero(line, size);
         same = same && *mark_of(&record, place) == marked;
@@ -186,18 +208,30 @@ static uint8_t position_refusal(bool timed, const uint8_t *text, size_t size) {
 
 /* Whether a body was read as document 02 has it, or refused as that has it; of a Mic-E body the refusals that there are. */
 static bool is_body(const tusselgro_read *read, slice input, size_t at) {
-    const char *type = at < input.size && input.bytes[at] != 0 ? strchr("!=/@:>", input.bytes[at]) : NULL;
+    const char *type = at < input.size && input.bytes[at] != 0 ? strchr("}!=/@:>", input.bytes[at]) : NULL;
+    if (type != NULL && *type == '}') return is_read_around(read, input, at);
+    if (read->record.inner != 0) return false;
     if (type == NULL) return read->refusal == 0 || read->refusal == 11 || read->refusal == 12;
     if (*type == ':' || *type == '>') return is_read_rightly(read, input, at);
     return read->refusal == position_refusal(*type == '/' || *type == '@', input.bytes + at + 1, input.size - at - 1);
 }
 
-/* Where the body of a line or of a frame starts whose header was read. */
-static size_t body_at(const uint8_t *bytes, bool frame) {
+/* Where the body of a line or of a frame would start: behind the first ':', or behind the last address and two bytes. */
+static size_t body_at(slice input, bool frame) {
     size_t at = 0;
-    if (!frame) return before(bytes, ':', ':') + 1;
-    while ((bytes[at + 6] & 1) == 0) at += 7;
-    return at + 9;
+    if (frame) {
+        while (at + 7 <= input.size && (input.bytes[at + 6] & 1) == 0) at += 7;
+        return at + 9;
+    }
+    while (at < input.size && input.bytes[at] != ':') at++;
+    return at + 1;
+}
+
+/* Whether its header by itself, with an empty body, is read. */
+static bool is_header(slice input, bool frame) {
+    size_t size = body_at(input, frame);
+    if (size > input.size || input.size > TUSSELGRO_MOST_BYTES) return false;
+    return (frame ? tusselgro_read_frame : tusselgro_read_text)(input.bytes, size).refusal == 0;
 }
 
 static bool is_within(tusselgro_span span, size_t size) { return span.at <= size && span.len <= size - span.at; }
@@ -215,22 +249,23 @@ static bool is_body_again(tusselgro_record record, slice text, slice identifier,
 }
 
 static void any_read(void) {
-    uint8_t bytes[MOST + 8];
+    uint8_t bytes[MOST + 8] = {0};
     bool frame = one_in(2);
     slice input = {bytes, frame ? any_frame(bytes) : any_line(bytes)};
     tusselgro_read read = read_lent(frame ? tusselgro_read_frame : tusselgro_read_text, bytes, input.size);
     tusselgro_body *b = &read.record.body;
-    size_t at = read.refusal == 0 || read.refusal > 6 ? body_at(bytes, frame) : input.size;
-    if (read.refusal == 0 || read.refusal > 6) HOLDS(is_body(&read, input, at));
+    size_t at = body_at(input, frame);
+    HOLDS(is_header(input, frame) ? is_body(&read, input, at) : read.refusal >= 1 && read.refusal <= 6);
     HOLDS(is_within(b->comment, input.size) && is_within(b->identifier, input.size));
     HOLDS(read.record.header.path.count <= TUSSELGRO_MOST_HOPS && is_right(b));
+    HOLDS(read.record.innermost.path.count <= TUSSELGRO_MOST_HOPS && read.record.inner <= TUSSELGRO_MOST_INNER);
     if (read.refusal != 0) return;
     if (b->kind == TUSSELGRO_POSITION) HOLDS(starts_rightly(bytes + b->comment.at - 19, b));
     HOLDS(frame ? is_unmarked(read.record) : is_marked_by(read.record, bytes));
     slice text = {bytes + b->comment.at, b->comment.len}, identifier = {bytes + b->identifier.at, b->identifier.len};
     write_lent(tusselgro_write_text, read.record, text, identifier, below(MOST));
     write_lent(tusselgro_write_frame, read.record, text, identifier, below(MOST));
-    if (b->kind == TUSSELGRO_MESSAGE || b->kind == TUSSELGRO_STATUS)
+    if (read.record.inner == 0 && (b->kind == TUSSELGRO_MESSAGE || b->kind == TUSSELGRO_STATUS))
         HOLDS(is_body_again(read.record, text, identifier, (slice){bytes + at, input.size - at}));
 }
 
@@ -242,7 +277,10 @@ static tusselgro_record wild_record(void) {
     memset(&record.body.place.west, one_in(2), 1);
     memset(&record.body.messaging, one_in(2), 1);
     memset(&record.body.report.current, one_in(2), 1);
-    for (int at = 0; at < TUSSELGRO_MOST_HOPS; at++) memset(&record.header.path.hops[at].heard, one_in(2), 1);
+    for (int at = 0; at < TUSSELGRO_MOST_HOPS; at++) {
+        memset(&record.header.path.hops[at].heard, one_in(2), 1);
+        memset(&record.innermost.path.hops[at].heard, one_in(2), 1);
+    }
     for (size_t place = 0; place < MARKS; place++) memset(mark_of(&record, place), one_in(2), 1);
     return record;
 }
@@ -261,7 +299,7 @@ static tusselgro_record near_record(void) {
     uint8_t bytes[MOST + 8];
     tusselgro_record record = tusselgro_read_text(bytes, any_line(bytes)).record;
     tusselgro_place *place = &record.body.place;
-    switch (below(17)) {
+    switch (below(21)) {
         case 0: record.body.kind = (uint8_t)below(7); break;
         case 1: record.body.report.message = (uint8_t)below(20); break;
         case 2: place->blanks = (uint8_t)below(8); break;
@@ -282,6 +320,10 @@ static tusselgro_record near_record(void) {
         case 12: record.body.messaging = !record.body.messaging; break;
         case 13: record.body.addressee[below(TUSSELGRO_ADDRESSEE_BYTES)] = (uint8_t)next(); break;
         case 14: case 15: break;
+        case 17: record.inner = (uint8_t)(one_in(4) ? next() : below(6)); break;
+        case 18: record.innermost = record.header; break;
+        case 19: record.innermost.path.count = below(12); break;
+        case 20: record.innermost.to.call_len = (uint8_t)(one_in(2) ? below(20) : next()); break;
         default: record.header.to.ssid_len = (uint8_t)(one_in(2) ? below(20) : next()); break;
     }
     return record;
@@ -300,6 +342,16 @@ static slice any_text(uint8_t *bytes) {
 }
 
 static slice any_identifier(uint8_t *bytes) { return (slice){bytes, any_bytes(bytes, below(one_in(4) ? 20 : 7))}; }
+
+/* The innermost header, and the number of inner packets. */
+static bool is_inner_right(const tusselgro_record *record) {
+    static const tusselgro_record zeros;
+    tusselgro_record unmarked = {.innermost = record->innermost};
+    for (size_t place = 0; place < MARKS; place++) *mark_of(&unmarked, place) = false;
+    if (record->inner == 0) return same_record(&unmarked, &zeros);
+    return record->inner <= TUSSELGRO_MOST_INNER && record->innermost.path.count <= TUSSELGRO_MOST_HOPS &&
+           fits(record->innermost.from) && fits(record->innermost.to);
+}
 
 /* What is lent with a record: "18 what was handed over with it". */
 static bool is_malformed(const tusselgro_body *b, slice text, slice identifier) {
@@ -325,8 +377,12 @@ static void any_write(void) {
     writer *function = one_in(2) ? tusselgro_write_frame : tusselgro_write_text;
     size_t room = below(MOST);
     tusselgro_answer answer = write_lent(function, record, text, identifier, room);
-    HOLDS(is_right(b) || answer.refusal == 15);
-    HOLDS(is_malformed(b, text, identifier) ? answer.refusal == 15 || answer.refusal == 18 : answer.refusal != 18);
+    HOLDS((is_right(b) && is_inner_right(&record)) || answer.refusal == 15);
+    if (record.inner != 0) {
+        HOLDS(answer.refusal == 14 || answer.refusal == 15);
+    } else {
+        HOLDS(is_malformed(b, text, identifier) ? answer.refusal == 15 || answer.refusal == 18 : answer.refusal != 18);
+    }
     if (answer.refusal == 0) HOLDS(ends_rightly(b, text, identifier, answer.reported));
     if (answer.refusal == 0 && b->kind == TUSSELGRO_POSITION)
         HOLDS(starts_rightly(written + answer.reported - text.size - 19, b));

@@ -1,5 +1,5 @@
 /* Lines and frames read: document 01's values, document 02's letters, marks and times, every refusal that a reader can give.
-   messages.c has messages and status lines. */
+   messages.c has messages and status lines, inner.c packets inside packets. */
 #include "check.h"
 
 #include <string.h>

@@ -1,5 +1,5 @@
 /* Records written: document 01's values, document 02's letters, marks and times, every refusal of a writer, and wild records.
-   messages.c has messages and status lines. */
+   messages.c has messages and status lines, inner.c packets inside packets. */
 #include "check.h"
 
 #include <stdio.h>

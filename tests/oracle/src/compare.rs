@@ -1,7 +1,8 @@
 // Compares the answers of the port with the oracle's, line by line, and prints tables: by kind of request, by the
-// port's number, by mark, by the place of a dropped zero, by what became of a time, a message or a status. Fails on a
-// difference that is on no list, on unequal counts, and on a kind that compared nothing. Of two refusals only the fact
-// counts, but where a time, a message or a status decides; pairs of unequal numbers are told at the end and fail nothing.
+// port's number, by mark, by the place of a dropped zero, by what became of a time, a message or a status, and of a packet
+// inside a packet. Fails on a difference that is on no list, on unequal counts, and on a kind that compared nothing. Of two
+// refusals only the fact counts, but where a time, a message, a status or an inner packet decides; pairs of unequal numbers are
+// told at the end and fail nothing.
 
 mod counts;
 mod judge;
@@ -15,13 +16,13 @@ use judge::{judge, Judgement, Rewritten, Verdict};
 use protocol::{from_decimal, next_line, words};
 
 const MOST_SHOWN: u64 = 20;
-const COLUMNS: [&str; 6] = ["accepted", "refused", "on shim", "outside", "listed", "different"];
+const COLUMNS: [&str; 7] = ["accepted", "refused", "on shim", "outside", "listed", "inner", "different"];
 const WAYS: [(&str, &[u8]); 3] = [("reading", b"TF"), ("writing", b"W"), ("bounds", b"B")];
 
 struct Kind {
     name: String,
     requests: u64,
-    counts: [u64; 6],
+    counts: [u64; 7],
 }
 
 #[derive(Default)]
@@ -47,7 +48,8 @@ fn column(verdict: &Verdict) -> usize {
         Verdict::OnShim => 2,
         Verdict::Outside(_) => 3,
         Verdict::Listed(_) => 4,
-        Verdict::Different(_) => 5,
+        Verdict::Inner => 5,
+        Verdict::Different(_) => 6,
     }
 }
 
@@ -92,8 +94,8 @@ impl Tally {
 
     fn look_for_idle_kinds(&mut self) {
         for kind in &self.kinds {
-            let [accepted, refused, _, _, listed, different] = kind.counts;
-            if accepted + refused + listed + different == 0 {
+            let [accepted, refused, _, _, listed, inner, different] = kind.counts;
+            if accepted + refused + listed + inner + different == 0 {
                 self.faults.push(format!("kind {} compared nothing", kind.name));
             }
         }
@@ -108,7 +110,7 @@ fn read_index(path: &str) -> io::Result<Vec<Kind>> {
         kinds.push(Kind {
             name: name.to_string(),
             requests: requests.parse().map_err(|_| malformed())?,
-            counts: [0; 6],
+            counts: [0; 7],
         });
     }
     Ok(kinds)
@@ -159,7 +161,7 @@ fn print_kinds(kinds: &[Kind]) {
     print!("{:<24}{:>10}", "kind", "requests");
     COLUMNS.iter().for_each(|name| print!("{:>10}", name));
     println!();
-    let mut total = [0; 6];
+    let mut total = [0; 7];
     for kind in kinds {
         print!("{:<24}{:>10}", kind.name, kind.requests);
         kind.counts.iter().for_each(|count| print!("{:>10}", count));

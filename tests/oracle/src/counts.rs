@@ -1,8 +1,10 @@
-// What `compare` counts beside its verdicts, of requests that it finds no difference in: dropped zeros, times, messages and status lines.
+// What `compare` counts beside its verdicts, of requests that it finds no difference in: dropped zeros, times, messages and status lines;
+// and packets inside packets, which it counts there alone.
 
 use crate::first_number;
 use crate::judge::{Judgement, Rewritten, Verdict};
-use protocol::{words, BAD_TIME, MALFORMED};
+use protocol::third_party::FIFTH;
+use protocol::{from_decimal, words, BAD_TIME, MALFORMED};
 
 const ZERO_AT: [&str; 4] = ["anywhere", "source", "destination", "a hop"];
 const TIMES: [&str; 5] = ["accepted, z", "accepted, /", "accepted, h", "refused: 17, or 15", "of these listed"];
@@ -18,12 +20,33 @@ const SAID: [&str; 8] = [
     "of these listed",
 ];
 
-/// Columns are reading and writing; of messages and status lines reading, text and frame written again alike, and writing.
+/// What was read by number and by the innermost kind, what was refused, and records with a number to be written.
+const INSIDE: [&str; 14] = [
+    "1 inside",
+    "2 inside",
+    "3 inside",
+    "4 inside",
+    "innermost unknown",
+    "innermost position",
+    "innermost mic-e",
+    "innermost message",
+    "innermost status",
+    "refused for a header",
+    "refused for a body",
+    "refused for a fifth",
+    "to be written: 14",
+    "to be written: 15",
+];
+const KINDS: [&[u8]; 5] = [b"unknown", b"position", b"mic-e", b"message", b"status"];
+
+/// Columns are reading and writing; of messages and status lines reading, text and frame written again alike, and writing; of packets
+/// inside packets text and frame.
 #[derive(Default)]
 pub struct Counts {
     zeros: [[u64; 2]; 4],
     times: [[u64; 2]; 5],
     said: [[u64; 3]; 8],
+    inside: [[u64; 2]; 14],
 }
 
 /// The value of the word of this name, as `zeros=`, in a request or an answer; such words stand last.
@@ -43,6 +66,11 @@ impl Counts {
             _ => return,
         };
         let (line, answer) = (words(line), first_number(ours));
+        let is_frame = request.starts_with(b"F") || request.starts_with(b"W frame");
+        self.note_inside(way, usize::from(is_frame), &line, answer, &judgement.verdict);
+        if judgement.verdict == Verdict::Inner {
+            return;
+        }
         self.note_zeros(way, &line);
         self.note_time(way, &line, answer, &judgement.verdict);
         self.note_said(way, &line, answer, judgement);
@@ -105,10 +133,31 @@ impl Counts {
         }
     }
 
+    /// Counts a packet inside a packet that was read or refused, or a record with a number to be written.
+    fn note_inside(&mut self, way: usize, column: usize, line: &[&[u8]], answer: Option<i64>, verdict: &Verdict) {
+        let number = value_of(line, b"inner=").and_then(from_decimal).unwrap_or(0);
+        let is_read = way == 0 && *verdict == Verdict::Inner;
+        let is_written = way == 1 && number > 0;
+        let rows = match answer {
+            Some(0) if is_read => {
+                let kind = KINDS.iter().position(|kind| *kind == line[1]).expect("a kind");
+                vec![number as usize - 1, 4 + kind]
+            }
+            Some(2..=6) if is_read => vec![9],
+            Some(fifth) if is_read && fifth == i64::from(FIFTH) => vec![11],
+            Some(_) if is_read => vec![10],
+            Some(14) if is_written => vec![12],
+            Some(15) if is_written => vec![13],
+            _ => vec![],
+        };
+        rows.iter().for_each(|row| self.inside[*row][column] += 1);
+    }
+
     pub fn print(&self) {
         print_table("dropped zero at", &["reading", "writing"], &ZERO_AT, &self.zeros);
         print_table("time", &["reading", "writing"], &TIMES, &self.times);
         print_table("message or status", &["reading", "again", "writing"], &SAID, &self.said);
+        print_table("packet inside a packet", &["text", "frame"], &INSIDE, &self.inside);
     }
 }
 

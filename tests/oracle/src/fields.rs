@@ -1,7 +1,7 @@
 // The fields of a record line that differ by kind, taken from what the crate has read.
 
 use aprs_parser::mic_e::Message;
-use aprs_parser::{AprsData, Callsign, Latitude, Longitude, Precision, Timestamp};
+use aprs_parser::{AprsData, Latitude, Longitude, Precision, Timestamp};
 
 pub const PRECISIONS: [Precision; 6] = [
     Precision::HundredthMinute,
@@ -34,7 +34,6 @@ pub const MESSAGES: [(Message, &str); 16] = [
 /// The blank one is document 01's Unknown. `comment` is a message's or a status's text.
 pub struct Fields<'a> {
     pub kind: &'static str,
-    pub to: Option<&'a Callsign>,
     pub latitude: i64,
     pub longitude: i64,
     pub blanks: usize,
@@ -78,7 +77,6 @@ fn word_of(message: Message) -> &'static str {
 pub fn fields(data: &AprsData) -> Fields<'_> {
     let blank = Fields {
         kind: "unknown",
-        to: data.to(),
         latitude: 0,
         longitude: 0,
         blanks: 0,

@@ -3,6 +3,9 @@
 // every machine.
 
 mod drawn;
+mod inner_drawn;
+mod inner_whole;
+mod inner_written;
 mod messages_drawn;
 mod messages_whole;
 mod messages_written;
@@ -35,7 +38,7 @@ enum Maker {
 
 use Maker::{Drawn, Sampled, Whole};
 
-const KINDS: [(&str, Maker); 77] = [
+const KINDS: [(&str, Maker); 92] = [
     ("text-unknown", Drawn(drawn::text_unknown)),
     ("text-position", Drawn(drawn::text_position)),
     ("text-mic-e", Drawn(drawn::text_mic_e)),
@@ -84,6 +87,16 @@ const KINDS: [(&str, Maker); 77] = [
     ("all-status-times", Sampled(messages_whole::all_status_times)),
     ("status-lengths", Whole(messages_whole::status_lengths)),
     ("message-headers", Whole(messages_whole::message_headers)),
+    ("text-inner", Drawn(inner_drawn::text_inner)),
+    ("frame-inner", Drawn(inner_drawn::frame_inner)),
+    ("inner-depths", Whole(inner_whole::inner_depths)),
+    ("inner-faults", Whole(inner_whole::inner_faults)),
+    ("inner-headers", Whole(inner_whole::inner_headers)),
+    ("inner-shapes", Whole(inner_whole::inner_shapes)),
+    ("inner-bytes", Whole(inner_whole::inner_bytes)),
+    ("inner-hops", Whole(inner_whole::inner_hops)),
+    ("inner-callsigns", Whole(inner_whole::inner_callsigns)),
+    ("inner-lengths", Whole(inner_whole::inner_lengths)),
     ("hops", Whole(whole::hops)),
     ("frame-shapes", Whole(whole::frame_shapes)),
     ("callsigns", Whole(whole::callsigns)),
@@ -111,6 +124,11 @@ const KINDS: [(&str, Maker); 77] = [
     ("written-statuses", Whole(messages_written::written_statuses)),
     ("written-orders", Whole(messages_written::written_orders)),
     ("written-said", Whole(messages_written::written_said)),
+    ("written-inner", Drawn(inner_drawn::written_inner)),
+    ("written-numbers", Whole(inner_written::written_numbers)),
+    ("written-innermost", Whole(inner_written::written_innermost)),
+    ("written-inner-orders", Whole(inner_written::written_inner_orders)),
+    ("written-inner-callsigns", Whole(inner_written::written_inner_callsigns)),
     ("bounds", Drawn(drawn::bounds)),
     ("bounds-limits", Whole(whole::bounds_limits)),
 ];

@@ -1,14 +1,26 @@
 // Judges one request: are the oracle's answer and the port's equal on document 01's domain of equality?
 // Of two refusals only the fact counts; where the oracle marks its answer, the documents' own number, or the record that stands behind the
 // mark, is demanded. What the Rust does not have, the letters, the dropped zeros, the page box and the numbers of a bad time, a malformed
-// message or a malformed status, is held to document 02's rules.
+// message or a malformed status, is held to document 02's rules. Bodies that start `}` are outside that domain; of them the whole answer is
+// demanded that the oracle has by document 02's rules.
 
-use protocol::rules::{self, Limit};
+use protocol::rules::{self, Limit, Words};
 use protocol::{from_decimal, from_hex, words, Form, Mark, BAD_TIME, MALFORMED};
 
 const WRITTEN_FIELDS: [&[u8]; 2] = [b"text=", b"frame="];
-/// The words behind the written fields: two by rule, and three that are the Rust's.
-const BEHIND: [&str; 5] = ["the letters", "the zeros", "the time", "the addressee", "the identifier"];
+/// The words behind the written fields: two by rule, three that are the Rust's, and five of an inner packet.
+const BEHIND: [&str; 10] = [
+    "the letters",
+    "the zeros",
+    "the time",
+    "the addressee",
+    "the identifier",
+    "the number of inner packets",
+    "the inner source",
+    "the inner destination",
+    "the inner hops",
+    "the inner zeros",
+];
 
 #[derive(Clone, Debug, PartialEq, Eq)]
 pub enum Verdict {
@@ -17,6 +29,8 @@ pub enum Verdict {
     OnShim,
     Outside(Mark),
     Listed(Mark),
+    /// A body that starts `}`, accepted or refused as it should be, or a record with a number refused with 14.
+    Inner,
     Different(&'static str),
 }
 
@@ -95,8 +109,8 @@ fn input_of(request: &[u8]) -> Option<(Vec<u8>, Form)> {
     }
 }
 
-/// The words `letters=XY` and `zeros=BITS` that stand behind the Rust's fields.
-fn words_by_rule(request: &[u8], kind: &[u8]) -> Option<[Vec<u8>; 2]> {
+/// The words behind the written fields that the Rust does not have.
+fn words_by_rule(request: &[u8], kind: &[u8]) -> Option<Words> {
     let (input, form) = input_of(request)?;
     rules::record_words(kind, &input, form)
 }
@@ -107,7 +121,8 @@ fn fault_behind(request: &[u8], kind: &[u8], rust: &[&[u8]], ours: &[&[u8]]) -> 
         Some(words) => words,
         None => return Some("a request without what document 02 asks for"),
     };
-    let wanted: Vec<&[u8]> = by_rule.iter().map(Vec::as_slice).chain(rust.iter().copied()).collect();
+    let [before_time, last] = [&by_rule.before_time[..], &by_rule.last].map(|words| words.iter().map(Vec::as_slice));
+    let wanted: Vec<&[u8]> = before_time.chain(rust.iter().copied()).chain(last).collect();
     let unequal = (0..BEHIND.len()).find(|place| wanted.get(*place) != ours.get(*place));
     match unequal {
         Some(place) => Some(BEHIND[place]),
@@ -152,6 +167,24 @@ fn judge_record(request: &[u8], oracle: &[&[u8]], ours: &[u8], accepted: &'stati
     }
 }
 
+/// Judges the port's answer to an input with a packet inside it: the oracle's number, or the oracle's record word by word.
+fn judge_inner(request: &[u8], oracle: &[&[u8]], ours: &[u8]) -> Verdict {
+    let ours = words(ours);
+    let time = match (oracle, oracle.iter().position(|word| word.starts_with(b"time="))) {
+        ([b"panic", ..], _) => return Different("no answer of the Rust"),
+        ([_], _) if ours == oracle => return Inner,
+        ([_], _) => return Different("the number of a packet inside a packet"),
+        (_, Some(time)) if ours.len() >= time => time,
+        _ => return Different("a packet inside a packet that document 02 accepts"),
+    };
+    let ((fields, behind), (our_fields, our_behind)) = (oracle.split_at(time), ours.split_at(time));
+    match fault_behind(request, fields[1], behind, our_behind) {
+        Some(fault) => Different(fault),
+        None if fields == our_fields => Inner,
+        None => Different("a field of a packet inside a packet"),
+    }
+}
+
 /// What is wrong with a number beside a refusal of the Rust: a time that is missing or bad decides it, or a malformed message or status,
 /// and nothing else is 17 or 18.
 fn fault_of_number(request: &[u8], rust: &[u8], ours: u32) -> Option<&'static str> {
@@ -190,6 +223,7 @@ fn judge_reading(request: &[u8], oracle: &[u8], ours: &[u8]) -> Judgement {
     };
     match words(oracle).as_slice() {
         record @ [b"0", _, ..] => judge_record(request, record, ours, "accepted by the Rust"),
+        [b"inner", inner @ ..] => judge_inner(request, inner, ours).into(),
         [b"outside", mark, _, record @ ..] if !record.is_empty() => match Mark::named(mark) {
             Some(mark) => counted_as(mark_or_outside(mark), judge_record(request, record, ours, "accepted by document 02")),
             None => Different("an unknown mark").into(),
@@ -225,8 +259,9 @@ fn judge_writing(request: &[u8], oracle: &[u8], ours: &[u8]) -> Verdict {
     let room = words(request).get(2).and_then(|room| from_decimal(room)).unwrap_or(0) as usize;
     match words(oracle).as_slice() {
         [b"outside", mark] => match Mark::named(mark) {
-            Some(mark) if ours == untouched(mark.number_written(), room) => mark_or_outside(mark),
-            Some(_) => Different("the documents name the number"),
+            Some(mark) if ours != untouched(mark.number_written(), room) => Different("the documents name the number"),
+            Some(Mark::ThirdParty) => Inner,
+            Some(mark) => mark_or_outside(mark),
             None => Different("an unknown mark"),
         },
         [b"0", ..] if oracle == ours => Accepted,

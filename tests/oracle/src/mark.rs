@@ -17,6 +17,7 @@ pub enum Mark {
     SsidZero,
     Parts,
     Letters,
+    ThirdParty,
     Symbol,
     MicE180,
     TimeDay,
@@ -41,7 +42,7 @@ pub enum Mark {
     StatusLocal,
 }
 
-const NAMES: [(Mark, &str); 34] = [
+const NAMES: [(Mark, &str); 35] = [
     (Mark::TooLong, "too-long"),
     (Mark::CallsignLength, "callsign-length"),
     (Mark::Hops, "hops"),
@@ -54,6 +55,7 @@ const NAMES: [(Mark, &str); 34] = [
     (Mark::SsidZero, "ssid-zero"),
     (Mark::Parts, "parts"),
     (Mark::Letters, "letters"),
+    (Mark::ThirdParty, "third-party"),
     (Mark::Symbol, "symbol"),
     (Mark::MicE180, "mic-e-180"),
     (Mark::TimeDay, "time-day"),
@@ -108,11 +110,12 @@ impl Mark {
         self.number_read().map_or(true, is_of_body)
     }
 
-    /// The number that document 01, and for letters, times, messages and statuses document 02, gives to a record so marked when it is to be
-    /// written or bounded.
+    /// The number that document 01, and for letters, times, messages, statuses and inner packets document 02, gives to a record so marked
+    /// when it is to be written or bounded.
     pub fn number_written(self) -> u32 {
         match self {
             Mark::TooLong => 1,
+            Mark::ThirdParty => 14,
             mark if mark.is_malformed() => MALFORMED,
             _ => 15,
         }

@@ -52,7 +52,7 @@ fn identifier(random: &mut Random) -> Vec<u8> {
 }
 
 /// One in sixteen cut short, and one in sixteen with another byte for the second colon.
-fn message(random: &mut Random) -> Vec<u8> {
+pub fn message(random: &mut Random) -> Vec<u8> {
     let length = length(random, 67);
     let mut body = [b":", &addressee(random)[..], b":", &bytes(random, length), &identifier(random)].concat();
     match random.below(16) {
@@ -83,7 +83,7 @@ fn status_parts(random: &mut Random) -> (Vec<u8>, Vec<u8>) {
     (start, bytes(random, length))
 }
 
-fn status(random: &mut Random) -> Vec<u8> {
+pub fn status(random: &mut Random) -> Vec<u8> {
     let (start, text) = status_parts(random);
     let mut body = [b">", &start[..], &text].concat();
     if random.one_in(16) {
@@ -93,13 +93,13 @@ fn status(random: &mut Random) -> Vec<u8> {
 }
 
 /// One line in four has SSIDs `0` or nearly so; one in eight is damaged.
-fn line_of(random: &mut Random, made: &Packet) -> Request {
+pub fn line_of(random: &mut Random, made: &Packet) -> Request {
     let good = if random.one_in(4) { line_with_zeros(random, made) } else { made.line() };
     Request::Text(if random.one_in(8) { damaged(random, good) } else { good })
 }
 
 /// One frame in eight is damaged.
-fn frame_of(random: &mut Random, made: &Packet) -> Request {
+pub fn frame_of(random: &mut Random, made: &Packet) -> Request {
     let good = made.frame();
     Request::Frame(if random.one_in(8) { damaged(random, good) } else { good })
 }

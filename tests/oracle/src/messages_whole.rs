@@ -30,7 +30,7 @@ fn packet_of(parts: &[&[u8]]) -> Packet {
 }
 
 /// Every string of these bytes and this length.
-fn strings(alphabet: &'static [u8], length: usize) -> impl Iterator<Item = Vec<u8>> {
+pub fn strings(alphabet: &'static [u8], length: usize) -> impl Iterator<Item = Vec<u8>> {
     let size = alphabet.len();
     (0..size.pow(length as u32)).map(move |number| (0..length).map(|place| alphabet[number / size.pow(place as u32) % size]).collect())
 }

@@ -77,10 +77,10 @@ pub fn written_statuses(give: Give) {
     }
 }
 
-type Change = fn(&mut Record);
+pub type Change = fn(&mut Record);
 
 /// What is refused with 15, with 18, with 13 or with 16, in either kind.
-const CHANGES: [Change; 17] = [
+pub const CHANGES: [Change; 17] = [
     |record| record.flag = 1,
     |record| record.latitude = 1,
     |record| record.longitude = -1,
@@ -100,7 +100,7 @@ const CHANGES: [Change; 17] = [
     |record| record.zeros = Some(vec![true; 4]),
 ];
 
-const MESSAGE_CHANGES: [Change; 9] = [
+pub const MESSAGE_CHANGES: [Change; 9] = [
     |record| record.time = Some(TIME.to_string()),
     |record| record.comment = vec![b't'; 67],
     |record| record.comment = vec![b't'; 68],
@@ -112,7 +112,7 @@ const MESSAGE_CHANGES: [Change; 9] = [
     |record| record.addressee = Some(b":".to_vec()),
 ];
 
-const STATUS_CHANGES: [Change; 9] = [
+pub const STATUS_CHANGES: [Change; 9] = [
     |record| record.time = Some(TIME.to_string()),
     |record| record.time = Some("000000z".to_string()),
     |record| record.time = Some("092345/".to_string()),

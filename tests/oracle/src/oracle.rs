@@ -5,6 +5,8 @@
 
 mod bounds;
 mod fields;
+mod headers;
+mod inside;
 mod pieces;
 mod reading;
 mod record;

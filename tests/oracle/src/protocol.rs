@@ -4,6 +4,7 @@
 mod mark;
 pub mod messages;
 pub mod rules;
+pub mod third_party;
 
 use std::io::{self, BufRead};
 
@@ -15,10 +16,11 @@ pub const LONGEST_CALLSIGN: usize = 16;
 pub const MOST_HOPS: usize = 8;
 pub const LATITUDE_LIMIT: i64 = 540_000;
 pub const LONGITUDE_LIMIT: i64 = 1_080_000;
+/// The bytes of an address in a frame.
+pub const ADDRESS: usize = 7;
 /// Document 02's numbers for a bad time in a body, and for a malformed message or status.
 pub const BAD_TIME: u32 = 17;
 pub const MALFORMED: u32 = 18;
-const ADDRESS: usize = 7;
 
 /// True of a number that a reader gives for a body, once the header was read.
 pub fn is_of_body(number: u32) -> bool {

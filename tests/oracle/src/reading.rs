@@ -2,13 +2,11 @@
 
 use aprs_parser::{AprsCst, AprsData, AprsPacket, AprsPosition, AprsStatus, DecodeError};
 use watch::Seen;
-use crate::pieces;
-use crate::record::push_record;
-use crate::{caught, Style};
+use crate::record::{push_record, Told};
+use crate::{caught, headers, inside, pieces, Style};
 use protocol::rules::TIME_LENGTH;
 use protocol::{
-    body_of, callsigns_of, from_hex, is_of_body, messages, number_of_addresses, rules, Form, Mark, BAD_TIME, LONGEST, LONGEST_CALLSIGN,
-    MALFORMED, MOST_HOPS,
+    body_of, from_hex, is_of_body, messages, number_of_addresses, rules, third_party, Form, Mark, BAD_TIME, LONGEST, MALFORMED, MOST_HOPS,
 };
 
 type Decoded = Result<AprsPacket, DecodeError>;
@@ -29,30 +27,6 @@ fn number_of(error: &DecodeError) -> u32 {
     }
 }
 
-fn is_overlong(callsign: &[u8]) -> bool {
-    callsign.strip_suffix(b"*").unwrap_or(callsign).len() > LONGEST_CALLSIGN
-}
-
-/// The first limit of the port, from the left, that a line's header breaks.
-fn mark_of_text_header(line: &[u8]) -> Option<Mark> {
-    let callsigns = callsigns_of(line)?;
-    let (ends, hops) = callsigns.split_at(2);
-    if ends.iter().any(|callsign| is_overlong(callsign)) {
-        return Some(Mark::CallsignLength);
-    }
-    hops.iter().enumerate().find_map(|(place, hop)| {
-        if place >= MOST_HOPS {
-            Some(Mark::Hops)
-        } else if hop.len() == 3 && hop.starts_with(b"qA") {
-            Some(Mark::QElement)
-        } else if is_overlong(hop) {
-            Some(Mark::CallsignLength)
-        } else {
-            None
-        }
-    })
-}
-
 /// A ninth hop of a frame whose header the crate has read.
 fn mark_of_frame_header(frame: &[u8], decoded: &Decoded) -> Option<Mark> {
     let is_read = decoded.as_ref().map_or_else(|error| is_of_body(number_of(error)), |_| true);
@@ -65,7 +39,7 @@ fn mark_of_frame_header(frame: &[u8], decoded: &Decoded) -> Option<Mark> {
 
 fn mark_of_header(input: &[u8], form: Form, decoded: &Decoded) -> Option<Mark> {
     match form {
-        Form::Text => mark_of_text_header(input),
+        Form::Text => headers::mark_of_line(input),
         Form::Frame => mark_of_frame_header(input, decoded),
     }
 }
@@ -196,38 +170,105 @@ fn accepted(mark: Option<Mark>, input: &[u8], form: Form, decoded: Decoded) -> O
     }
 }
 
+/// An input as the crate has read it: the crate's number, what takes it out of the domain, whether it rests on the stand-in, and the
+/// packet that the documents read.
+struct Reading {
+    rust: u32,
+    mark: Option<Mark>,
+    rests_on_shim: bool,
+    packet: Option<AprsPacket>,
+}
+
+fn reading(input: &[u8], form: Form) -> Result<Reading, String> {
+    watch::reset();
+    let decoded = decode(input, form)?;
+    let mark = mark_of(input, form, &decoded);
+    Ok(Reading {
+        rust: decoded.as_ref().map_or_else(number_of, |_| 0),
+        mark,
+        rests_on_shim: asked_of_shim(&decoded) == Seen::Blank,
+        packet: accepted(mark, input, form, decoded),
+    })
+}
+
+impl Reading {
+    /// The documents' number for an input that they refuse.
+    fn number(&self, input: &[u8], form: Form) -> u32 {
+        let by_rule = || rules::decided_by_body(input, form, self.rust).unwrap_or(self.rust);
+        self.mark.and_then(Mark::number_read).unwrap_or_else(by_rule)
+    }
+
+    /// The crate's number, with its mark.
+    fn marked(&self) -> String {
+        match self.mark {
+            Some(mark) => format!("outside {} {}", mark.name(), self.rust),
+            None if self.rests_on_shim => format!("shim {}", self.rust),
+            None => self.rust.to_string(),
+        }
+    }
+}
+
+/// Why there is no packet: the documents' number, the message of a panic, or the crate's reading a body that starts `}` as something.
+pub enum Fault {
+    Number(u32),
+    Panic(String),
+    NotUnknown,
+}
+
+/// The packet that the documents read in an input.
+pub fn packet(input: &[u8], form: Form) -> Result<AprsPacket, Fault> {
+    let reading = reading(input, form).map_err(Fault::Panic)?;
+    let number = reading.number(input, form);
+    reading.packet.ok_or(Fault::Number(number))
+}
+
+fn push_panic(out: &mut Vec<u8>, message: &str) {
+    out.extend_from_slice(format!("panic {}", message).as_bytes());
+}
+
+/// An input whose body starts `}`: what document 02 reads in it, the crate reading every header and the innermost packet.
+fn answer_inside(input: &[u8], form: Form, style: Style, out: &mut Vec<u8>) -> Option<()> {
+    if style == Style::Marked {
+        out.extend_from_slice(b"inner ");
+    }
+    let fault = match inside::read(input, form) {
+        Ok(read) => return push_record(out, &read.told(input, form), style),
+        Err(fault) => fault,
+    };
+    match fault {
+        Fault::Number(number) => out.extend_from_slice(number.to_string().as_bytes()),
+        Fault::NotUnknown => out.extend_from_slice(b"not-unknown"),
+        Fault::Panic(message) => push_panic(out, &message),
+    }
+    Some(())
+}
+
 pub fn answer(input: &[u8], form: Form, style: Style, out: &mut Vec<u8>) -> Option<()> {
     let input = from_hex(input)?;
-    watch::reset();
-    let decoded = match decode(&input, form) {
-        Ok(decoded) => decoded,
+    if input.len() <= LONGEST && third_party::inner_text(&input, form).is_some() {
+        return answer_inside(&input, form, style, out);
+    }
+    let reading = match reading(&input, form) {
+        Ok(reading) => reading,
         Err(message) => {
-            out.extend_from_slice(format!("panic {}", message).as_bytes());
+            push_panic(out, &message);
             return Some(());
         }
     };
-    let rests_on_shim = asked_of_shim(&decoded) == Seen::Blank;
-    let number = decoded.as_ref().map_or_else(number_of, |_| 0);
-    let mark = mark_of(&input, form, &decoded);
-    let told = match (style, mark) {
-        (Style::Marked, Some(mark)) => format!("outside {} {}", mark.name(), number),
-        (Style::Marked, None) if rests_on_shim => format!("shim {}", number),
-        (Style::Marked, None) => number.to_string(),
-        (Style::Plain, mark) => {
-            let by_rule = rules::decided_by_body(&input, form, number).unwrap_or(number);
-            mark.and_then(Mark::number_read).unwrap_or(by_rule).to_string()
-        }
-    };
-    let packet = match accepted(mark, &input, form, decoded) {
+    let packet = match &reading.packet {
         Some(packet) => packet,
         None => {
+            let told = match style {
+                Style::Marked => reading.marked(),
+                Style::Plain => reading.number(&input, form).to_string(),
+            };
             out.extend_from_slice(told.as_bytes());
             return Some(());
         }
     };
-    if style == Style::Marked && (mark.is_some() || rests_on_shim) {
-        out.extend_from_slice(told.as_bytes());
+    if style == Style::Marked && (reading.mark.is_some() || reading.rests_on_shim) {
+        out.extend_from_slice(reading.marked().as_bytes());
         out.push(b' ');
     }
-    push_record(out, &packet, &input, form, style)
+    push_record(out, &Told::alone(packet, &input, form), style)
 }

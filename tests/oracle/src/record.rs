@@ -6,6 +6,32 @@ use crate::{caught, Style};
 use protocol::messages::{self, Places};
 use protocol::{push_hex, rules, Form, Mark, LONGEST, LONGITUDE_LIMIT};
 
+/// A packet, and the input that it was read from; if it stands inside another, what is around it.
+pub struct Told<'a> {
+    pub packet: &'a AprsPacket,
+    pub input: &'a [u8],
+    pub form: Form,
+    pub around: Option<Around<'a>>,
+}
+
+/// The outermost packet, how many stand inside it, and the whole input.
+pub struct Around<'a> {
+    pub outermost: &'a AprsPacket,
+    pub number: usize,
+    pub input: &'a [u8],
+    pub form: Form,
+}
+
+impl<'a> Told<'a> {
+    pub fn alone(packet: &'a AprsPacket, input: &'a [u8], form: Form) -> Told<'a> {
+        Told { packet, input, form, around: None }
+    }
+
+    fn whole(&self) -> (&'a [u8], Form) {
+        self.around.as_ref().map_or((self.input, self.form), |around| (around.input, around.form))
+    }
+}
+
 /// What the crate made of a packet to be written.
 pub enum Written {
     Bytes(Vec<u8>),
@@ -40,28 +66,27 @@ fn comment_place(comment: &[u8], input: &[u8]) -> (usize, usize) {
     (input.len() - comment.len(), comment.len())
 }
 
-fn place_word(place: Option<(usize, usize)>) -> String {
-    let (at, length) = place.unwrap_or((0, 0));
-    format!("{}+{}", at, length)
+/// A place with so many bytes before the input that it was found in; 0 and 0 for none.
+fn place_word(place: Option<(usize, usize)>, before: usize) -> String {
+    place.map_or("0+0".to_string(), |(at, length)| format!("{}+{}", before + at, length))
 }
 
-/// Document 02's place for bytes that the Rust has read; the word is another where it has read other bytes than stand there.
-fn place_of_same(read: Option<&[u8]>, place: Option<(usize, usize)>, input: &[u8], style: Style) -> String {
-    let there = place.map(|(at, length)| &input[at..at + length]);
-    if there == read || style == Style::Plain {
-        place_word(place)
-    } else {
-        "elsewhere".to_string()
-    }
-}
-
-/// The places of a comment or text, and of an identifier.
-fn places(fields: &Fields, input: &[u8], form: Form, style: Style) -> [String; 2] {
-    match messages::places(input, form) {
-        Some(Places { text, id }) => {
-            [(fields.comment, Some(text)), (fields.id, id)].map(|(read, place)| place_of_same(read, place, input, style))
+/// The places of a comment or text, and of an identifier, in the whole input. Those of a message or a status are document 02's; the word is
+/// another where the Rust has read other bytes than stand there.
+fn places(fields: &Fields, told: &Told, style: Style) -> [String; 2] {
+    let input = told.input;
+    let before = told.whole().0.len() - input.len();
+    let place_of_same = |read: Option<&[u8]>, place: Option<(usize, usize)>| {
+        let there = place.map(|(at, length)| &input[at..at + length]);
+        if there == read || style == Style::Plain {
+            place_word(place, before)
+        } else {
+            "elsewhere".to_string()
         }
-        None => [place_word(fields.comment.map(|comment| comment_place(comment, input))), place_word(None)],
+    };
+    match messages::places(input, told.form) {
+        Some(Places { text, id }) => [place_of_same(fields.comment, Some(text)), place_of_same(fields.id, id)],
+        None => [place_word(fields.comment.map(|comment| comment_place(comment, input)), before), place_word(None, before)],
     }
 }
 
@@ -128,23 +153,47 @@ fn push_written(out: &mut Vec<u8>, packet: &AprsPacket, form: Form, style: Style
     }
 }
 
-/// The record line of an accepted input, as far as the Rust has its fields.
-pub fn push_record(out: &mut Vec<u8>, packet: &AprsPacket, input: &[u8], form: Form, style: Style) -> Option<()> {
-    let fields = fields(&packet.data);
-    let [comment_place, id_place] = places(&fields, input, form, style);
-    out.extend_from_slice(b"0 ");
-    out.extend_from_slice(fields.kind.as_bytes());
-    out.extend_from_slice(b" from=");
+/// "Writing them remains refused with 14"; 15 comes first.
+fn push_not_written(out: &mut Vec<u8>, packet: &AprsPacket) {
+    let mark = mark_of_record(&packet.data).unwrap_or(Mark::ThirdParty);
+    out.extend_from_slice(format!("{}:-", mark.number_written()).as_bytes());
+}
+
+fn push_words(out: &mut Vec<u8>, words: &[Vec<u8>]) {
+    for word in words {
+        out.push(b' ');
+        out.extend_from_slice(word);
+    }
+}
+
+/// Source, destination and hops of a header; `prefix` stands before the name of each word.
+fn push_header(out: &mut Vec<u8>, prefix: &str, packet: &AprsPacket) {
+    out.extend_from_slice(format!(" {}from=", prefix).as_bytes());
     push_callsign(out, &packet.from);
-    out.extend_from_slice(b" to=");
-    match fields.to {
+    out.extend_from_slice(format!(" {}to=", prefix).as_bytes());
+    match packet.to() {
         Some(to) => push_callsign(out, to),
         None => out.push(b'-'),
     }
-    out.extend_from_slice(b" hops=");
+    out.extend_from_slice(format!(" {}hops=", prefix).as_bytes());
     push_hops(out, &packet.via);
+}
+
+/// The record line of an accepted input, as far as the Rust has its fields.
+pub fn push_record(out: &mut Vec<u8>, told: &Told, style: Style) -> Option<()> {
+    let packet = told.packet;
+    let fields = fields(&packet.data);
+    let [comment_place, id_place] = places(&fields, told, style);
+    let (whole, form) = told.whole();
+    let by_rule = match style {
+        Style::Marked => None,
+        Style::Plain => Some(rules::record_words(fields.kind.as_bytes(), whole, form)?),
+    };
+    out.extend_from_slice(b"0 ");
+    out.extend_from_slice(fields.kind.as_bytes());
+    push_header(out, "", told.around.as_ref().map_or(packet, |around| around.outermost));
     let numbers = format!(
-        " lat={} lon={} blanks={} table={} code={} flag={} message={} speed={} course={} comment={} text=",
+        " lat={} lon={} blanks={} table={} code={} flag={} message={} speed={} course={} comment={}",
         fields.latitude,
         fields.longitude,
         fields.blanks,
@@ -157,14 +206,15 @@ pub fn push_record(out: &mut Vec<u8>, packet: &AprsPacket, input: &[u8], form: F
         comment_place
     );
     out.extend_from_slice(numbers.as_bytes());
-    push_written(out, packet, Form::Text, style);
-    out.extend_from_slice(b" frame=");
-    push_written(out, packet, Form::Frame, style);
-    if style == Style::Plain {
-        for word in rules::record_words(fields.kind.as_bytes(), input, form)? {
-            out.push(b' ');
-            out.extend_from_slice(&word);
+    for (name, form) in [(" text=", Form::Text), (" frame=", Form::Frame)] {
+        out.extend_from_slice(name.as_bytes());
+        match told.around {
+            Some(_) => push_not_written(out, packet),
+            None => push_written(out, packet, form, style),
         }
+    }
+    if let Some(words) = &by_rule {
+        push_words(out, &words.before_time);
     }
     out.extend_from_slice(b" time=");
     push_time(out, fields.time);
@@ -172,5 +222,12 @@ pub fn push_record(out: &mut Vec<u8>, packet: &AprsPacket, input: &[u8], form: F
     push_hex(out, fields.addressee);
     out.extend_from_slice(b" id=");
     out.extend_from_slice(id_place.as_bytes());
+    if let Some(around) = &told.around {
+        out.extend_from_slice(format!(" inner={}", around.number).as_bytes());
+        push_header(out, "inner-", packet);
+    }
+    if let Some(words) = &by_rule {
+        push_words(out, &words.last);
+    }
     Some(())
 }

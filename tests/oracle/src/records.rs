@@ -38,6 +38,12 @@ pub struct Record {
     /// Without its padding.
     pub addressee: Option<Vec<u8>>,
     pub id: Option<Vec<u8>>,
+    /// The number of inner packets, and the innermost header.
+    pub inner: Option<usize>,
+    pub inner_from: Option<Name>,
+    pub inner_to: Option<Name>,
+    pub inner_hops: Option<Vec<(Name, bool)>>,
+    pub inner_zeros: Option<Vec<bool>>,
 }
 
 pub fn name(call: &[u8], ssid: &[u8]) -> Name {
@@ -68,6 +74,11 @@ impl Record {
             time: None,
             addressee: None,
             id: None,
+            inner: None,
+            inner_from: None,
+            inner_to: None,
+            inner_hops: None,
+            inner_zeros: None,
         };
         let placed = Record {
             flag: 1,
@@ -102,7 +113,7 @@ impl Record {
 
     pub fn request(&self) -> String {
         format!(
-            "W {} {} {} {} {} {} {} {} {} {} {} {} {} {} {} {}{}{}{}{}{}",
+            "W {} {} {} {} {} {} {} {} {} {} {} {} {} {} {} {}{}{}{}{}{}{}{}{}{}{}",
             match self.form {
                 Form::Text => "text",
                 Form::Frame => "frame",
@@ -123,12 +134,22 @@ impl Record {
             self.speed,
             self.course,
             letters_word(self.letters),
-            zeros_word(self.zeros.as_deref()),
-            time_word(self.time.as_deref()),
-            hex_word(" addressee=", self.addressee.as_deref()),
-            hex_word(" id=", self.id.as_deref())
+            word(" zeros=", self.zeros.as_deref().map(zeros_word)),
+            word(" time=", self.time.clone()),
+            word(" addressee=", self.addressee.as_deref().map(hex)),
+            word(" id=", self.id.as_deref().map(hex)),
+            word(" inner=", self.inner.map(|number| number.to_string())),
+            word(" inner-from=", self.inner_from.as_ref().map(name_word)),
+            word(" inner-to=", self.inner_to.as_ref().map(name_word)),
+            word(" inner-hops=", self.inner_hops.as_deref().map(hops_word)),
+            word(" inner-zeros=", self.inner_zeros.as_deref().map(zeros_word))
         )
     }
+}
+
+/// A word and its value, or nothing where it is left out.
+fn word(name: &str, value: Option<String>) -> String {
+    value.map_or(String::new(), |value| name.to_string() + &value)
 }
 
 fn hex(bytes: &[u8]) -> String {
@@ -143,19 +164,8 @@ fn letters_word(letters: Option<[u8; 2]>) -> String {
     })
 }
 
-fn zeros_word(zeros: Option<&[bool]>) -> String {
-    zeros.map_or(String::new(), |zeros| {
-        let digits: String = zeros.iter().map(|zero| if *zero { '1' } else { '0' }).collect();
-        format!(" zeros={}", digits)
-    })
-}
-
-fn time_word(time: Option<&str>) -> String {
-    time.map_or(String::new(), |time| format!(" time={}", time))
-}
-
-fn hex_word(name: &str, bytes: Option<&[u8]>) -> String {
-    bytes.map_or(String::new(), |bytes| name.to_string() + &hex(bytes))
+fn zeros_word(zeros: &[bool]) -> String {
+    zeros.iter().map(|zero| if *zero { '1' } else { '0' }).collect()
 }
 
 fn name_word((call, ssid): &Name) -> String {

@@ -44,16 +44,27 @@ impl Kind {
     }
 }
 
-/// `comment` is a message's or a status's text; `addressee` is without its padding.
+pub struct Header {
+    pub from: Name,
+    pub to: Name,
+    pub hops: Vec<Hop>,
+}
+
+impl Header {
+    /// Source, destination, hops.
+    pub fn names(&self) -> impl Iterator<Item = &Name> {
+        [&self.from, &self.to].into_iter().chain(self.hops.iter().map(|hop| &hop.name))
+    }
+}
+
+/// `comment` is a message's or a status's text; `addressee` is without its padding; `inner` is the number of inner packets.
 pub struct Request {
     pub form: Form,
     pub room: usize,
     pub comment: Vec<u8>,
     pub kind: Kind,
     pub flag: bool,
-    pub from: Name,
-    pub to: Name,
-    pub hops: Vec<Hop>,
+    pub outermost: Header,
     pub latitude: i64,
     pub longitude: i64,
     pub blanks: u8,
@@ -66,6 +77,8 @@ pub struct Request {
     pub time: Option<Vec<u8>>,
     pub addressee: Vec<u8>,
     pub id: Option<Vec<u8>>,
+    pub inner: u8,
+    pub innermost: Header,
 }
 
 fn number<T: TryFrom<i64>>(word: &[u8]) -> Option<T> {
@@ -100,6 +113,10 @@ fn hops(word: &[u8]) -> Option<Vec<Hop>> {
     hops.filter(|hops| hops.len() <= MOST_HOPS)
 }
 
+fn header(from: &[u8], to: &[u8], path: &[u8]) -> Option<Header> {
+    Some(Header { from: name(from)?, to: name(to)?, hops: hops(path)? })
+}
+
 fn message(word: &[u8]) -> Option<Option<Message>> {
     if word == b"-" {
         return Some(None);
@@ -126,9 +143,10 @@ fn letters(value: Option<&[u8]>, kind: Kind, latitude: i64, longitude: i64) -> O
     }
 }
 
-/// True of a 0 or 1 for each callsign. No more is asked of them: "Writers ignore it" (document 02, R-2).
-fn are_zeros(value: &[u8], hops: usize) -> bool {
-    value.len() == 2 + hops && value.iter().all(|digit| matches!(digit, b'0' | b'1'))
+/// True of a 0 or 1 for each callsign, or where they are left out. No more is asked of them: "Writers ignore it" (document 02, R-2).
+fn are_zeros(value: Option<&[u8]>, header: &Header) -> bool {
+    let is_digit = |digit: &u8| matches!(digit, b'0' | b'1');
+    value.map_or(true, |value| value.len() == header.names().count() && value.iter().all(is_digit))
 }
 
 /// Six digits of any value and `z`, `/` or `h`; left out, or a dash, there is no time.
@@ -162,6 +180,8 @@ pub fn parse(words: &[&[u8]]) -> Option<Request> {
     let (latitude, longitude) = (from_decimal(latitude)?, from_decimal(longitude)?);
     let [sides, zeros, seven, nine, identifier] =
         [&b"letters="[..], b"zeros=", b"time=", b"addressee=", b"id="].map(|name| next_value(&mut later, name));
+    let [inner, inner_from, inner_to, inner_path, inner_zeros] =
+        [&b"inner="[..], b"inner-from=", b"inner-to=", b"inner-hops=", b"inner-zeros="].map(|name| next_value(&mut later, name));
     let request = Request {
         form: match form {
             b"text" => Form::Text,
@@ -172,9 +192,7 @@ pub fn parse(words: &[&[u8]]) -> Option<Request> {
         comment: from_hex(comment)?,
         kind,
         flag: number::<u8>(flag).filter(|flag| *flag <= 1)? == 1,
-        from: name(from)?,
-        to: name(to)?,
-        hops: hops(path)?,
+        outermost: header(from, to, path)?,
         latitude,
         longitude,
         blanks: number(blanks)?,
@@ -187,9 +205,12 @@ pub fn parse(words: &[&[u8]]) -> Option<Request> {
         time: time(seven)?,
         addressee: addressee(nine)?,
         id: id(identifier, kind)?,
+        inner: number(inner.unwrap_or(b"0"))?,
+        innermost: header(inner_from.unwrap_or(b"-/-"), inner_to.unwrap_or(b"-/-"), inner_path.unwrap_or(b"-"))?,
     };
     let is_well_formed = later.is_empty()
-        && zeros.map_or(true, |zeros| are_zeros(zeros, request.hops.len()))
+        && are_zeros(zeros, &request.outermost)
+        && are_zeros(inner_zeros, &request.innermost)
         && (request.kind != Kind::MicE || request.message.is_some());
     if is_well_formed {
         Some(request)

@@ -1,8 +1,10 @@
 // What document 02 asks that the Rust does not have, computed from a request alone: the letters of both angles and the page box,
-// which callsigns had SSID `0`, and which seven bytes are a time. Messages and status lines have a file of their own.
+// which callsigns had SSID `0`, and which seven bytes are a time. Messages and status lines and packets inside packets
+// have files of their own.
 
 use std::ops::RangeInclusive;
 
+use crate::third_party::{self, Inside};
 use crate::{
     body_of, callsigns_of, is_of_body, messages, number_of_addresses, Form, Mark, BAD_TIME, LATITUDE_LIMIT, LONGITUDE_LIMIT,
 };
@@ -181,11 +183,30 @@ fn zeros(kind: &[u8], input: &[u8], form: Form) -> Option<Vec<u8>> {
     Some(digits)
 }
 
-/// The words that stand behind the Rust's fields, before its time, in the answer to an accepted packet.
-pub fn record_words(kind: &[u8], input: &[u8], form: Form) -> Option<[Vec<u8>; 2]> {
-    let letters = letters(kind, input, form)?;
-    let zeros = zeros(kind, input, form)?;
-    Some([[&b"letters="[..], &letters].concat(), [&b"zeros="[..], &zeros].concat()])
+/// The words of an answer to an accepted packet that the Rust does not have: those before its time, and those at the end.
+pub struct Words {
+    pub before_time: [Vec<u8>; 2],
+    pub last: Vec<Vec<u8>>,
+}
+
+/// Of a packet inside another the letters are the innermost body's; the zeros are the outermost header's, whose destination stays,
+/// and the innermost header's. At number 0 that header is blank.
+pub fn record_words(kind: &[u8], input: &[u8], form: Form) -> Option<Words> {
+    let word = |name: &[u8], value: &[u8]| [name, value].concat();
+    let (letters, zeros, last) = match third_party::inside(input, form) {
+        None => {
+            let blank = ["inner=0", "inner-from=-", "inner-to=-", "inner-hops=-", "inner-zeros=00"].map(|word| word.as_bytes().to_vec());
+            (letters(kind, input, form)?, zeros(kind, input, form)?, blank.to_vec())
+        }
+        Some(Inside { text, .. }) => {
+            let inner_zeros = zeros(kind, text, Form::Text)?;
+            (letters(kind, text, Form::Text)?, zeros(b"", input, form)?, vec![word(b"inner-zeros=", &inner_zeros)])
+        }
+    };
+    Some(Words {
+        before_time: [word(b"letters=", &letters), word(b"zeros=", &zeros)],
+        last,
+    })
 }
 
 /// The side that the words behind a limit name: one of its two letters, or, left out, the angle's own.

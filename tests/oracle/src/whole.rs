@@ -3,7 +3,7 @@
 use std::ops::Range;
 
 use crate::packets::*;
-use crate::records::{name, Record, LATITUDE_SIDES, LONGITUDE_SIDES};
+use crate::records::{name, Name, Record, LATITUDE_SIDES, LONGITUDE_SIDES};
 use crate::Request;
 use protocol::{Form, LATITUDE_LIMIT, LONGEST, LONGITUDE_LIMIT, MOST_HOPS};
 
@@ -624,8 +624,8 @@ pub fn written_zeros(give: Give) {
     RECORDS.into_iter().for_each(|kind| give_zeros(give, kind));
 }
 
-/// Odd calls and SSIDs in each place of a record, with stars in all sets of three places.
-pub fn give_callsigns(give: Give, kinds: &[&'static str]) {
+/// Odd callsigns as calls and SSIDs.
+pub fn names_of_odd_callsigns() -> Vec<Name> {
     let mut names = vec![name(b"", b"5"), name(b"A-1", b""), name(b"*", b""), name(b"A:B", b","), name(b"\xc3", b"\xa9")];
     for text in odd_callsigns().into_iter().filter(|text| text.len() <= 17) {
         let mut parts = text.splitn(2, |byte| *byte == b'-');
@@ -635,7 +635,12 @@ pub fn give_callsigns(give: Give, kinds: &[&'static str]) {
             names.push(name(call, ssid));
         }
     }
-    for odd in &names {
+    names
+}
+
+/// Odd calls and SSIDs in each place of a record, with stars in all sets of three places.
+pub fn give_callsigns(give: Give, kinds: &[&'static str]) {
+    for odd in &names_of_odd_callsigns() {
         for kind in kinds {
             give_written(give, &Record { from: odd.clone(), ..Record::good(kind) });
             if *kind != "mic-e" {

@@ -5,9 +5,10 @@ use aprs_parser::{AprsCst, AprsData, AprsMicE, AprsPacket, AprsPosition, Callsig
 use crate::fields::PRECISIONS;
 use crate::pieces::{self, latitude, longitude, timestamp};
 use crate::record::{mark_of_record, write, Written};
-use crate::request::{parse, Kind, Name, Request};
+use crate::request::{parse, Header, Kind, Name, Request};
 use crate::Style;
 use protocol::rules::Limit;
+use protocol::third_party::MOST_INNER;
 use protocol::{messages, push_hex, rules, Mark, LATITUDE_LIMIT, LONGEST, LONGEST_CALLSIGN, LONGITUDE_LIMIT};
 
 const MOST_KNOTS: u32 = 799;
@@ -26,6 +27,23 @@ fn mark_of_name(name: &Name) -> Option<Mark> {
     }
 }
 
+fn is_blank_name(name: &Name) -> bool {
+    name.call.is_empty() && name.ssid.is_empty()
+}
+
+fn is_blank(header: &Header) -> bool {
+    header.names().all(is_blank_name) && header.hops.is_empty()
+}
+
+/// The header that the body is judged beside: "the innermost header and body" (document 02, R-6).
+fn own_header(request: &Request) -> &Header {
+    if request.inner > 0 {
+        &request.innermost
+    } else {
+        &request.outermost
+    }
+}
+
 fn has_parts_its_kind_lacks(request: &Request) -> bool {
     let has_motion = request.speed != 0 || request.course != 0;
     let has_place = request.latitude != 0
@@ -40,7 +58,7 @@ fn has_parts_its_kind_lacks(request: &Request) -> bool {
     match request.kind {
         Kind::Unknown => has_place || has_motion || has_message || has_time || has_addressee,
         Kind::Position => has_motion || has_message || has_addressee,
-        Kind::MicE => has_time || has_addressee || !request.to.call.is_empty() || !request.to.ssid.is_empty(),
+        Kind::MicE => has_time || has_addressee || !is_blank_name(&own_header(request).to),
         Kind::Message => has_place || has_motion || has_message || has_time,
         Kind::Status => has_place || has_motion || has_message || has_addressee,
     }
@@ -62,20 +80,18 @@ fn mark_of_request(request: &Request) -> Option<Mark> {
         && request.longitude.abs() <= LONGITUDE_LIMIT
         && usize::from(request.blanks) < PRECISIONS.len()
         && request.speed <= MOST_KNOTS
-        && request.course <= MOST_DEGREES_OF_COURSE;
+        && request.course <= MOST_DEGREES_OF_COURSE
+        && usize::from(request.inner) <= MOST_INNER;
     if !in_range {
         return Some(Mark::Range);
     }
-    if has_parts_its_kind_lacks(request) {
+    if has_parts_its_kind_lacks(request) || request.inner == 0 && !is_blank(&request.innermost) {
         return Some(Mark::Parts);
     }
     if !letters_fit(request) {
         return Some(Mark::Letters);
     }
-    [&request.from, &request.to]
-        .into_iter()
-        .chain(request.hops.iter().map(|hop| &hop.name))
-        .find_map(mark_of_name)
+    request.outermost.names().chain(request.innermost.names()).find_map(mark_of_name)
 }
 
 /// A time that is out of range, or that a status may not have.
@@ -84,6 +100,15 @@ fn mark_of_time(request: &Request) -> Option<Mark> {
     match request.kind {
         Kind::Status => messages::mark_of_status_time(time),
         _ => rules::mark_of_time(time),
+    }
+}
+
+/// "Writing them remains refused with 14", whatever was handed over with them.
+fn mark_of_inner(request: &Request) -> Option<Mark> {
+    if request.inner > 0 {
+        Some(Mark::ThirdParty)
+    } else {
+        None
     }
 }
 
@@ -120,7 +145,7 @@ fn data(request: &Request) -> AprsData {
             current: request.flag,
         }),
         (Kind::Position, _) => AprsData::Position(AprsPosition {
-            to: callsign(&request.to),
+            to: callsign(&request.outermost.to),
             timestamp: request.time.as_deref().and_then(timestamp),
             messaging_supported: request.flag,
             latitude: latitude(request.latitude),
@@ -131,16 +156,16 @@ fn data(request: &Request) -> AprsData {
             comment: request.comment.clone(),
             cst: AprsCst::Uncompressed,
         }),
-        (Kind::Message, _) => pieces::message(callsign(&request.to), &request.addressee, &request.comment, request.id.as_deref()),
-        (Kind::Status, _) => pieces::status(callsign(&request.to), request.time.as_deref(), &request.comment),
-        _ => AprsData::Unknown(callsign(&request.to)),
+        (Kind::Message, _) => pieces::message(callsign(&request.outermost.to), &request.addressee, &request.comment, request.id.as_deref()),
+        (Kind::Status, _) => pieces::status(callsign(&request.outermost.to), request.time.as_deref(), &request.comment),
+        _ => AprsData::Unknown(callsign(&request.outermost.to)),
     }
 }
 
 fn packet(request: &Request) -> AprsPacket {
     AprsPacket {
-        from: callsign(&request.from),
-        via: request.hops.iter().map(|hop| Via::Callsign(callsign(&hop.name), hop.heard)).collect(),
+        from: callsign(&request.outermost.from),
+        via: request.outermost.hops.iter().map(|hop| Via::Callsign(callsign(&hop.name), hop.heard)).collect(),
         data: data(request),
     }
 }
@@ -166,7 +191,8 @@ pub fn answer(words: &[&[u8]], style: Style, out: &mut Vec<u8>) -> Option<()> {
         return Some(());
     }
     let packet = packet(&request);
-    let mark = mark_of_record(&packet.data).or_else(|| mark_of_time(&request)).or_else(|| mark_of_text(&request));
+    let out_of_range = mark_of_record(&packet.data).or_else(|| mark_of_time(&request));
+    let mark = out_of_range.or_else(|| mark_of_inner(&request)).or_else(|| mark_of_text(&request));
     if let Some(mark) = mark {
         push_mark(out, mark, request.room, style);
         return Some(());

@@ -53,7 +53,7 @@ const UNKNOWN: [&str; 8] = [
     "$GPRMC,063909,A,3349.4302,N,11700.3721,W,43.022,89.3,291099,13.6,E*52",
     "?APRS?",
     "{Q1qwerty",
-    "}W1AW-9>APRS,TCPIP,N0CALL*:>relayed",
+    "<IGATE,MSG_CNT=43,LOC_CNT=14,DIR=20",
 ];
 const NOT_CARRIED: [&str; 5] = [
     "=/5L!!<*e7> sTComme",

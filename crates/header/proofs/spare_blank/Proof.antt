@@ -26,8 +26,8 @@ mul-h c = omega arith
 array-copy-out-h : tie.Need-array-copy-out-h Inv-loop μ-loop
 array-copy-out-h c = omega arith
 
-is-blank-requires : tie.Need-is-blank-requires Inv-loop μ-loop
-is-blank-requires c κs = search needs
+is-blank-hop-requires : tie.Need-is-blank-hop-requires Inv-loop μ-loop
+is-blank-hop-requires c κs = search needs
 
 returns : tie.Need-returns Inv-loop μ-loop
 returns c = search (part-not, needs)
@@ -53,7 +53,7 @@ spare-blank-spec =
     loop-holds
     mul-h
     array-copy-out-h
-    is-blank-requires
+    is-blank-hop-requires
     returns
     add-i
     loop-less

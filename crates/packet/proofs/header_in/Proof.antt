@@ -10,11 +10,12 @@ read-frame-requires c κs = search needs
 returns : tie.Need-returns
 returns c = search picks
 
-read-text-requires : tie.Need-read-text-requires
-read-text-requires c κs = search needs
+read-any-length-requires : tie.Need-read-any-length-requires
+read-any-length-requires c κs = search needs
 
 returns-2 : tie.Need-returns-2
 returns-2 c = search picks
 
 pub header-in-spec : {M : Type 1} → statement M
-header-in-spec = tie.close (tie.spec read-frame-requires returns read-text-requires returns-2)
+header-in-spec =
+    tie.close (tie.spec read-frame-requires returns read-any-length-requires returns-2)

@@ -8,13 +8,10 @@ use Rattle.show.proofs.hops.Statement.{statement}
 use Rattle.show.proofs.hops.Tie as tie
 
 abbrev Inv-loop : tie.InvT-loop
-Inv-loop plain out₀ at path end₀ i₀ out end i = length out ≡ length out₀
+Inv-loop label plain out₀ at path end₀ i₀ out end i = length out ≡ length out₀
 
 abbrev μ-loop : tie.MeasureT-loop
-μ-loop plain out₀ at path end₀ i₀ out end i = 8 - i
-
-slice-aggregate-put : tie.Need-slice-aggregate-put Inv-loop μ-loop
-slice-aggregate-put c = search needs
+μ-loop label plain out₀ at path end₀ i₀ out end i = 8 - i
 
 put-requires : tie.Need-put-requires Inv-loop μ-loop
 put-requires c κs = search needs
@@ -67,7 +64,6 @@ hops-spec =
     (tie.spec
     Inv-loop
     μ-loop
-    slice-aggregate-put
     put-requires
     put-byte-requires
     same-length

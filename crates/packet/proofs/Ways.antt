@@ -1,0 +1,131 @@
+-- The ways in which reading a packet ends: refused, with a body of its own, or around a packet inside; and what therefore holds at every
+-- level.
+-- Assumes nothing.
+use mathlib.Core.Path.{_≡_, refl}
+use mathlib.Core.Bool.{Bool, true, false, cond}
+use mathlib.Core.List.{List}
+use Prim.Native.Nat.{ℕ, zero, suc, _+_}
+use native.Mathlib.Omega.{arith}
+use borrow.Author.Tests.{eq-eqb, ne-eqb, eqb-true, eqb-false}
+use lib.Dec.{eqb}
+use lib.ListN.{drop}
+use Rattle.header.specs.declared.Header.{Header}
+use Rattle.header.specs.declared.HeaderRead.{HeaderRead}
+use Rattle.header.specs.Text.{readHeaderText}
+use Rattle.body.specs.declared.BodyRead.{BodyRead}
+use Rattle.body.specs.Body.{readBody}
+use Rattle.packet.specs.declared.Record.{Record}
+use Rattle.packet.specs.declared.PacketRead.{PacketRead}
+use Rattle.packet.specs.Record.{blankRecord, packetRefused}
+use Rattle.packet.specs.Outer.{insideOf}
+use Rattle.packet.specs.Packet.{recordOf, packetOf, holdsPacket, recordAround, packetAround, unlessRefused, bodyBehind, packetAfter}
+
+-- ---- the ways
+
+abbrev pub accepted : Record → PacketRead
+accepted r = record { refusal = 0; «record» = r }
+
+-- what a header's own body is
+abbrev pub own : HeaderRead → List ℕ → BodyRead
+own h s = readBody (h .header .to) s (h .body)
+
+-- what the packet inside is, if its body holds one
+abbrev pub inside : ℕ → HeaderRead → List ℕ → PacketRead
+inside left h s = insideOf left (drop (h .body + 1) s)
+
+-- a header that was read, and behind it a body that holds no packet
+pub record Own (h : HeaderRead) (s : List ℕ) : Type 0 where
+  pub header : h .refusal ≡ 0
+  pub alone : holdsPacket s (h .body) ≡ false
+  pub read : own h s .refusal ≡ 0
+
+-- and one that does
+pub record Around (left : ℕ) (h : HeaderRead) (s : List ℕ) : Type 0 where
+  pub header : h .refusal ≡ 0
+  pub holds : holdsPacket s (h .body) ≡ true
+  pub read : inside left h s .refusal ≡ 0
+
+-- a fifth is one that is refused
+behind-is : (left : ℕ) (h : Header) (s : List ℕ) (at : ℕ)
+    → bodyBehind left h s at ≡ cond (holdsPacket s at) (packetAround h (at + 1) (insideOf left (drop (at + 1) s))) (packetOf h (readBody (h .to) s at))
+unfolding bodyBehind insideOf packetAfter packetAround packetRefused
+behind-is zero h s at = refl
+behind-is (suc k) h s at = refl
+
+-- what holds of each way's packet holds of the packet
+module _ (left : ℕ) (h : HeaderRead) (s : List ℕ) (P : PacketRead → Type 0) (no : (n : ℕ) → (n ≡ 0 → ⊥) → P (packetRefused n))
+    (yes : Own h s → P (accepted (recordOf (h .header) (own h s .body))))
+    (around : Around left h s → P (accepted (recordAround (h .header) (h .body + 1) (inside left h s .«record»)))) where
+  by-own : h .refusal ≡ 0 → holdsPacket s (h .body) ≡ false → P (packetOf (h .header) (own h s))
+  unfolding packetOf
+  by-own z e = go (eqb (own h s .refusal) 0) refl
+    where
+      go : (t : Bool) → eqb (own h s .refusal) 0 ≡ t → P (cond t (accepted (recordOf (h .header) (own h s .body))) (packetRefused (own h s .refusal)))
+      go true d = yes (record { header = z; alone = e; read = eqb-true (own h s .refusal) 0 d })
+      go false d = no (own h s .refusal) (eqb-false (own h s .refusal) 0 d)
+
+  by-around : h .refusal ≡ 0 → holdsPacket s (h .body) ≡ true → P (packetAround (h .header) (h .body + 1) (inside left h s))
+  unfolding packetAround
+  by-around z e = go (eqb (inside left h s .refusal) 0) refl
+    where
+      go : (t : Bool) → eqb (inside left h s .refusal) 0 ≡ t
+          → P (cond t (accepted (recordAround (h .header) (h .body + 1) (inside left h s .«record»))) (packetRefused (inside left h s .refusal)))
+      go true d = around (record { header = z; holds = e; read = eqb-true (inside left h s .refusal) 0 d })
+      go false d = no (inside left h s .refusal) (eqb-false (inside left h s .refusal) 0 d)
+
+  by-held : h .refusal ≡ 0 → P (bodyBehind left (h .header) s (h .body))
+  by-held z = rw (behind-is left (h .header) s (h .body)) (go (holdsPacket s (h .body)) refl)
+    where
+      go : (t : Bool) → holdsPacket s (h .body) ≡ t → P (cond t (packetAround (h .header) (h .body + 1) (inside left h s)) (packetOf (h .header) (own h s)))
+      go true e = by-around z e
+      go false e = by-own z e
+
+  pub by-way : P (packetAfter left h s)
+  unfolding packetAfter unlessRefused
+  by-way = go (eqb (h .refusal) 0) refl
+    where
+      go : (t : Bool) → eqb (h .refusal) 0 ≡ t → P (cond t (bodyBehind left (h .header) s (h .body)) (packetRefused (h .refusal)))
+      go true e = by-held (eqb-true (h .refusal) 0 e)
+      go false e = no (h .refusal) (eqb-false (h .refusal) 0 e)
+
+-- a body that holds no packet is read by its type byte
+pub alone-is : (left : ℕ) (h : HeaderRead) (s : List ℕ) → h .refusal ≡ 0 → holdsPacket s (h .body) ≡ false → packetAfter left h s ≡ packetOf (h .header) (own h s)
+unfolding packetAfter unlessRefused
+alone-is left h s z e = rw (eq-eqb (h .refusal) 0 z, behind-is left (h .header) s (h .body), e)
+
+-- one that does, as the packet inside
+pub around-is : (left : ℕ) (h : HeaderRead) (s : List ℕ) → h .refusal ≡ 0 → holdsPacket s (h .body) ≡ true → packetAfter left h s ≡ packetAround (h .header) (h .body + 1) (inside left h s)
+unfolding packetAfter unlessRefused
+around-is left h s z e = rw (eq-eqb (h .refusal) 0 z, behind-is left (h .header) s (h .body), e)
+
+-- the header is refused; or its body holds no packet; or it does
+module _ (P : Type 0) (h : HeaderRead) (s : List ℕ) (no : (h .refusal ≡ 0 → ⊥) → P) (yes : h .refusal ≡ 0 → holdsPacket s (h .body) ≡ false → P) (around : h .refusal ≡ 0 → holdsPacket s (h .body) ≡ true → P) where
+  pub by-body : P
+  by-body = go (eqb (h .refusal) 0) refl (holdsPacket s (h .body)) refl
+    where
+      go : (t : Bool) → eqb (h .refusal) 0 ≡ t → (u : Bool) → holdsPacket s (h .body) ≡ u → P
+      go true e true f = around (eqb-true (h .refusal) 0 e) f
+      go true e false f = yes (eqb-true (h .refusal) 0 e) f
+      go false e u f = no (eqb-false (h .refusal) 0 e)
+
+pub refused-is : (left : ℕ) (h : HeaderRead) (s : List ℕ) → (h .refusal ≡ 0 → ⊥) → packetAfter left h s ≡ packetRefused (h .refusal)
+unfolding packetAfter unlessRefused
+refused-is left h s z = rw (ne-eqb (h .refusal) 0 z)
+
+-- ---- every level
+
+-- what holds of the blank record and of a packet with none inside, and of a packet around another of which it holds, holds of every
+-- packet; Q is what is known of headers
+module _ (P : ℕ → List ℕ → Record → Type 0) (Q : Header → Type 0)
+    (blank : (left : ℕ) (s : List ℕ) → P left s blankRecord)
+    (yes : (left : ℕ) (h : Header) (s : List ℕ) (at : ℕ) → Q h → P left s (recordOf h (readBody (h .to) s at .body)))
+    (around : (left : ℕ) (h : Header) (s : List ℕ) (at : ℕ) (r : Record) → Q h → P left (drop (at + 1) s) r → P (suc left) s (recordAround h (at + 1) r))
+    (known : (s : List ℕ) → Q (readHeaderText s .header)) where
+  pub every-level : (left : ℕ) (h : HeaderRead) (s : List ℕ) → Q (h .header) → P left s (packetAfter left h s .«record»)
+  unfolding packetRefused insideOf
+  every-level zero h s q =
+      by-way zero h s (λ p. P zero s (p .«record»)) (λ n z. blank zero s) (λ o. yes zero (h .header) s (h .body) q) (λ a. absurd (omega (arith, a .read)))
+  every-level (suc k) h s q =
+      let t = drop (h .body + 1) s in
+      by-way (suc k) h s (λ p. P (suc k) s (p .«record»)) (λ n z. blank (suc k) s) (λ o. yes (suc k) (h .header) s (h .body) q)
+      (λ a. around k (h .header) s (h .body) (packetAfter k (readHeaderText t) t .«record») q (every-level k (readHeaderText t) t (known t)))

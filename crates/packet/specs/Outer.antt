@@ -1,0 +1,59 @@
+-- A packet read by itself, whatever its body holds, and the packet that it is with what its body holds: the way by which most packets,
+-- which hold none, are read quickly.
+-- Assumes nothing.
+use Prim.Native.Nat.{ℕ, zero, suc, _+_}
+use mathlib.Core.Bool.{cond}
+use mathlib.Core.List.{List}
+use lib.Dec.{eqb}
+use lib.ListN.{length, drop}
+use Rattle.header.specs.declared.Header.{Header}
+use Rattle.header.specs.declared.HeaderRead.{HeaderRead}
+use Rattle.header.specs.Header.{blankHeader}
+use Rattle.header.specs.Text.{readHeaderText, readTextHeader}
+use Rattle.header.specs.Frame.{readFrameHeader}
+use Rattle.body.specs.declared.BodyRead.{BodyRead}
+use Rattle.body.specs.Body.{blankBody, readBody}
+use Rattle.packet.specs.declared.Outer.{Outer}
+use Rattle.packet.specs.declared.PacketRead.{PacketRead}
+use Rattle.packet.specs.Record.{packetRefused}
+use Rattle.packet.specs.Packet.{headerTo, keptTo, holdsPacket, packetAround, packetAfter}
+
+-- ---- by itself
+
+-- a refusal: nothing, and the input's end for the body's place
+unfoldable pub outerRefused : List ℕ → ℕ → Outer
+outerRefused s n = record { header = blankHeader; body = blankBody; at = length s; refusal = n }
+
+-- a header that was read, the place of its body, and what that gave by its type byte
+unfoldable pub outerOf : Header → List ℕ → ℕ → BodyRead → Outer
+outerOf h s at b =
+    cond (eqb (b .refusal) 0)
+    (record { header = headerTo h (keptTo (b .body .kind) (h .to)); body = b .body; at = at; refusal = 0 })
+    (outerRefused s (b .refusal))
+
+-- a header, and the body behind it
+unfoldable pub outerAfter : HeaderRead → List ℕ → Outer
+outerAfter h s = cond (eqb (h .refusal) 0) (outerOf (h .header) s (h .body) (readBody (h .header .to) s (h .body))) (outerRefused s (h .refusal))
+
+-- a line of text
+unfoldable pub outerText : List ℕ → Outer
+outerText s = outerAfter (readTextHeader s) s
+
+-- an AX.25 frame
+unfoldable pub outerFrame : List ℕ → Outer
+outerFrame s = outerAfter (readFrameHeader s) s
+
+-- ---- with what it holds
+
+-- with none inside
+unfoldable pub aloneOf : Outer → PacketRead
+aloneOf o = record { refusal = o .refusal; «record» = record { header = o .header; body = o .body; innermost = blankHeader; inner = 0 } }
+
+-- a text inside as a packet, where so many may still be read
+unfoldable pub insideOf : ℕ → List ℕ → PacketRead
+insideOf zero t = packetRefused 19
+insideOf (suc left) t = packetAfter left (readHeaderText t) t
+
+-- around the packet inside, if its body holds one
+unfoldable pub packetFrom : ℕ → Outer → List ℕ → PacketRead
+packetFrom left o s = cond (holdsPacket s (o .at)) (packetAround (o .header) (o .at + 1) (insideOf left (drop (o .at + 1) s))) (aloneOf o)
