@@ -1,6 +1,7 @@
 pub mod Unicode
 pub mod Numbers
 pub mod Bits
+pub mod Padded
 pub mod Flags
 pub mod Ranges
 pub mod Writes

@@ -129,14 +129,20 @@ fn is_utf8(t: &[u8]) -> bool
 
 // ---- the text read
 
-// The bytes of t, and zeros up to 16.
+// The bytes of t, and zeros up to 16. The last of them goes first: with a loop over all the compiler leaves the zeros to a call of
+// their own, behind the bytes that are there.
 fn pad(t: &[u8]) -> [u8; 16]
     requires { ⌜ length (now t) ≤ 16 ⌝ }
     ensures { λ r. ⌜ r ≡ padTo 16 0 (now (t .entry)) ⌝ }
 {
     let mut out = [0u8; 16];
+    if t.len() == 0 {
+        return out;
+    }
+    let last = t.len() - 1;
+    out[last] = t[last];
     let mut i: usize = 0;
-    while i < t.len() {
+    while i < last {
         out[i] = t[i];
         i += 1;
     }
@@ -281,15 +287,17 @@ pub fn read_text(s: &[u8]) -> CallRead
 
 // ---- the range, and the text written
 
-// Whether the bytes from n on are zero. All sixteen are looked at and no test is left early, so that they are tested at once.
+// Whether the bytes from n on are zero: whether all sixteen are those of the first n and zeros. No test is left early, so that they
+// are tested at once.
 fn is_spare(text: [u8; 16], n: usize) -> bool
     requires { ⌜ n ≤ 16 ⌝ }
     ensures { λ r. ⌜ r ≡ zeros (drop n text) ⌝ }
 {
+    let kept = pad(&text[..n]);
     let mut fine = true;
     let mut i: usize = 0;
     while i < 16 {
-        fine = fine & ((i < n) | (text[i] == 0));
+        fine = fine & (text[i] == kept[i]);
         i += 1;
     }
     fine
