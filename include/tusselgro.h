@@ -159,10 +159,10 @@ typedef struct {
     bool heard;
 } tusselgro_hop;
 
-/* The hops in their order; those past count are all zeros. 168 bytes. */
+/* How many hops there are, and the hops in their order; those past count are all zeros. 168 bytes. */
 typedef struct {
-    tusselgro_hop hops[TUSSELGRO_MOST_HOPS];
     size_t count;
+    tusselgro_hop hops[TUSSELGRO_MOST_HOPS];
 } tusselgro_path;
 
 /* Where a packet comes from, where it goes to, and its path; that of a Mic-E body has no destination. 208 bytes. */
@@ -246,8 +246,8 @@ typedef struct {
  * kind stood in its place. What was compiled with either header must be compiled again.
  */
 typedef struct {
-    tusselgro_place place;
     tusselgro_report report;
+    tusselgro_place place;
     tusselgro_span comment;                       /* of a message or a status: its text */
     tusselgro_span identifier;                    /* of a message */
     tusselgro_time time;                          /* of a position or a status */
@@ -272,8 +272,9 @@ typedef struct {
  * headers and in the body, which belongs to the innermost. A number over 4 is 15 as well, and where it is 0 an innermost
  * header that is not all zeros, but for marks.
  *
- * Before inner packets were here a body that starts '}' was Unknown, a record had 288 bytes and tusselgro_read 296. What
- * was compiled with that header must be compiled again.
+ * Before inner packets were here a body that starts '}' was Unknown, a record had 288 bytes and tusselgro_read 296. Then,
+ * and in the first header that had them, a path's count stood behind its hops and a body's report behind its place. What
+ * was compiled with either header must be compiled again.
  */
 typedef struct {
     tusselgro_header header;    /* the outermost */

@@ -112,10 +112,10 @@ pub struct Hop {
 #[repr(C)]
 #[derive(Clone, Copy, Debug, Default, PartialEq, Eq)]
 pub struct Path {
-    /// Those past `count` are 0.
-    pub hops: [Hop; MOST_HOPS],
     /// How many there are.
     pub count: usize,
+    /// Those past `count` are 0.
+    pub hops: [Hop; MOST_HOPS],
 }
 
 /// Source, destination and path.
@@ -194,10 +194,10 @@ pub struct Time {
 #[repr(C)]
 #[derive(Clone, Copy, Debug, Default, PartialEq, Eq)]
 pub struct Body {
-    /// Of a position and of a Mic-E report.
-    pub place: Place,
     /// Of a Mic-E report.
     pub report: Report,
+    /// Of a position and of a Mic-E report.
+    pub place: Place,
     /// Of a position and of a Mic-E report the comment, of a message and of a status the text.
     pub comment: Span,
     /// Of a message; 0 and 0 where it has none.

@@ -52,10 +52,10 @@ pub struct Span {
 }
 
 // A body by its parts. A part that the kind lacks is zero; a position or a status may have a time. The comment of a message or a
-// status is its text.
+// status is its text. The report stands first: it is what C has in another form, so a header in front of it is copied by itself.
 pub struct Body {
-    pub place: Place,
     pub report: Report,
+    pub place: Place,
     pub comment: Span,
     pub identifier: Span,
     pub time: Time,

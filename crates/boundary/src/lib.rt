@@ -42,8 +42,8 @@ pub struct CReport {
 // A body as C has it: its kind is a number.
 #[repr(C)]
 pub struct CBody {
-    pub place: Place,
     pub report: CReport,
+    pub place: Place,
     pub comment: Span,
     pub identifier: Span,
     pub time: Time,

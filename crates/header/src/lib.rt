@@ -26,11 +26,12 @@ pub struct Hop {
     pub heard: bool,
 }
 
-// The hops in their order; those beyond `count` are blank.
+// How many hops there are, and the hops in their order; those beyond `count` are blank. The count stands in front of them, where a
+// header has a gap behind its callsigns: next to the gap the hops would be copied with it and without, which no compiler joins.
 #[repr(C)]
 pub struct Path {
-    pub hops: [Hop; 8],
     pub count: usize,
+    pub hops: [Hop; 8],
 }
 
 // Source, destination and path.

@@ -40,8 +40,8 @@ STARTS(callsign, had_zero_ssid, 18);
 STARTS(hop, call, 0);
 STARTS(hop, heard, 19);
 
-STARTS(path, hops, 0);
-STARTS(path, count, 160);
+STARTS(path, count, 0);
+STARTS(path, hops, 8);
 
 STARTS(header, from, 0);
 STARTS(header, to, 19);
@@ -69,8 +69,8 @@ STARTS(time, minute, 2);
 STARTS(time, second, 3);
 STARTS(time, form, 4);
 
-STARTS(body, place, 0);
-STARTS(body, report, 16);
+STARTS(body, report, 0);
+STARTS(body, place, 12);
 STARTS(body, comment, 32);
 STARTS(body, identifier, 48);
 STARTS(body, time, 64);
