@@ -4,6 +4,7 @@ use mathlib.Core.Path.{_≡_, refl, ap, _∙_}
 use mathlib.Core.Bool.{Bool, true, false, cond}
 use mathlib.Core.List.{List}
 use Prim.Native.Nat.{ℕ}
+use Rattle.header.specs.Header.{mostBytes}
 use Rattle.mic_e.specs.declared.Message.{Message}
 use Rattle.mic_e.specs.Message.{messageNumber, messageAt}
 use Rattle.body.specs.declared.Kind.{Kind}
@@ -12,7 +13,7 @@ use Rattle.body.specs.declared.Body.{Body}
 use Rattle.packet.specs.declared.Outer.{Outer}
 use Rattle.packet.specs.declared.PacketRead.{PacketRead}
 use Rattle.packet.specs.Packet.{mostInner, holdsPacket, readText, readFrame}
-use Rattle.packet.specs.Outer.{outerText, outerFrame, aloneOf, packetFrom}
+use Rattle.packet.specs.Outer.{outerWithin, aloneOf, packetFrom}
 use Rattle.packet.proofs.ByItself.{from-alone, either-from}
 use Rattle.boundary.specs.declared.CReport.{CReport}
 use Rattle.boundary.specs.declared.CBody.{CBody}
@@ -81,21 +82,21 @@ record-meant r body e = rw e
 
 -- ---- a packet by itself, and what it holds
 
-module _ (s : List ℕ) (framed : Bool) (o : Outer) (e : o ≡ cond framed (outerFrame s) (outerText s)) (r : CRead) where
+module _ (s : List ℕ) (framed : Bool) (o : Outer) (e : o ≡ outerWithin mostBytes framed s) (r : CRead) where
   held-in-c : (p : PacketRead) → p ≡ packetFrom mostInner o s → r ≡ readInC p → r ≡ readInC (cond framed (readFrame s) (readText s))
   held-in-c p q w = w ∙ ap (λ (x : PacketRead). readInC x) (either-from s framed o p e q)
 
   alone-in-c : (u : Bool) → u ≡ holdsPacket s (o .at) → u ≡ false → r ≡ readInC (aloneOf o) → r ≡ readInC (cond framed (readFrame s) (readText s))
   alone-in-c u q n w = held-in-c (aloneOf o) (from-alone mostInner o s u q (aloneOf o) n refl) w
 
-module _ (s : List ℕ) (o : Outer) (e : o ≡ outerText s) (r : CRead) where
+module _ (s : List ℕ) (o : Outer) (e : o ≡ outerWithin mostBytes false s) (r : CRead) where
   pub held-text-in-c : (p : PacketRead) → p ≡ packetFrom mostInner o s → r ≡ readInC p → r ≡ readInC (readText s)
   held-text-in-c = held-in-c s false o e r
 
   pub alone-text-in-c : (u : Bool) → u ≡ holdsPacket s (o .at) → u ≡ false → r ≡ readInC (aloneOf o) → r ≡ readInC (readText s)
   alone-text-in-c = alone-in-c s false o e r
 
-module _ (s : List ℕ) (o : Outer) (e : o ≡ outerFrame s) (r : CRead) where
+module _ (s : List ℕ) (o : Outer) (e : o ≡ outerWithin mostBytes true s) (r : CRead) where
   pub held-frame-in-c : (p : PacketRead) → p ≡ packetFrom mostInner o s → r ≡ readInC p → r ≡ readInC (readFrame s)
   held-frame-in-c = held-in-c s true o e r
 

@@ -245,7 +245,7 @@ fn record_meant(r: CRecord) -> Record
 pub extern "C" fn tusselgro_read_text(line: &[u8]) -> CRead
     ensures { λ r. ⌜ r ≡ readInC (readText (now (line .entry))) ⌝ }
 {
-    let o = packet::read_outer(line, false);
+    let o = packet::read_outer(line, false, packet::MOST);
     if packet::holds_packet(line, o.at) {
         return read_in_c(packet::read_inside(o, line));
     }
@@ -257,7 +257,7 @@ pub extern "C" fn tusselgro_read_text(line: &[u8]) -> CRead
 pub extern "C" fn tusselgro_read_frame(frame: &[u8]) -> CRead
     ensures { λ r. ⌜ r ≡ readInC (readFrame (now (frame .entry))) ⌝ }
 {
-    let o = packet::read_outer(frame, true);
+    let o = packet::read_outer(frame, true, packet::MOST);
     if packet::holds_packet(frame, o.at) {
         return read_in_c(packet::read_inside(o, frame));
     }

@@ -25,43 +25,74 @@ use Rattle.packet.specs.declared.Outer.{Outer}
 use Rattle.packet.specs.declared.PacketRead.{PacketRead}
 use Rattle.packet.specs.Record.{blankRecord, packetRefused}
 use Rattle.packet.specs.Packet.{mostInner, headerTo, keptTo, recordOf, packetOf, holdsPacket, packetAround, packetAfter, readAnyText, readText, readFrame}
-use Rattle.packet.specs.Outer.{outerRefused, outerOf, outerAfter, outerText, outerFrame, aloneOf, insideOf, packetFrom}
+use Rattle.packet.specs.Outer.{outerRefused, outerOf, outerAfter, outerWithin, aloneOf, insideOf, packetFrom}
 use Rattle.packet.proofs.Packets.{behindBrace, nothing-there, any-is, frame-is, line-read}
 use Rattle.packet.proofs.Ways.{own, by-body, refused-is, alone-is, around-is}
 
 -- ---- a header, and the body behind it
 
 module _ (h : HeaderRead) (s : List ℕ) (r : Outer) where
-  pub outer-without-header : (h .refusal ≡ 0 → ⊥) → r ≡ outerRefused s (h .refusal) → r ≡ outerAfter h s
+  without-header : (h .refusal ≡ 0 → ⊥) → r ≡ outerRefused s (h .refusal) → r ≡ outerAfter h s
   unfolding outerAfter
-  outer-without-header z w = rw (ne-eqb (h .refusal) 0 z) w
+  without-header z w = rw (ne-eqb (h .refusal) 0 z) w
 
   module _ (b : BodyRead) (z : h .refusal ≡ 0) (q : b ≡ readBody (h .header .to) s (h .body)) where
-    pub outer-without-body : (b .refusal ≡ 0 → ⊥) → r ≡ outerRefused s (b .refusal) → r ≡ outerAfter h s
+    without-body : (b .refusal ≡ 0 → ⊥) → r ≡ outerRefused s (b .refusal) → r ≡ outerAfter h s
     unfolding outerAfter outerOf
-    outer-without-body n w = rw (eq-eqb (h .refusal) 0 z, ← q, ne-eqb (b .refusal) 0 n) w
+    without-body n w = rw (eq-eqb (h .refusal) 0 z, ← q, ne-eqb (b .refusal) 0 n) w
 
-pub outer-made : (h : HeaderRead) (s : List ℕ) (b : BodyRead) (to : Callsign) (x : Header) → h .refusal ≡ 0 → b ≡ readBody (h .header .to) s (h .body) → b .refusal ≡ 0
+made-of : (h : HeaderRead) (s : List ℕ) (b : BodyRead) (to : Callsign) (x : Header) → h .refusal ≡ 0 → b ≡ readBody (h .header .to) s (h .body) → b .refusal ≡ 0
     → to ≡ keptTo (b .body .kind) (h .header .to) → x ≡ headerTo (h .header) to → record { header = x; body = b .body; at = h .body; refusal = 0 } ≡ outerAfter h s
 unfolding outerAfter outerOf
-outer-made h s b to x z q n f g = rw (eq-eqb (h .refusal) 0 z, ← q, eq-eqb (b .refusal) 0 n, g, f)
+made-of h s b to x z q n f g = rw (eq-eqb (h .refusal) 0 z, ← q, eq-eqb (b .refusal) 0 n, g, f)
 
--- ---- a frame or a line
+-- ---- a frame or a text of at most so many bytes
 
+pub outer-too-long : (most : ℕ) (framed : Bool) (s : List ℕ) (r : Outer) → most < length s → r ≡ outerRefused s 1 → r ≡ outerWithin most framed s
+unfolding outerWithin
+outer-too-long most framed s r l w = rw (lt-ltb most (length s) l) w
+
+module _ (most : ℕ) (framed : Bool) (s : List ℕ) (l : length s ≤ most) (h : HeaderRead) (e : h ≡ cond framed (readFrameHeader s) (readHeaderText s)) where
+  fits : (r : Outer) → r ≡ outerAfter h s → r ≡ outerWithin most framed s
+  unfolding outerWithin
+  fits r w = rw (le-ltb most (length s) l, ← e) w
+
+  pub outer-without-header : (r : Outer) → (h .refusal ≡ 0 → ⊥) → r ≡ outerRefused s (h .refusal) → r ≡ outerWithin most framed s
+  outer-without-header r z w = fits r (without-header h s r z w)
+
+  module _ (z : h .refusal ≡ 0) (b : BodyRead) (q : b ≡ readBody (h .header .to) s (h .body)) where
+    pub outer-without-body : (r : Outer) → (b .refusal ≡ 0 → ⊥) → r ≡ outerRefused s (b .refusal) → r ≡ outerWithin most framed s
+    outer-without-body r n w = fits r (without-body h s r b z q n w)
+
+    pub outer-made : (to : Callsign) (x : Header) → b .refusal ≡ 0 → to ≡ keptTo (b .body .kind) (h .header .to) → x ≡ headerTo (h .header) to
+        → record { header = x; body = b .body; at = h .body; refusal = 0 } ≡ outerWithin most framed s
+    outer-made to x n f g = fits (record { header = x; body = b .body; at = h .body; refusal = 0 }) (made-of h s b to x z q n f g)
+
+-- a frame or a line: 1 is the header's
 refused-outer : (h : HeaderRead) (s : List ℕ) → h ≡ headerRefused 1 → outerAfter h s ≡ outerRefused s 1
 unfolding outerAfter headerRefused
 refused-outer h s e = rw e refl
 
-module _ (s : List ℕ) (r : Outer) where
-  pub outer-too-long : (framed : Bool) → mostBytes < length s → r ≡ outerRefused s 1 → r ≡ cond framed (outerFrame s) (outerText s)
-  unfolding outerFrame outerText
-  outer-too-long true l w = w ∙ sym (refused-outer (readFrameHeader s) s (unfold readFrameHeader in rw (lt-ltb mostBytes (length s) l)))
-  outer-too-long false l w = w ∙ sym (refused-outer (readTextHeader s) s (unfold readTextHeader in rw (lt-ltb mostBytes (length s) l)))
+frame-within : (s : List ℕ) → outerWithin mostBytes true s ≡ outerAfter (readFrameHeader s) s
+unfolding outerWithin
+frame-within s = go (ltb mostBytes (length s)) refl
+  where
+    go : (t : Bool) → ltb mostBytes (length s) ≡ t → cond t (outerRefused s 1) (outerAfter (readFrameHeader s) s) ≡ outerAfter (readFrameHeader s) s
+    go true e = sym (refused-outer (readFrameHeader s) s (unfold readFrameHeader in rw e))
+    go false e = refl
 
-  pub outer-fits : (framed : Bool) → length s ≤ mostBytes → r ≡ outerAfter (cond framed (readFrameHeader s) (readHeaderText s)) s → r ≡ cond framed (outerFrame s) (outerText s)
-  unfolding outerFrame outerText
-  outer-fits true l w = w
-  outer-fits false l w = w ∙ ap (λ (h : HeaderRead). outerAfter h s) (sym (unfold readTextHeader in rw (le-ltb mostBytes (length s) l)))
+line-within : (s : List ℕ) → outerWithin mostBytes false s ≡ outerAfter (readTextHeader s) s
+unfolding outerWithin readTextHeader
+line-within s = go (ltb mostBytes (length s))
+  where
+    go : (t : Bool) → cond t (outerRefused s 1) (outerAfter (readHeaderText s) s) ≡ outerAfter (cond t (headerRefused 1) (readHeaderText s)) s
+    go true = sym (refused-outer (headerRefused 1) s refl)
+    go false = refl
+
+-- a text that is as long as it may be
+any-within : (s : List ℕ) → outerWithin (length s) false s ≡ outerAfter (readHeaderText s) s
+unfolding outerWithin
+any-within s = rw (le-ltb (length s) (length s) (omega arith))
 
 -- ---- what it holds
 
@@ -128,19 +159,18 @@ unfolding insideOf
 inside-fifth left t r z w = rw z w
 
 -- the rest of the input, as the code cuts it off
-pub inside-text : (left : ℕ) (s : List ℕ) (at : ℕ) (o : Outer) (r : PacketRead) → (left ≡ 0 → ⊥) → o ≡ outerAfter (readHeaderText (behindBrace s at)) (behindBrace s at)
+pub inside-text : (left : ℕ) (s : List ℕ) (at : ℕ) (o : Outer) (r : PacketRead) → (left ≡ 0 → ⊥) → o ≡ outerWithin (length (behindBrace s at)) false (behindBrace s at)
     → r ≡ packetFrom (left - 1) o (behindBrace s at) → r ≡ insideOf left (drop (at + 1) s)
 unfolding insideOf
 inside-text zero s at o r z f w = absurd (z refl)
 inside-text (suc k) s at o r z f w =
-    w ∙ ap (λ (x : Outer). packetFrom (suc k - 1) x (behindBrace s at)) f ∙ from-after (suc k - 1) (readHeaderText (behindBrace s at)) (behindBrace s at)
+    w ∙ ap (λ (x : Outer). packetFrom (suc k - 1) x (behindBrace s at)) (f ∙ any-within (behindBrace s at)) ∙ from-after (suc k - 1) (readHeaderText (behindBrace s at)) (behindBrace s at)
     ∙ rw (sub-one (suc k), part-to-end s (at + 1))
 
-pub any-from : (s : List ℕ) (o : Outer) (r : PacketRead) → o ≡ outerAfter (readHeaderText s) s → r ≡ packetFrom mostInner o s → r ≡ readAnyText s
-any-from s o r f w = w ∙ ap (λ (x : Outer). packetFrom mostInner x s) f ∙ from-after mostInner (readHeaderText s) s ∙ sym (any-is s)
+pub any-from : (s : List ℕ) (o : Outer) (r : PacketRead) → o ≡ outerWithin (length s) false s → r ≡ packetFrom mostInner o s → r ≡ readAnyText s
+any-from s o r f w = w ∙ ap (λ (x : Outer). packetFrom mostInner x s) (f ∙ any-within s) ∙ from-after mostInner (readHeaderText s) s ∙ sym (any-is s)
 
-pub either-from : (s : List ℕ) (framed : Bool) (o : Outer) (r : PacketRead) → o ≡ cond framed (outerFrame s) (outerText s) → r ≡ packetFrom mostInner o s
+pub either-from : (s : List ℕ) (framed : Bool) (o : Outer) (r : PacketRead) → o ≡ outerWithin mostBytes framed s → r ≡ packetFrom mostInner o s
     → r ≡ cond framed (readFrame s) (readText s)
-unfolding outerFrame outerText
-either-from s true o r f w = w ∙ ap (λ (x : Outer). packetFrom mostInner x s) f ∙ from-after mostInner (readFrameHeader s) s ∙ sym (frame-is s)
-either-from s false o r f w = w ∙ ap (λ (x : Outer). packetFrom mostInner x s) f ∙ from-after mostInner (readTextHeader s) s ∙ line-read s
+either-from s true o r f w = w ∙ ap (λ (x : Outer). packetFrom mostInner x s) (f ∙ frame-within s) ∙ from-after mostInner (readFrameHeader s) s ∙ sym (frame-is s)
+either-from s false o r f w = w ∙ ap (λ (x : Outer). packetFrom mostInner x s) (f ∙ line-within s) ∙ from-after mostInner (readTextHeader s) s ∙ line-read s

@@ -12,15 +12,15 @@ use Rattle.packet.specs.declared.Record.{Record}
 use Rattle.packet.specs.declared.PacketRead.{PacketRead}
 use Rattle.packet.specs.Record.{blankRecord}
 use Rattle.packet.specs.declared.Outer.{Outer}
-use Rattle.packet.specs.Outer.{outerText, outerFrame, packetFrom}
+use Rattle.packet.specs.Outer.{outerWithin, packetFrom}
 use Rattle.packet.specs.Packet.{mostInner, holdsPacket, readAnyText, readText, readFrame}
 use Rattle.packet.specs.Written.{textBytes, frameBytes, textRefusal, frameRefusal}
 
 pub unique-blank : (r r′ : Record) → r ≡ blankRecord → r′ ≡ blankRecord → r ≡ r′
 unique-blank r r′ = one-value r r′ blankRecord
 
-pub unique-read-outer : (framed : Bool) (s : List ℕ) (r r′ : Outer) → r ≡ cond framed (outerFrame s) (outerText s) → r′ ≡ cond framed (outerFrame s) (outerText s) → r ≡ r′
-unique-read-outer framed s r r′ = one-value r r′ (cond framed (outerFrame s) (outerText s))
+pub unique-read-outer : (most : ℕ) (framed : Bool) (s : List ℕ) (r r′ : Outer) → r ≡ outerWithin most framed s → r′ ≡ outerWithin most framed s → r ≡ r′
+unique-read-outer most framed s r r′ = one-value r r′ (outerWithin most framed s)
 
 pub unique-holds-packet : (s : List ℕ) (at : ℕ) (r r′ : Bool) → r ≡ holdsPacket s at → r′ ≡ holdsPacket s at → r ≡ r′
 unique-holds-packet s at r r′ = one-value r r′ (holdsPacket s at)

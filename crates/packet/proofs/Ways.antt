@@ -52,41 +52,10 @@ unfolding bodyBehind insideOf packetAfter packetAround packetRefused
 behind-is zero h s at = refl
 behind-is (suc k) h s at = refl
 
--- what holds of each way's packet holds of the packet
-module _ (left : ℕ) (h : HeaderRead) (s : List ℕ) (P : PacketRead → Type 0) (no : (n : ℕ) → (n ≡ 0 → ⊥) → P (packetRefused n))
-    (yes : Own h s → P (accepted (recordOf (h .header) (own h s .body))))
-    (around : Around left h s → P (accepted (recordAround (h .header) (h .body + 1) (inside left h s .«record»)))) where
-  by-own : h .refusal ≡ 0 → holdsPacket s (h .body) ≡ false → P (packetOf (h .header) (own h s))
-  unfolding packetOf
-  by-own z e = go (eqb (own h s .refusal) 0) refl
-    where
-      go : (t : Bool) → eqb (own h s .refusal) 0 ≡ t → P (cond t (accepted (recordOf (h .header) (own h s .body))) (packetRefused (own h s .refusal)))
-      go true d = yes (record { header = z; alone = e; read = eqb-true (own h s .refusal) 0 d })
-      go false d = no (own h s .refusal) (eqb-false (own h s .refusal) 0 d)
-
-  by-around : h .refusal ≡ 0 → holdsPacket s (h .body) ≡ true → P (packetAround (h .header) (h .body + 1) (inside left h s))
-  unfolding packetAround
-  by-around z e = go (eqb (inside left h s .refusal) 0) refl
-    where
-      go : (t : Bool) → eqb (inside left h s .refusal) 0 ≡ t
-          → P (cond t (accepted (recordAround (h .header) (h .body + 1) (inside left h s .«record»))) (packetRefused (inside left h s .refusal)))
-      go true d = around (record { header = z; holds = e; read = eqb-true (inside left h s .refusal) 0 d })
-      go false d = no (inside left h s .refusal) (eqb-false (inside left h s .refusal) 0 d)
-
-  by-held : h .refusal ≡ 0 → P (bodyBehind left (h .header) s (h .body))
-  by-held z = rw (behind-is left (h .header) s (h .body)) (go (holdsPacket s (h .body)) refl)
-    where
-      go : (t : Bool) → holdsPacket s (h .body) ≡ t → P (cond t (packetAround (h .header) (h .body + 1) (inside left h s)) (packetOf (h .header) (own h s)))
-      go true e = by-around z e
-      go false e = by-own z e
-
-  pub by-way : P (packetAfter left h s)
-  unfolding packetAfter unlessRefused
-  by-way = go (eqb (h .refusal) 0) refl
-    where
-      go : (t : Bool) → eqb (h .refusal) 0 ≡ t → P (cond t (bodyBehind left (h .header) s (h .body)) (packetRefused (h .refusal)))
-      go true e = by-held (eqb-true (h .refusal) 0 e)
-      go false e = no (h .refusal) (eqb-false (h .refusal) 0 e)
+-- a refused header refuses the packet
+pub refused-is : (left : ℕ) (h : HeaderRead) (s : List ℕ) → (h .refusal ≡ 0 → ⊥) → packetAfter left h s ≡ packetRefused (h .refusal)
+unfolding packetAfter unlessRefused
+refused-is left h s z = rw (ne-eqb (h .refusal) 0 z)
 
 -- a body that holds no packet is read by its type byte
 pub alone-is : (left : ℕ) (h : HeaderRead) (s : List ℕ) → h .refusal ≡ 0 → holdsPacket s (h .body) ≡ false → packetAfter left h s ≡ packetOf (h .header) (own h s)
@@ -108,9 +77,33 @@ module _ (P : Type 0) (h : HeaderRead) (s : List ℕ) (no : (h .refusal ≡ 0 �
       go true e false f = yes (eqb-true (h .refusal) 0 e) f
       go false e u f = no (eqb-false (h .refusal) 0 e)
 
-pub refused-is : (left : ℕ) (h : HeaderRead) (s : List ℕ) → (h .refusal ≡ 0 → ⊥) → packetAfter left h s ≡ packetRefused (h .refusal)
-unfolding packetAfter unlessRefused
-refused-is left h s z = rw (ne-eqb (h .refusal) 0 z)
+-- what holds of each way's packet holds of the packet
+module _ (left : ℕ) (h : HeaderRead) (s : List ℕ) (P : PacketRead → Type 0) (no : (n : ℕ) → (n ≡ 0 → ⊥) → P (packetRefused n))
+    (yes : Own h s → P (accepted (recordOf (h .header) (own h s .body))))
+    (around : Around left h s → P (accepted (recordAround (h .header) (h .body + 1) (inside left h s .«record»)))) where
+  by-own : h .refusal ≡ 0 → holdsPacket s (h .body) ≡ false → P (packetOf (h .header) (own h s))
+  unfolding packetOf
+  by-own z e = go (eqb (own h s .refusal) 0) refl
+    where
+      go : (t : Bool) → eqb (own h s .refusal) 0 ≡ t → P (cond t (accepted (recordOf (h .header) (own h s .body))) (packetRefused (own h s .refusal)))
+      go true d = yes (record { header = z; alone = e; read = eqb-true (own h s .refusal) 0 d })
+      go false d = no (own h s .refusal) (eqb-false (own h s .refusal) 0 d)
+
+  by-around : h .refusal ≡ 0 → holdsPacket s (h .body) ≡ true → P (packetAround (h .header) (h .body + 1) (inside left h s))
+  unfolding packetAround
+  by-around z e = go (eqb (inside left h s .refusal) 0) refl
+    where
+      go : (t : Bool) → eqb (inside left h s .refusal) 0 ≡ t
+          → P (cond t (accepted (recordAround (h .header) (h .body + 1) (inside left h s .«record»))) (packetRefused (inside left h s .refusal)))
+      go true d = around (record { header = z; holds = e; read = eqb-true (inside left h s .refusal) 0 d })
+      go false d = no (inside left h s .refusal) (eqb-false (inside left h s .refusal) 0 d)
+
+  pub by-way : P (packetAfter left h s)
+  by-way =
+      by-body (P (packetAfter left h s)) h s
+      (λ z. rw (refused-is left h s z) (no (h .refusal) z))
+      (λ z e. rw (alone-is left h s z e) (by-own z e))
+      (λ z e. rw (around-is left h s z e) (by-around z e))
 
 -- ---- every level
 

@@ -2,20 +2,20 @@
 -- which hold none, are read quickly.
 -- Assumes nothing.
 use Prim.Native.Nat.{ℕ, zero, suc, _+_}
-use mathlib.Core.Bool.{cond}
+use mathlib.Core.Bool.{Bool, cond}
 use mathlib.Core.List.{List}
-use lib.Dec.{eqb}
+use lib.Dec.{eqb, ltb}
 use lib.ListN.{length, drop}
 use Rattle.header.specs.declared.Header.{Header}
 use Rattle.header.specs.declared.HeaderRead.{HeaderRead}
 use Rattle.header.specs.Header.{blankHeader}
-use Rattle.header.specs.Text.{readHeaderText, readTextHeader}
+use Rattle.header.specs.Text.{readHeaderText}
 use Rattle.header.specs.Frame.{readFrameHeader}
 use Rattle.body.specs.declared.BodyRead.{BodyRead}
 use Rattle.body.specs.Body.{blankBody, readBody}
 use Rattle.packet.specs.declared.Outer.{Outer}
 use Rattle.packet.specs.declared.PacketRead.{PacketRead}
-use Rattle.packet.specs.Record.{packetRefused}
+use Rattle.packet.specs.Record.{recordAlone, packetRefused}
 use Rattle.packet.specs.Packet.{headerTo, keptTo, holdsPacket, packetAround, packetAfter}
 
 -- ---- by itself
@@ -35,19 +35,15 @@ outerOf h s at b =
 unfoldable pub outerAfter : HeaderRead → List ℕ → Outer
 outerAfter h s = cond (eqb (h .refusal) 0) (outerOf (h .header) s (h .body) (readBody (h .header .to) s (h .body))) (outerRefused s (h .refusal))
 
--- a line of text
-unfoldable pub outerText : List ℕ → Outer
-outerText s = outerAfter (readTextHeader s) s
-
--- an AX.25 frame
-unfoldable pub outerFrame : List ℕ → Outer
-outerFrame s = outerAfter (readFrameHeader s) s
+-- a frame, or a text: 1 where it has more than so many bytes, and then its header and the body behind it
+unfoldable pub outerWithin : ℕ → Bool → List ℕ → Outer
+outerWithin most framed s = cond (ltb most (length s)) (outerRefused s 1) (outerAfter (cond framed (readFrameHeader s) (readHeaderText s)) s)
 
 -- ---- with what it holds
 
 -- with none inside
 unfoldable pub aloneOf : Outer → PacketRead
-aloneOf o = record { refusal = o .refusal; «record» = record { header = o .header; body = o .body; innermost = blankHeader; inner = 0 } }
+aloneOf o = record { refusal = o .refusal; «record» = recordAlone (o .header) (o .body) }
 
 -- a text inside as a packet, where so many may still be read
 unfoldable pub insideOf : ℕ → List ℕ → PacketRead

@@ -11,7 +11,7 @@ use Rattle.callsign.specs.declared.Callsign.{Callsign}
 use Rattle.callsign.specs.Text.{blankCall}
 use Rattle.header.specs.declared.Header.{Header}
 use Rattle.header.specs.declared.HeaderRead.{HeaderRead}
-use Rattle.header.specs.Header.{mostBytes, blankHeader}
+use Rattle.header.specs.Header.{mostBytes}
 use Rattle.header.specs.Text.{readHeaderText}
 use Rattle.header.specs.Frame.{readFrameHeader}
 use Rattle.body.specs.declared.Kind.{Kind}
@@ -22,7 +22,7 @@ use Rattle.body.specs.declared.BodyRead.{BodyRead}
 use Rattle.body.specs.Body.{readBody}
 use Rattle.packet.specs.declared.Record.{Record}
 use Rattle.packet.specs.declared.PacketRead.{PacketRead}
-use Rattle.packet.specs.Record.{packetRefused}
+use Rattle.packet.specs.Record.{recordAlone, packetRefused}
 
 -- a header with that destination
 abbrev pub headerTo : Header → Callsign → Header
@@ -38,9 +38,9 @@ keptTo Status to = to
 
 -- ---- a packet with none inside
 
--- the record of a header and a body: "At 0 the inner header is blank."
+-- the record of a header and a body
 unfoldable pub recordOf : Header → Body → Record
-recordOf h b = record { header = headerTo h (keptTo (b .kind) (h .to)); body = b; innermost = blankHeader; inner = 0 }
+recordOf h b = recordAlone (headerTo h (keptTo (b .kind) (h .to))) b
 
 -- a header that was read, and what its body gave
 unfoldable pub packetOf : Header → BodyRead → PacketRead

@@ -10,7 +10,7 @@ ghost use Rattle.header.specs.Range.{textRefusal as headerTextRefusal};
 ghost use Rattle.buffer.specs.Wrote.{refusedBy, ends, wrote};
 ghost use Rattle.packet.specs.Record.{blankRecord, packetRefused};
 ghost use Rattle.packet.specs.Packet.{mostInner, headerTo, keptTo, holdsPacket, isNowhere, movedSpan, movedBody, innermostOf, packetAround, readAnyText, readText, readFrame};
-ghost use Rattle.packet.specs.Outer.{outerRefused, outerAfter, outerText, outerFrame, aloneOf, insideOf, packetFrom};
+ghost use Rattle.packet.specs.Outer.{outerRefused, outerWithin, aloneOf, insideOf, packetFrom};
 ghost use Rattle.packet.specs.Range.{rangeRefusal};
 ghost use Rattle.packet.specs.Written.{textBytes, frameBytes, orElse, textRefusal, frameRefusal};
 ghost use Rattle.packet.specs.Private.{headBytes, headRefusal, wroteBehind};
@@ -46,7 +46,7 @@ pub struct Outer {
 }
 
 // The most bytes of a line or a frame.
-const MOST: usize = 512;
+pub const MOST: usize = 512;
 
 // The most packets inside a packet.
 const MOST_INNER: u8 = 4;
@@ -109,10 +109,25 @@ fn outer_refused(s: &[u8], n: u8) -> Outer
     }
 }
 
-// The packet of a header that was read from s, and of the body that follows it.
-fn outer_after(h: HeaderRead, s: &[u8]) -> Outer
-    ensures { λ r. ⌜ r ≡ outerAfter h (now (s .entry)) ⌝ }
+// The header of an AX.25 frame where framed, else of a text, however long.
+fn header_in(s: &[u8], framed: bool) -> HeaderRead
+    ensures { λ r. ⌜ r ≡ cond framed (readFrameHeader (now (s .entry))) (readHeaderText (now (s .entry))) ⌝ }
 {
+    if framed {
+        return header::read_frame(s);
+    }
+    header::read_any_length(s)
+}
+
+// Reads an AX.25 frame where framed, else a text, by itself: refused with 1 where it is longer than `most`, and then as its header
+// and its body are.
+pub fn read_outer(s: &[u8], framed: bool, most: usize) -> Outer
+    ensures { λ r. ⌜ r ≡ outerWithin most framed (now (s .entry)) ⌝ }
+{
+    if most < s.len() {
+        return outer_refused(s, 1);
+    }
+    let h = header_in(s, framed);
     if h.refusal != 0 {
         return outer_refused(s, h.refusal);
     }
@@ -130,32 +145,6 @@ fn outer_after(h: HeaderRead, s: &[u8]) -> Outer
         at: h.body,
         refusal: 0,
     }
-}
-
-// The header of an AX.25 frame where framed, else of a text, however long.
-fn header_in(s: &[u8], framed: bool) -> HeaderRead
-    ensures { λ r. ⌜ r ≡ cond framed (readFrameHeader (now (s .entry))) (readHeaderText (now (s .entry))) ⌝ }
-{
-    if framed {
-        return header::read_frame(s);
-    }
-    header::read_any_length(s)
-}
-
-fn outer_in(s: &[u8], framed: bool) -> Outer
-    ensures { λ r. ⌜ r ≡ outerAfter (cond framed (readFrameHeader (now (s .entry))) (readHeaderText (now (s .entry)))) (now (s .entry)) ⌝ }
-{
-    outer_after(header_in(s, framed), s)
-}
-
-// Reads an AX.25 frame where framed, else a line of text, by itself.
-pub fn read_outer(s: &[u8], framed: bool) -> Outer
-    ensures { λ r. ⌜ r ≡ cond framed (outerFrame (now (s .entry))) (outerText (now (s .entry))) ⌝ }
-{
-    if MOST < s.len() {
-        return outer_refused(s, 1);
-    }
-    outer_in(s, framed)
 }
 
 // A packet with none inside.
@@ -269,7 +258,7 @@ fn body_from(s: &[u8], at: usize, left: u8) -> PacketRead
         return refused(19);
     }
     let inside = &s[at + 1..];
-    packet_from(outer_in(inside, false), inside, left - 1)
+    packet_from(read_outer(inside, false, inside.len()), inside, left - 1)
 }
 
 // What an outer packet, read from s, is with the packets that it holds.
@@ -283,14 +272,14 @@ pub fn read_inside(o: Outer, s: &[u8]) -> PacketRead
 pub fn read_any_length(s: &[u8]) -> PacketRead
     ensures { λ r. ⌜ r ≡ readAnyText (now (s .entry)) ⌝ }
 {
-    packet_from(outer_in(s, false), s, MOST_INNER)
+    packet_from(read_outer(s, false, s.len()), s, MOST_INNER)
 }
 
 // Reads an AX.25 frame where framed, else a line of text: refused with 1, and then as a text of any length.
 pub fn read(s: &[u8], framed: bool) -> PacketRead
     ensures { λ r. ⌜ r ≡ cond framed (readFrame (now (s .entry))) (readText (now (s .entry))) ⌝ }
 {
-    read_inside(read_outer(s, framed), s)
+    read_inside(read_outer(s, framed, MOST), s)
 }
 
 // Reads a line of text.

@@ -17,7 +17,7 @@ use Rattle.packet.proofs.packet_from.Kinds as packet-from-kinds
 use Rattle.packet.proofs.+body_from+packet_from.Lts-packet_from as packet-from-lts
 use Rattle.packet.proofs.alone.Reads as alone-reads
 use Rattle.packet.proofs.holds_packet.Reads as holds-packet-reads
-use Rattle.packet.proofs.outer_in.Reads as outer-in-reads
+use Rattle.packet.proofs.read_outer.Reads as read-outer-reads
 use Rattle.packet.proofs.packet_around.Reads as packet-around-reads
 use Rattle.packet.proofs.refused.Reads as refused-reads
 use Rattle.packet.proofs.+body_from+packet_from.{statement}
@@ -47,8 +47,8 @@ packet-from-below t =
 body-from-refused-requires : (t : ℕ) → body-from-lts.Need-refused-requires (
   refused-reads.Asked,
   refused-reads.Learnt,
-  outer-in-reads.Asked,
-  outer-in-reads.Learnt,
+  read-outer-reads.Asked,
+  read-outer-reads.Learnt,
   packet-from-below t,
   packet-from.Post,
 ) (body-from-at t) body-from.Post
@@ -57,8 +57,8 @@ body-from-refused-requires t c κs = search needs
 body-from-returns : (t : ℕ) → body-from-lts.Need-returns (
   refused-reads.Asked,
   refused-reads.Learnt,
-  outer-in-reads.Asked,
-  outer-in-reads.Learnt,
+  read-outer-reads.Asked,
+  read-outer-reads.Learnt,
   packet-from-below t,
   packet-from.Post,
 ) (body-from-at t) body-from.Post
@@ -67,8 +67,8 @@ body-from-returns t c = search inside-fifth
 body-from-add-inside : (t : ℕ) → body-from-lts.Need-add-inside (
   refused-reads.Asked,
   refused-reads.Learnt,
-  outer-in-reads.Asked,
-  outer-in-reads.Learnt,
+  read-outer-reads.Asked,
+  read-outer-reads.Learnt,
   packet-from-below t,
   packet-from.Post,
 ) (body-from-at t) body-from.Post
@@ -77,8 +77,8 @@ body-from-add-inside t c = omega arith
 body-from-sub-inside : (t : ℕ) → body-from-lts.Need-sub-inside (
   refused-reads.Asked,
   refused-reads.Learnt,
-  outer-in-reads.Asked,
-  outer-in-reads.Learnt,
+  read-outer-reads.Asked,
+  read-outer-reads.Learnt,
   packet-from-below t,
   packet-from.Post,
 ) (body-from-at t) body-from.Post
@@ -87,8 +87,8 @@ body-from-sub-inside t c = omega arith
 body-from-part-inside-start : (t : ℕ) → body-from-lts.Need-part-inside-start (
   refused-reads.Asked,
   refused-reads.Learnt,
-  outer-in-reads.Asked,
-  outer-in-reads.Learnt,
+  read-outer-reads.Asked,
+  read-outer-reads.Learnt,
   packet-from-below t,
   packet-from.Post,
 ) (body-from-at t) body-from.Post
@@ -97,28 +97,28 @@ body-from-part-inside-start t c = omega arith
 body-from-part-inside-end : (t : ℕ) → body-from-lts.Need-part-inside-end (
   refused-reads.Asked,
   refused-reads.Learnt,
-  outer-in-reads.Asked,
-  outer-in-reads.Learnt,
+  read-outer-reads.Asked,
+  read-outer-reads.Learnt,
   packet-from-below t,
   packet-from.Post,
 ) (body-from-at t) body-from.Post
 body-from-part-inside-end t c = omega arith
 
-body-from-outer-in-requires : (t : ℕ) → body-from-lts.Need-outer-in-requires (
+body-from-read-outer-requires : (t : ℕ) → body-from-lts.Need-read-outer-requires (
   refused-reads.Asked,
   refused-reads.Learnt,
-  outer-in-reads.Asked,
-  outer-in-reads.Learnt,
+  read-outer-reads.Asked,
+  read-outer-reads.Learnt,
   packet-from-below t,
   packet-from.Post,
 ) (body-from-at t) body-from.Post
-body-from-outer-in-requires t c κs = search needs
+body-from-read-outer-requires t c κs = search needs
 
 body-from-sub-packet-from : (t : ℕ) → body-from-lts.Need-sub-packet-from (
   refused-reads.Asked,
   refused-reads.Learnt,
-  outer-in-reads.Asked,
-  outer-in-reads.Learnt,
+  read-outer-reads.Asked,
+  read-outer-reads.Learnt,
   packet-from-below t,
   packet-from.Post,
 ) (body-from-at t) body-from.Post
@@ -127,8 +127,8 @@ body-from-sub-packet-from t c = omega arith
 body-from-packet-from-requires : (t : ℕ) → body-from-lts.Need-packet-from-requires (
   refused-reads.Asked,
   refused-reads.Learnt,
-  outer-in-reads.Asked,
-  outer-in-reads.Learnt,
+  read-outer-reads.Asked,
+  read-outer-reads.Learnt,
   packet-from-below t,
   packet-from.Post,
 ) (body-from-at t) body-from.Post
@@ -137,8 +137,8 @@ body-from-packet-from-requires t c κs = omega arith
 body-from-returns-2 : (t : ℕ) → body-from-lts.Need-returns-2 (
   refused-reads.Asked,
   refused-reads.Learnt,
-  outer-in-reads.Asked,
-  outer-in-reads.Learnt,
+  read-outer-reads.Asked,
+  read-outer-reads.Learnt,
   packet-from-below t,
   packet-from.Post,
 ) (body-from-at t) body-from.Post
@@ -240,8 +240,8 @@ pub +body-from+packet-from-spec : {M : Type 1} → statement M
 +body-from+packet-from-spec = close μ-body-from μ-packet-from (λ t. body-from-lts.spec (
   refused-reads.Asked,
   refused-reads.Learnt,
-  outer-in-reads.Asked,
-  outer-in-reads.Learnt,
+  read-outer-reads.Asked,
+  read-outer-reads.Learnt,
   packet-from-below t,
   packet-from.Post,
 )
@@ -253,7 +253,7 @@ pub +body-from+packet-from-spec : {M : Type 1} → statement M
     (body-from-sub-inside t)
     (body-from-part-inside-start t)
     (body-from-part-inside-end t)
-    (body-from-outer-in-requires t)
+    (body-from-read-outer-requires t)
     (body-from-sub-packet-from t)
     (body-from-packet-from-requires t)
     (body-from-returns-2 t))

@@ -4,8 +4,8 @@ use borrow.Author.Needs.{needs}
 use Rattle.packet.proofs.read_any_length.Statement.{statement}
 use Rattle.packet.proofs.read_any_length.Tie as tie
 
-outer-in-requires : tie.Need-outer-in-requires
-outer-in-requires c κs = search needs
+read-outer-requires : tie.Need-read-outer-requires
+read-outer-requires c κs = search needs
 
 packet-from-requires : tie.Need-packet-from-requires
 packet-from-requires c κs = search needs
@@ -14,4 +14,4 @@ returns : tie.Need-returns
 returns c = search any-from
 
 pub read-any-length-spec : {M : Type 1} → statement M
-read-any-length-spec = tie.close (tie.spec outer-in-requires packet-from-requires returns)
+read-any-length-spec = tie.close (tie.spec read-outer-requires packet-from-requires returns)
