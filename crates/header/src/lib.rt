@@ -26,8 +26,8 @@ pub struct Hop {
     pub heard: bool,
 }
 
-// How many hops there are, and the hops in their order; those beyond `count` are blank. The count stands in front of them, where a
-// header has a gap behind its callsigns: next to the gap the hops would be copied with it and without, which no compiler joins.
+// How many hops there are, and the hops in their order; those beyond `count` are blank. The count stands first, since a header has a
+// gap behind its callsigns: next to it the hops are copied with the gap and without, and the compiler does not join the two.
 #[repr(C)]
 pub struct Path {
     pub count: usize,
