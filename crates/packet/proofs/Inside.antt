@@ -1,26 +1,28 @@
--- Third-party traffic (document 02, R-6): a packet whose body holds another is that one with a header around it, as long as so many may be
--- read; and what a record shows of places in the packet inside is there in the whole.
+-- Third-party traffic (document 02, R-6): a packet whose body holds another is that one with a header around it, unless it is the one that
+-- opens a fifth; and what a record shows of places in the packet inside is there in the whole.
 -- Assumes nothing.
 use mathlib.Core.Path.{_≡_, refl, sym, ap, _∙_}
-use mathlib.Core.Logic.{_⊎_, inl, inr, ⊎-elim}
-use mathlib.Core.Bool.{Bool, true, false, cond}
-use mathlib.Core.List.{List}
+use mathlib.Core.Bool.{Bool, true, false, cond, _&&_, true≢false}
+use mathlib.Core.List.{List, []}
 use Prim.Native.Nat.{ℕ, zero, suc, _+_, _≤_}
 use native.Mathlib.Omega.{arith}
-use borrow.Author.Tests.{eq-eqb, ne-eqb, eqb-true}
-use lib.Dec.{eqb}
-use lib.ListN.{take, drop}
+use borrow.Author.Tests.{eq-eqb, ne-eqb, eqb-true, le-ltb, ltb-false}
+use lib.Dec.{eqb, ltb}
+use lib.ListN.{length, take, drop, length-drop}
 use lib.Seq.{drop-drop}
+use Rattle.laws.specs.Lists.{indexOf}
 use Rattle.laws.proofs.Tests.{and-both}
 use Rattle.header.specs.declared.Header.{Header}
 use Rattle.header.specs.declared.HeaderRead.{HeaderRead}
-use Rattle.header.specs.Text.{readHeaderText}
+use Rattle.header.specs.Header.{mostBytes, headerRefused}
+use Rattle.header.specs.Text.{readHeaderText, readTextHeader}
+use Rattle.header.specs.Frame.{readFrameHeader}
 use Rattle.header.proofs.Theorems.{any-text-is-in-range}
 use Rattle.body.specs.declared.Span.{Span}
 use Rattle.body.proofs.TextBack.{spanned}
 use Rattle.packet.specs.declared.PacketRead.{PacketRead}
 use Rattle.packet.specs.Record.{packetRefused}
-use Rattle.packet.specs.Packet.{mostInner, holdsPacket, isNowhere, movedSpan, recordAround, packetAround, packetAfter, readAnyText}
+use Rattle.packet.specs.Packet.{mostInner, holdsPacket, isNowhere, movedSpan, recordAround, packetAround, unlessRefused, packetAfter, readAnyText, readText}
 use Rattle.packet.specs.Outer.{insideOf}
 use Rattle.packet.proofs.Ways.{accepted, inside, by-body, refused-is, alone-is, around-is}
 use Rattle.packet.proofs.Given.{after-given}
@@ -48,50 +50,10 @@ inside-accepted h at p = go (eqb (p .refusal) 0) refl
     go true e z = eqb-true (p .refusal) 0 e
     go false e z = z
 
--- ---- one level less
-
--- the same packet, or a fifth
-abbrev Less : PacketRead → PacketRead → Type 0
-Less p q = (p ≡ q) ⊎ (p ≡ packetRefused 19)
-
-around-less : (h : Header) (at : ℕ) (p q : PacketRead) → Less p q → Less (packetAround h at p) (packetAround h at q)
-unfolding packetAround packetRefused
-around-less h at p q = ⊎-elim (λ e. inl (ap (packetAround h at) e)) (λ e. inr (ap (packetAround h at) e))
-
-after-less : (k : ℕ) (h : HeaderRead) (s : List ℕ) → Less (inside k h s) (inside (suc k) h s) → Less (packetAfter k h s) (packetAfter (suc k) h s)
-after-less k h s l =
-    by-body (Less (packetAfter k h s) (packetAfter (suc k) h s)) h s
-    (λ z. inl (refused-is k h s z ∙ sym (refused-is (suc k) h s z)))
-    (λ z e. inl (alone-is k h s z e ∙ sym (alone-is (suc k) h s z e)))
-    (λ z e. rw (around-is k h s z e, around-is (suc k) h s z e) (around-less (h .header) (h .body + 1) (inside k h s) (inside (suc k) h s) l))
-
-inside-less : (k : ℕ) (t : List ℕ) → Less (insideOf k t) (insideOf (suc k) t)
-unfolding insideOf
-inside-less zero t = inr refl
-inside-less (suc k) t = after-less k (readHeaderText t) t (inside-less k (drop (readHeaderText t .body + 1) t))
-
--- a packet with fewer inside than may be read needs one level less
-module _ (k : ℕ) (h : HeaderRead) (s : List ℕ) (so : inside (suc k) h s .refusal ≡ 0 → inside (suc k) h s .«record» .inner + 1 ≤ k → inside k h s ≡ inside (suc k) h s) where
-  around-enough : packetAround (h .header) (h .body + 1) (inside (suc k) h s) .refusal ≡ 0 → packetAround (h .header) (h .body + 1) (inside (suc k) h s) .«record» .inner ≤ k
-      → packetAround (h .header) (h .body + 1) (inside k h s) ≡ packetAround (h .header) (h .body + 1) (inside (suc k) h s)
-  around-enough z few =
-      let y = inside-accepted (h .header) (h .body + 1) (inside (suc k) h s) z in
-      let n : packetAround (h .header) (h .body + 1) (inside (suc k) h s) .«record» .inner ≡ inside (suc k) h s .«record» .inner + 1
-      = ap (λ (p : PacketRead). p .«record» .inner) (around-accepted (h .header) (h .body + 1) (inside (suc k) h s) y) ∙ (unfold recordAround in refl) in
-      ap (packetAround (h .header) (h .body + 1)) (so y (omega (arith, few, n)))
-
-  after-enough : packetAfter (suc k) h s .refusal ≡ 0 → packetAfter (suc k) h s .«record» .inner ≤ k → packetAfter k h s ≡ packetAfter (suc k) h s
-  after-enough =
-      by-body (packetAfter (suc k) h s .refusal ≡ 0 → packetAfter (suc k) h s .«record» .inner ≤ k → packetAfter k h s ≡ packetAfter (suc k) h s) h s
-      (λ z a few. refused-is k h s z ∙ sym (refused-is (suc k) h s z))
-      (λ z e a few. alone-is k h s z e ∙ sym (alone-is (suc k) h s z e))
-      (λ z e. rw (around-is k h s z e, around-is (suc k) h s z e) around-enough)
-
-inside-enough : (k : ℕ) (t : List ℕ) → insideOf (suc k) t .refusal ≡ 0 → insideOf (suc k) t .«record» .inner + 1 ≤ k → insideOf k t ≡ insideOf (suc k) t
-unfolding insideOf
-inside-enough zero t z few = absurd (omega (arith, few))
-inside-enough (suc k) t z few =
-    after-enough k (readHeaderText t) t (inside-enough k (drop (readHeaderText t .body + 1) t)) z (omega (arith, few))
+-- and the whole's number is one higher
+around-number : (h : Header) (at : ℕ) (p : PacketRead) → packetAround h at p .refusal ≡ 0 → packetAround h at p .«record» .inner ≡ p .«record» .inner + 1
+unfolding recordAround
+around-number h at p z = ap (λ (x : PacketRead). x .«record» .inner) (around-accepted h at p (inside-accepted h at p z))
 
 -- ---- a packet around another
 
@@ -107,37 +69,149 @@ insideAt h = h .body + 1
 abbrev pub insideText : List ℕ → HeaderRead → List ℕ
 insideText s h = drop (insideAt h) s
 
-module _ (s : List ℕ) (h : HeaderRead) (x : Holds s h) where
-  -- the text inside by itself has one level more
-  by-itself : readAnyText (insideText s h) ≡ insideOf (suc mostInner) (insideText s h)
-  unfolding readAnyText insideOf
-  by-itself = refl
+-- ---- more packets, each in the body of the one before, than so many
 
-  the-whole : packetAfter mostInner h s ≡ packetAround (h .header) (insideAt h) (insideOf mostInner (insideText s h))
-  the-whole = around-is mostInner h s (x .read) (x .holds)
+-- whether a header was read and the body behind it holds a packet
+abbrev isHeld : List ℕ → HeaderRead → Bool
+isHeld s h = eqb (h .refusal) 0 && holdsPacket s (h .body)
+
+-- the headers around the last of them were read; its own is not looked at
+abbrev pub holdsOver : ℕ → List ℕ → HeaderRead → Bool
+holdsOver zero s h = isHeld s h
+holdsOver (suc left) s h = isHeld s h && holdsOver left (insideText s h) (readHeaderText (insideText s h))
+
+is-held : (s : List ℕ) (h : HeaderRead) → Holds s h → isHeld s h ≡ true
+is-held s h x = rw (eq-eqb (h .refusal) 0 (x .read), x .holds)
+
+held : (s : List ℕ) (h : HeaderRead) → isHeld s h ≡ true → Holds s h
+held s h e =
+    let both = and-both (eqb (h .refusal) 0) (holdsPacket s (h .body)) e in
+    record { read = eqb-true (h .refusal) 0 (both .0); holds = both .1 }
+
+module _ (left : ℕ) (s : List ℕ) (h : HeaderRead) where
+  abbrev rest : Bool
+  rest = holdsOver left (insideText s h) (readHeaderText (insideText s h))
+
+  first-held : holdsOver (suc left) s h ≡ true → Holds s h
+  first-held e = held s h (and-both (isHeld s h) rest e .0)
+
+  rest-over : holdsOver (suc left) s h ≡ true → rest ≡ true
+  rest-over e = and-both (isHeld s h) rest e .1
+
+-- the whole is then refused with 19, whatever the last of them is
+over-is-19 : (left : ℕ) (s : List ℕ) (h : HeaderRead) → holdsOver left s h ≡ true → packetAfter left h s ≡ packetRefused 19
+unfolding insideOf
+over-is-19 zero s h e = let x = held s h e in around-is zero h s (x .read) (x .holds) ∙ around-fifth (h .header) (insideAt h)
+over-is-19 (suc k) s h e =
+    let x = first-held k s h e in
+    around-is (suc k) h s (x .read) (x .holds)
+    ∙ ap (packetAround (h .header) (insideAt h)) (over-is-19 k (insideText s h) (readHeaderText (insideText s h)) (rest-over k s h e)) ∙ around-fifth (h .header) (insideAt h)
+
+-- without them one level more gives the same packet
+module _ (left : ℕ) (s : List ℕ) (h : HeaderRead) (same : isHeld s h ≡ true → inside left h s ≡ inside (suc left) h s) where
+  after-same : packetAfter left h s ≡ packetAfter (suc left) h s
+  after-same =
+      by-body (packetAfter left h s ≡ packetAfter (suc left) h s) h s
+      (λ z. refused-is left h s z ∙ sym (refused-is (suc left) h s z))
+      (λ z e. alone-is left h s z e ∙ sym (alone-is (suc left) h s z e))
+      (λ z e. around-is left h s z e ∙ ap (packetAround (h .header) (insideAt h)) (same (is-held s h (record { read = z; holds = e }))) ∙ sym (around-is (suc left) h s z e))
+
+enough : (left : ℕ) (s : List ℕ) (h : HeaderRead) → holdsOver left s h ≡ false → packetAfter left h s ≡ packetAfter (suc left) h s
+unfolding insideOf
+enough zero s h n = after-same zero s h (λ e. absurd (true≢false (sym e ∙ n)))
+enough (suc k) s h n = after-same (suc k) s h (λ e. enough k (insideText s h) (readHeaderText (insideText s h)) (rw e at n))
+
+-- and a packet that is accepted with one level more has them all inside
+over-number : (left : ℕ) (s : List ℕ) (h : HeaderRead) → holdsOver left s h ≡ true → packetAfter (suc left) h s .refusal ≡ 0 → left + 1 ≤ packetAfter (suc left) h s .«record» .inner
+unfolding insideOf
+over-number zero s h e = let x = held s h e in rw (around-is 1 h s (x .read) (x .holds)) (λ a. omega (arith, around-number (h .header) (insideAt h) (inside 1 h s) a))
+over-number (suc k) s h e =
+    let x = first-held k s h e in
+    rw (around-is (suc (suc k)) h s (x .read) (x .holds))
+    (λ a.
+    omega (
+      arith,
+      around-number (h .header) (insideAt h) (inside (suc (suc k)) h s) a,
+      over-number k (insideText s h) (readHeaderText (insideText s h)) (rest-over k s h e) (inside-accepted (h .header) (insideAt h) (inside (suc (suc k)) h s) a),
+    ))
+
+-- ---- the whole, by what the text inside is by itself
+
+-- four packets in a text: with a header around it the last of them is the fifth
+abbrev pub holdsFour : List ℕ → Bool
+holdsFour t = holdsOver 3 t (readHeaderText t)
+
+module _ (t : List ℕ) where
+  under-four : readAnyText t .refusal ≡ 0 → readAnyText t .«record» .inner ≤ 3 → holdsFour t ≡ false
+  unfolding readAnyText
+  under-four z few = go (holdsFour t) refl
+    where
+      go : (b : Bool) → holdsFour t ≡ b → b ≡ false
+      go true e = absurd (omega (arith, few, over-number 3 t (readHeaderText t) e z))
+      go false e = refl
+
+  pub four-inside : readAnyText t .«record» .inner ≡ 4 → holdsFour t ≡ true
+  unfolding readAnyText
+  four-inside four = go (holdsFour t) refl
+    where
+      three : holdsFour t ≡ false → packetAfter mostInner (readHeaderText t) t .«record» .inner ≤ 3
+      three e = rw (← enough 3 t (readHeaderText t) e) (after-given 3 (readHeaderText t) t (any-text-is-in-range t) .number)
+
+      go : (b : Bool) → holdsFour t ≡ b → b ≡ true
+      go true e = refl
+      go false e = absurd (omega (arith, four, three e))
+
+module _ (s : List ℕ) (h : HeaderRead) (x : Holds s h) where
+  abbrev text : List ℕ
+  text = insideText s h
+
+  the-whole : packetAfter mostInner h s ≡ packetAround (h .header) (insideAt h) (packetAfter 3 (readHeaderText text) text)
+  the-whole = around-is mostInner h s (x .read) (x .holds) ∙ (unfold insideOf in refl)
+
+  -- 19, whatever stands behind the brace
+  pub after-fifth : holdsFour text ≡ true → packetAfter mostInner h s ≡ packetRefused 19
+  after-fifth e = the-whole ∙ ap (packetAround (h .header) (insideAt h)) (over-is-19 3 text (readHeaderText text) e) ∙ around-fifth (h .header) (insideAt h)
+
+  after-around : holdsFour text ≡ false → packetAfter mostInner h s ≡ packetAround (h .header) (insideAt h) (readAnyText text)
+  unfolding readAnyText
+  after-around n = the-whole ∙ ap (packetAround (h .header) (insideAt h)) (enough 3 text (readHeaderText text) n)
 
   -- with up to three packets inside it: the header around it, and one more
-  pub after-around : readAnyText (insideText s h) .refusal ≡ 0 → readAnyText (insideText s h) .«record» .inner ≤ 3
-      → packetAfter mostInner h s ≡ accepted (recordAround (h .header) (insideAt h) (readAnyText (insideText s h) .«record»))
-  after-around z few =
-      let same : insideOf mostInner (insideText s h) ≡ readAnyText (insideText s h)
-      = rw by-itself (inside-enough mostInner (insideText s h) (rw by-itself at z) (omega (arith, rw by-itself at few))) in
-      the-whole ∙ ap (packetAround (h .header) (insideAt h)) same ∙ around-accepted (h .header) (insideAt h) (readAnyText (insideText s h)) z
+  pub after-accepted : readAnyText text .refusal ≡ 0 → readAnyText text .«record» .inner ≤ 3
+      → packetAfter mostInner h s ≡ accepted (recordAround (h .header) (insideAt h) (readAnyText text .«record»))
+  after-accepted z few = after-around (under-four text z few) ∙ around-accepted (h .header) (insideAt h) (readAnyText text) z
 
-  -- with four it is the fifth
-  pub after-fifth : readAnyText (insideText s h) .«record» .inner ≡ mostInner → packetAfter mostInner h s ≡ packetRefused 19
-  unfolding insideOf
-  after-fifth four =
-      ⊎-elim (λ e. absurd (omega (arith, four, few e))) (λ e. the-whole ∙ ap (packetAround (h .header) (insideAt h)) e ∙ around-fifth (h .header) (insideAt h)) (inside-less mostInner (insideText s h))
+  -- a fault inside keeps its number
+  pub after-faulty : (readAnyText text .refusal ≡ 0 → ⊥) → holdsFour text ≡ false → packetAfter mostInner h s ≡ packetRefused (readAnyText text .refusal)
+  after-faulty z n = after-around n ∙ around-refused (h .header) (insideAt h) (readAnyText text) z
+
+  -- no header stands inside
+  pub after-nothing : text ≡ [] → packetAfter mostInner h s ≡ packetRefused 2
+  after-nothing e =
+      the-whole
+      ∙ ap (λ (l : List ℕ). packetAround (h .header) (insideAt h) (packetAfter 3 (readHeaderText l) l)) e
+      ∙ (unfold packetAfter unlessRefused readHeaderText indexOf headerRefused packetRefused packetAround in refl)
+
+-- ---- a line or a frame: the text inside is no longer than it
+
+short-inside : (s : List ℕ) (k : ℕ) → ltb mostBytes (length s) ≡ false → readText (drop k s) ≡ readAnyText (drop k s)
+unfolding readText
+short-inside s k e = let l = ltb-false mostBytes (length s) e in rw (le-ltb mostBytes (length (drop k s)) (omega (arith, length-drop k s)))
+
+module _ (s : List ℕ) (k : ℕ) where
+  by-header : (h : HeaderRead) → (ltb mostBytes (length s) ≡ true → h ≡ headerRefused 1) → h .refusal ≡ 0 → readText (drop k s) ≡ readAnyText (drop k s)
+  unfolding headerRefused
+  by-header h long z = go (ltb mostBytes (length s)) refl
     where
-      few : insideOf mostInner (insideText s h) ≡ insideOf (suc mostInner) (insideText s h) → readAnyText (insideText s h) .«record» .inner ≤ 3
-      few e = rw (by-itself, ← e) (after-given 3 (readHeaderText (insideText s h)) (insideText s h) (any-text-is-in-range (insideText s h)) .number)
+      go : (b : Bool) → ltb mostBytes (length s) ≡ b → readText (drop k s) ≡ readAnyText (drop k s)
+      go true e = absurd (omega (arith, z, ap (λ (x : HeaderRead). x .refusal) (long e)))
+      go false e = short-inside s k e
 
-  -- a fault inside is the whole's, but for one behind a fifth
-  pub after-faulty : (readAnyText (insideText s h) .refusal ≡ 0 → ⊥) → (packetAfter mostInner h s ≡ packetRefused (readAnyText (insideText s h) .refusal)) ⊎ (packetAfter mostInner h s ≡ packetRefused 19)
-  after-faulty z =
-      ⊎-elim (λ e. inl (the-whole ∙ ap (packetAround (h .header) (insideAt h)) (e ∙ sym by-itself) ∙ around-refused (h .header) (insideAt h) (readAnyText (insideText s h)) z))
-      (λ e. inr (the-whole ∙ ap (packetAround (h .header) (insideAt h)) e ∙ around-fifth (h .header) (insideAt h))) (inside-less mostInner (insideText s h))
+  pub text-inside : readTextHeader s .refusal ≡ 0 → readText (drop k s) ≡ readAnyText (drop k s)
+  text-inside = by-header (readTextHeader s) (λ e. unfold readTextHeader in rw e)
+
+  pub frame-inside : readFrameHeader s .refusal ≡ 0 → readText (drop k s) ≡ readAnyText (drop k s)
+  frame-inside = by-header (readFrameHeader s) (λ e. unfold readFrameHeader in rw e)
 
 -- ---- places
 

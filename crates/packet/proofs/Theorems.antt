@@ -2,7 +2,6 @@
 -- packets, and what of it is not written.
 -- Assumes nothing.
 use mathlib.Core.Path.{_≡_, refl, ap, _∙_}
-use mathlib.Core.Logic.{_⊎_}
 use mathlib.Core.Bool.{Bool, true, false, not, cond}
 use mathlib.Core.List.{List, []}
 use Prim.Native.Nat.{ℕ, _+_, _≤_}
@@ -10,11 +9,10 @@ use native.Mathlib.Omega.{arith}
 use lib.Dec.{ltb}
 use lib.ListN.{length, drop}
 use Rattle.laws.specs.Bytes.{colon, greater}
-use Rattle.laws.specs.Lists.{indexOf}
 use Rattle.laws.proofs.Unique.{alike-without}
 use Rattle.buffer.specs.Wrote.{overBy, wrote}
 use Rattle.header.specs.declared.HeaderRead.{HeaderRead}
-use Rattle.header.specs.Header.{mostBytes, blankHeader, headerRefused}
+use Rattle.header.specs.Header.{mostBytes, blankHeader}
 use Rattle.header.specs.Text.{readHeaderText, readTextHeader}
 use Rattle.header.specs.Frame.{readFrameHeader}
 use Rattle.header.specs.Range.{frameRefusal as headerFrameRefusal}
@@ -29,11 +27,11 @@ use Rattle.packet.specs.declared.Record.{Record}
 use Rattle.packet.specs.declared.PacketRead.{PacketRead}
 use Rattle.packet.specs.Record.{blankRecord, packetRefused}
 use Rattle.packet.specs.Range.{recordInRange, rangeRefusal}
-use Rattle.packet.specs.Packet.{mostInner, movedSpan, recordAround, unlessRefused, packetAfter, readAnyText, readText, readFrame}
+use Rattle.packet.specs.Packet.{mostInner, movedSpan, recordAround, packetAfter, readAnyText, readText, readFrame}
 use Rattle.packet.specs.Written.{writtenHeader, textBytes, frameBytes, orElse, contentRefusal, recordRefusal, textRefusal, frameRefusal}
 use Rattle.packet.proofs.Packets.{any-is, line-read, frame-is}
 use Rattle.packet.proofs.Order.{or-or, inside-refuses}
-use Rattle.packet.proofs.Inside.{Holds, insideAt, insideText, after-around, after-fifth, after-faulty, moved-shows}
+use Rattle.packet.proofs.Inside.{Holds, insideAt, insideText, holdsFour, four-inside, after-accepted, after-faulty, after-fifth, after-nothing, text-inside, frame-inside, moved-shows}
 use Rattle.packet.proofs.Given.{Given, after-blank, refused-first, given-range, any-text-given, text-given, frame-given}
 use Rattle.packet.proofs.Times.{TimeKept, any-text-time-kept, text-time-kept, frame-time-kept}
 use Rattle.packet.proofs.Texts.{PacketText, Starts, any-text-message, any-text-status, text-message, text-status, frame-message, frame-status, message-line-short, message-line-fits, message-frame-fits, status-line-fits, status-frame-fits}
@@ -200,29 +198,31 @@ pub frame-blank-at-0 : (s : List ℕ) → readFrame s .«record» .inner ≡ 0 �
 frame-blank-at-0 s = frame-given s .blank
 
 -- what a packet is whose header was read and whose body holds a text, by what that text is by itself: with up to three packets inside it,
--- its record with the outermost header, the number one higher and the places moved by where it starts; with four, 19; refused, the same
--- refusal, or 19 for a fault behind a fifth
-pub record ThirdParty (h : HeaderRead) (inner p : PacketRead) : Type 0 where
+-- its record with the outermost header, the number one higher and the places moved by where it starts; refused, the same refusal; where
+-- it holds four, as its number says if it is accepted, 19, whatever the fourth is; and "`}` alone is 2"
+pub record ThirdParty (h : HeaderRead) (text : List ℕ) (inner p : PacketRead) : Type 0 where
   pub accepted : inner .refusal ≡ 0 → inner .«record» .inner ≤ 3 → p ≡ record { refusal = 0; «record» = recordAround (h .header) (insideAt h) (inner .«record») }
-  pub fifth : inner .«record» .inner ≡ 4 → p ≡ packetRefused 19
-  pub faulty : (inner .refusal ≡ 0 → ⊥) → (p ≡ packetRefused (inner .refusal)) ⊎ (p ≡ packetRefused 19)
+  pub faulty : (inner .refusal ≡ 0 → ⊥) → holdsFour text ≡ false → p ≡ packetRefused (inner .refusal)
+  pub fifth : holdsFour text ≡ true → p ≡ packetRefused 19
+  pub four : inner .«record» .inner ≡ 4 → holdsFour text ≡ true
+  pub nothing : text ≡ [] → p ≡ packetRefused 2
 
-after-third-party : (s : List ℕ) (h : HeaderRead) → Holds s h → ThirdParty h (readAnyText (insideText s h)) (packetAfter mostInner h s)
-after-third-party s h x = record { accepted = after-around s h x; fifth = after-fifth s h x; faulty = after-faulty s h x }
+after-third-party : (s : List ℕ) (h : HeaderRead) → Holds s h → ThirdParty h (insideText s h) (readAnyText (insideText s h)) (packetAfter mostInner h s)
+after-third-party s h x =
+    record { accepted = after-accepted s h x; faulty = after-faulty s h x; fifth = after-fifth s h x; four = four-inside (insideText s h); nothing = after-nothing s h x }
 
-pub any-text-third-party : (s : List ℕ) → Holds s (readHeaderText s) → ThirdParty (readHeaderText s) (readAnyText (insideText s (readHeaderText s))) (readAnyText s)
+pub any-text-third-party : (s : List ℕ) → Holds s (readHeaderText s)
+    → ThirdParty (readHeaderText s) (insideText s (readHeaderText s)) (readAnyText (insideText s (readHeaderText s))) (readAnyText s)
 any-text-third-party s x = rw (any-is s) (after-third-party s (readHeaderText s) x)
 
-pub text-third-party : (s : List ℕ) → Holds s (readTextHeader s) → ThirdParty (readTextHeader s) (readAnyText (insideText s (readTextHeader s))) (readText s)
-text-third-party s x = rw (← line-read s) (after-third-party s (readTextHeader s) x)
+-- of a line and of a frame the text inside is a line by itself
+pub text-third-party : (s : List ℕ) → Holds s (readTextHeader s)
+    → ThirdParty (readTextHeader s) (insideText s (readTextHeader s)) (readText (insideText s (readTextHeader s))) (readText s)
+text-third-party s x = rw (text-inside s (insideAt (readTextHeader s)) (x .read), ← line-read s) (after-third-party s (readTextHeader s) x)
 
-pub frame-third-party : (s : List ℕ) → Holds s (readFrameHeader s) → ThirdParty (readFrameHeader s) (readAnyText (insideText s (readFrameHeader s))) (readFrame s)
-frame-third-party s x = rw (frame-is s) (after-third-party s (readFrameHeader s) x)
-
--- "`}` alone is 2": so is a text inside that has no header
-pub nothing-inside-is-2 : readAnyText [] ≡ packetRefused 2
-unfolding readAnyText packetAfter unlessRefused readHeaderText indexOf headerRefused
-nothing-inside-is-2 = refl
+pub frame-third-party : (s : List ℕ) → Holds s (readFrameHeader s)
+    → ThirdParty (readFrameHeader s) (insideText s (readFrameHeader s)) (readText (insideText s (readFrameHeader s))) (readFrame s)
+frame-third-party s x = rw (frame-inside s (insideAt (readFrameHeader s)) (x .read), frame-is s) (after-third-party s (readFrameHeader s) x)
 
 -- "places counted in the whole input": what stands at a place inside stands at the moved one in the whole
 pub moved-places-show-the-same : (by : ℕ) (s : List ℕ) (p : Span) → spanned (movedSpan by p) s ≡ spanned p (drop by s)
