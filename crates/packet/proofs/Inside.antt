@@ -1,5 +1,5 @@
--- Third-party traffic (document 02, R-6): a packet whose body holds another is that one with a header around it, unless it is the one that
--- opens a fifth; and what a record shows of places in the packet inside is there in the whole.
+-- Third-party traffic (document 02, R-6): a packet whose body holds another is that one with a header around it, or 19 where a fifth
+-- stands inside; and what a record shows of places in the packet inside is there in the whole.
 -- Assumes nothing.
 use mathlib.Core.Path.{_≡_, refl, sym, ap, _∙_}
 use mathlib.Core.Bool.{Bool, true, false, cond, _&&_, true≢false}
