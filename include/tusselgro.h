@@ -63,7 +63,7 @@ static inline const char *tusselgro_meaning(uint8_t refusal) {
         "a callsign or hop is malformed",
         "callsign text over 16 bytes",
         "a ninth hop",
-        "a Q element: a textual hop of three bytes that starts qA",
+        "a textual hop of three bytes that starts qA and is none of the ten Q elements",
         "not carried: body starts '!' '=' '/' '@' with a compressed position",
         "latitude cannot be read",
         "longitude cannot be read",
@@ -137,10 +137,10 @@ enum {
  *
  * had_zero_ssid is a mark: the text that was read had the SSID '0', which is dropped. N0CALL-0 is read as N0CALL with
  * the mark, and written as N0CALL. It is set where the SSID, once the star is off, is the one byte '0': of A-0 and
- * A-0*, not of A-00, A-0-0 or A-+0. A frame's addresses never set it, nor does anything that is refused. A Mic-E body's
- * header has no destination, and no mark of one. Writers ignore the mark wherever it is: beside an SSID, and in a
- * destination, a hop or an innermost header that must otherwise be all zeros. Two callsigns that differ in it alone are
- * the same callsign.
+ * A-0*, not of A-00, A-0-0 or A-+0. A frame's addresses never set it, nor does a Q element or anything that is refused.
+ * A Mic-E body's header has no destination, and no mark of one. Writers ignore the mark wherever it is: beside an SSID,
+ * in a Q element, and in a destination, a hop or an innermost header that must otherwise be all zeros. Two callsigns that
+ * differ in it alone are the same callsign.
  *
  * Both lengths are bytes. A length over 255 must be tested before it is put here: C keeps its last eight bits, which
  * may be in range. Before the mark was here the lengths were size_t, and tusselgro_callsign_read had the mark as zero;
@@ -153,13 +153,41 @@ typedef struct {
     bool had_zero_ssid;
 } tusselgro_callsign;
 
-/* A hop of the path, and whether it was heard. 20 bytes. */
+/* What a hop is: a callsign that was not heard, one that was, or a Q element. A writer refuses any other number with
+   15. TUSSELGRO_Q_ELEMENT is none of them: it is refusal 6. */
+enum { TUSSELGRO_NOT_HEARD = 0, TUSSELGRO_HEARD = 1, TUSSELGRO_Q_CONSTRUCT = 2 };
+
+/*
+ * A hop of the path. 20 bytes.
+ *
+ * A Q element is what a server of APRS-IS puts into a path: qAC, qAX, qAU, qAo, qAO, qAS, qAr, qAR, qAZ or qAI. Its name
+ * stands in call as a callsign would: call_len is 3, there is no SSID, and had_zero_ssid is false. A hop in text is read
+ * as a Q element where it is just the three bytes of a name. Any other three bytes that start qA are refused with 6, qAc
+ * and qA* among them. qAC*, qAC-0 and QAC are callsigns, and so are qAC as source or destination and every address of a
+ * frame.
+ *
+ * In text a star says that its callsign was heard, and every callsign before it. A Q element has no star and is never
+ * heard, but stars count past it: of A,qAC,B* both A and B were heard.
+ *
+ * As text a Q element is written at its place, and the star behind the last callsign that was heard. In a frame Q
+ * elements are left out, so none is ever refused with 13; the last callsign that is left is marked last, or the source
+ * where none is left.
+ *
+ * A writer refuses with 15 a kind over 2, and a Q element whose callsign is out of range or is none of the ten names, as
+ * one with an SSID. A callsign that is spelt as a name is in range and written as it stands: A>B,qAC*,X* is read as two
+ * callsigns that were heard, and written as A>B,qAC,X*, which is read as a Q element and a callsign.
+ *
+ * Before Q elements were here a line with one was refused with 6, and kind was a bool, heard. No size has changed, and 0
+ * and 1 mean what false and true did, but a bool must not hold 2: what was compiled with that header must be compiled
+ * again.
+ */
 typedef struct {
-    tusselgro_callsign call;
-    bool heard;
+    tusselgro_callsign call; /* or the name of a Q element */
+    uint8_t kind;            /* TUSSELGRO_NOT_HEARD, .._HEARD or .._Q_CONSTRUCT */
 } tusselgro_hop;
 
-/* How many hops there are, and the hops in their order; those past count are all zeros. 168 bytes. */
+/* How many hops there are, Q elements among them, and the hops in their order; those past count are all zeros, their
+   kind too. 168 bytes. */
 typedef struct {
     size_t count;
     tusselgro_hop hops[TUSSELGRO_MOST_HOPS];
@@ -324,7 +352,8 @@ tusselgro_read tusselgro_read_frame(const uint8_t *frame, size_t frame_len);
 tusselgro_answer tusselgro_write_text(tusselgro_record record, const uint8_t *comment, size_t comment_len,
                                       const uint8_t *identifier, size_t identifier_len, uint8_t *out, size_t out_len);
 
-/* Writes a record as an AX.25 frame, without flags and checksum. Refusals: 15, 14, 18, 13, 1, 16. */
+/* Writes a record as an AX.25 frame, without flags and checksum, and without the Q elements of its path. Refusals: 15,
+   14, 18, 13, 1, 16. */
 tusselgro_answer tusselgro_write_frame(tusselgro_record record, const uint8_t *comment, size_t comment_len,
                                        const uint8_t *identifier, size_t identifier_len, uint8_t *out, size_t out_len);
 
@@ -341,7 +370,7 @@ typedef struct {
     uint8_t refusal;
 } tusselgro_callsign_read;
 
-/* Reads a callsign's text, with or without a star behind it. Refusals: 4, 3. */
+/* Reads a callsign's text, with or without a star behind it; qAC too, which as a hop is a Q element. Refusals: 4, 3. */
 tusselgro_callsign_read tusselgro_read_callsign(const uint8_t *text, size_t text_len);
 
 /* Writes a callsign as text, with a star behind it if starred. Refusals: 15, 16. */

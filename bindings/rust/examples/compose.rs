@@ -1,8 +1,8 @@
 // Builds five packets, a position, one with a time, a message, a status and a Mic-E report, and writes each as a line of
-// text and as an AX.25 frame.
+// text and as an AX.25 frame. The first has a Q element in its path, which its frame is written without.
 
 use tusselgro::mic_e::{Course, Message, Speed};
-use tusselgro::{AprsPacket, Latitude, Longitude, Refusal, Timestamp};
+use tusselgro::{AprsPacket, Latitude, Longitude, QConstruct, Refusal, Timestamp};
 
 fn print(packet: &AprsPacket<'_>) -> Result<(), Refusal> {
     let mut line = Vec::new();
@@ -23,6 +23,8 @@ fn main() -> Result<(), Refusal> {
     let longitude = Longitude::from_dmh(72, 1, 75, false)?;
     let position = AprsPacket::position("N7LEM", "NJ7P", latitude, longitude)
         .heard_hop("N0CALL-1")
+        .q_construct(QConstruct::AR)
+        .hop("W1AW")
         .symbol(b'/', b'-')
         .comment(b"Test 001234")
         .build()?;

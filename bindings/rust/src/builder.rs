@@ -8,6 +8,7 @@ use crate::mic_e::{AprsMicE, Course, Message, Speed};
 use crate::packet::{AprsData, AprsPacket};
 use crate::position::AprsPosition;
 use crate::precision::Precision;
+use crate::q_construct::QConstruct;
 use crate::refusal::Refusal;
 use crate::status::AprsStatus;
 use crate::timestamp::Timestamp;
@@ -126,22 +127,43 @@ impl<B> PacketBuilder<B> {
         self.refusal = self.refusal.or(Some(refusal));
     }
 
-    fn via(mut self, callsign: impl IntoCallsign, heard: bool) -> Self {
-        let callsign = self.callsign(callsign);
-        if let Err(refusal) = self.via.push(Via::Callsign(callsign, heard)) {
+    fn via(mut self, via: Via) -> Self {
+        if let Err(refusal) = self.via.push(via) {
             self.note(refusal);
         }
         self
     }
 
-    /// Puts a hop behind the others that was not heard yet.
-    pub fn hop(self, callsign: impl IntoCallsign) -> Self {
-        self.via(callsign, false)
+    /// Puts a hop behind the others that was not heard yet. It is a callsign, also one that is spelt as a Q element;
+    /// [`q_construct`](Self::q_construct) puts such an element.
+    pub fn hop(mut self, callsign: impl IntoCallsign) -> Self {
+        let callsign = self.callsign(callsign);
+        self.via(Via::Callsign(callsign, false))
     }
 
     /// Puts a hop behind the others that was heard.
-    pub fn heard_hop(self, callsign: impl IntoCallsign) -> Self {
-        self.via(callsign, true)
+    pub fn heard_hop(mut self, callsign: impl IntoCallsign) -> Self {
+        let callsign = self.callsign(callsign);
+        self.via(Via::Callsign(callsign, true))
+    }
+
+    /// Puts a Q element behind the other hops. A frame is written without it.
+    ///
+    /// ```
+    /// use tusselgro::{AprsPacket, QConstruct};
+    ///
+    /// let packet = AprsPacket::status("N7LEM", "APRS", b"hi")
+    ///     .heard_hop("TCPIP")
+    ///     .q_construct(QConstruct::AC)
+    ///     .hop("T2TEXAS")
+    ///     .build()?;
+    /// let mut line = Vec::new();
+    /// packet.encode_textual(&mut line)?;
+    /// assert_eq!(line, b"N7LEM>APRS,TCPIP*,qAC,T2TEXAS:>hi");
+    /// # Ok::<(), tusselgro::Refusal>(())
+    /// ```
+    pub fn q_construct(self, q: QConstruct) -> Self {
+        self.via(Via::QConstruct(q))
     }
 
     /// The packet, or the first refusal of a callsign, a hop or an addressee.
@@ -304,6 +326,18 @@ mod tests {
     }
 
     #[test]
+    fn a_q_element_is_not_a_callsign_of_its_name() {
+        let status = || AprsPacket::status("A", "B", b"");
+        let q = status().q_construct(QConstruct::AC).heard_hop("C").build();
+        let callsign = status().hop("qAC").heard_hop("C").build();
+        assert_ne!(q, callsign);
+        let expected = b"A>B,qAC,C*:>";
+        assert_eq!(line(&callsign.unwrap()), expected);
+        assert_eq!(AprsPacket::decode_textual(expected), q);
+        assert_eq!(line(&q.unwrap()), expected);
+    }
+
+    #[test]
     fn what_is_not_told_has_its_default() {
         let (latitude, longitude) = place();
         let position = AprsPacket::position("A", "B", latitude, longitude).build();
@@ -346,6 +380,14 @@ mod tests {
             builder.hop("B")
         });
         assert_eq!(nine.build(), Err(Refusal::TooManyHops));
+        let eight = (0..8).fold(AprsPacket::status("A", "B", b""), |builder, _| {
+            builder.q_construct(QConstruct::AR)
+        });
+        assert!(eight.clone().build().is_ok());
+        assert_eq!(
+            eight.q_construct(QConstruct::AR).build(),
+            Err(Refusal::TooManyHops)
+        );
         let ten = AprsPacket::message("A", "B", "0123456789", b"").hop("C-");
         assert_eq!(ten.build(), Err(Refusal::Malformed));
         let both = AprsPacket::message("A", "B-", "0123456789", b"");

@@ -24,6 +24,13 @@ pub const DHM_LOCAL: u8 = b'/';
 /// The form of a time: hour, minute and second in UTC.
 pub const HMS_UTC: u8 = b'h';
 
+/// The kind of a hop: a callsign that was not heard.
+pub const NOT_HEARD: u8 = 0;
+/// The kind of a hop: a callsign that was heard.
+pub const HEARD: u8 = 1;
+/// The kind of a hop: a Q element.
+pub const Q_CONSTRUCT: u8 = 2;
+
 /// The field of an address: where a frame goes to.
 pub const DESTINATION: u8 = 0;
 /// The field of an address: where a frame comes from.
@@ -102,17 +109,17 @@ impl Hash for Callsign {
 #[repr(C)]
 #[derive(Clone, Copy, Debug, Default, PartialEq, Eq)]
 pub struct Hop {
-    /// Its callsign.
+    /// Its callsign, or the name of a Q element, which has no SSID.
     pub call: Callsign,
-    /// Whether it was heard.
-    pub heard: bool,
+    /// [`NOT_HEARD`], [`HEARD`] or [`Q_CONSTRUCT`].
+    pub kind: u8,
 }
 
 /// The hops in their order.
 #[repr(C)]
 #[derive(Clone, Copy, Debug, Default, PartialEq, Eq)]
 pub struct Path {
-    /// How many there are.
+    /// How many there are, Q elements among them.
     pub count: usize,
     /// Those past `count` are 0.
     pub hops: [Hop; MOST_HOPS],
@@ -620,6 +627,14 @@ mod tests {
     }
 
     #[test]
+    fn a_hop_has_its_kind_where_the_header_has_it() {
+        let path = Path::default();
+        let at = |part: *const u8| part as usize - &path as *const Path as usize;
+        let kinds = path.hops.iter().map(|hop| at(&hop.kind));
+        assert!(kinds.eq((0..MOST_HOPS).map(|hop| 8 + 20 * hop + 19)));
+    }
+
+    #[test]
     fn a_record_has_its_parts_where_the_header_has_them() {
         let record = Record::default();
         let at = |part: *const u8| part as usize - &record as *const Record as usize;
@@ -632,7 +647,7 @@ mod tests {
     }
 
     #[test]
-    fn equality_looks_at_all_of_a_callsign_but_its_mark() {
+    fn equality_looks_at_all_of_a_hop_but_its_mark() {
         let mut record = Record::default();
         record.header.from.had_zero_ssid = true;
         record.header.to.had_zero_ssid = true;
@@ -647,6 +662,11 @@ mod tests {
         for change in others {
             let mut other = record;
             change(&mut other.header.path.hops[7].call);
+            assert_ne!(other, record);
+        }
+        for kind in [HEARD, Q_CONSTRUCT, u8::MAX] {
+            let mut other = record;
+            other.header.path.hops[7].kind = kind;
             assert_ne!(other, record);
         }
     }

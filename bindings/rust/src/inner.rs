@@ -49,13 +49,20 @@ mod tests {
         [header, &inside(packet, number)[4..]].concat()
     }
 
+    /// A hop as it was typed; a Q element in brackets.
+    fn typed_hop(via: &Via) -> String {
+        match via {
+            Via::Callsign(hop, true) => format!(",{}*", hop.typed_text()),
+            Via::Callsign(hop, false) => format!(",{}", hop.typed_text()),
+            Via::QConstruct(q) => format!(",[{q}]"),
+        }
+    }
+
     /// A header as it was typed.
     fn typed(from: &Callsign, to: Option<&Callsign>, via: &Path) -> String {
         let to = to.map_or_else(|| "-".to_string(), Callsign::typed_text);
-        let hops = via.iter().filter_map(Via::callsign);
-        let hops = hops
-            .map(|(hop, heard)| format!(",{}{}", hop.typed_text(), if heard { "*" } else { "" }));
-        format!("{}>{to}{}", from.typed_text(), hops.collect::<String>())
+        let hops: String = via.iter().map(typed_hop).collect();
+        format!("{}>{to}{hops}", from.typed_text())
     }
 
     fn outer(packet: &AprsPacket<'_>) -> String {
@@ -104,6 +111,8 @@ mod tests {
             b"C-0>S32U6T-0,E*:`(_fn\"Oj/Comment",
             b"C>D,1,2,3,4,5,6,7,8::WU2Z     :Testing{003",
             b"C>D:>092345zNet Control Center",
+            b"C>D,TCPIP*,qAC,T2TEXAS:>hi",
+            b"C>D,qAC,E-0,qAR*,qAo:>hi",
             b">:>",
         ] {
             for number in 1..=4 {
@@ -125,7 +134,7 @@ mod tests {
 
     #[test]
     fn headers_are_as_they_were_typed() {
-        let cases: [(&[u8], &str, u8, &str); 5] = [
+        let cases: [(&[u8], &str, u8, &str); 7] = [
             (b"A-0>B-0,X-0,Y*,Z:}C>D:>hi", "A-0>B-0,X-0*,Y*,Z", 1, "C>D"),
             (
                 b"A>B:}C-0>D-01,E,F-0*,G:>hi",
@@ -136,6 +145,13 @@ mod tests {
             (b"A>B:}X-0>Y,Z*:}C>D:>hi", "A>B", 2, "C>D"),
             (b"A>B-0:}C>S32U6T-0,E:`(_fn\"Oj/", "A>B-0", 1, "C>-,E"),
             (b"A>S32U6T:}}C>D:", "A>S32U6T", 1, "}C>D"),
+            (
+                b"A>B,X,qAC,Y*,qAR:}C>D,qAo,E,qAC*,qAO,F:>hi",
+                "A>B,X*,[qAC],Y*,[qAR]",
+                1,
+                "C>D,[qAo],E*,qAC*,[qAO],F",
+            ),
+            (b"A>B:}X>Y,qAC,Z*:}C>D,qAI:>hi", "A>B", 2, "C>D,[qAI]"),
         ];
         for (line, outermost, number, innermost) in cases {
             let packet = read(line);
@@ -167,13 +183,15 @@ mod tests {
     /// "inner faults keep their numbers"; a fifth is found before its header is read.
     #[test]
     fn a_fault_inside_has_its_number() {
-        let cases: [(&[u8], u8); 16] = [
+        let cases: [(&[u8], u8); 18] = [
             (b"", 2),
             (b"C>D", 2),
             (b"C->D:", 3),
             (b"ABCDEFGHIJKLMNOPQ>D:", 4),
             (b"C>D,1,2,3,4,5,6,7,8,9:", 5),
-            (b"C>D,qAC:", 6),
+            (b"C>D,1,2,3,4,5,6,7,8,qAC:", 5),
+            (b"C>D,qAc:", 6),
+            (b"C>D,qAC,qA*:", 6),
             (b"C>D:!/5L!!<*e7>7P[", 7),
             (b"C>D:!9000.01N/00000.00E-", 8),
             (b"C>D:!9000.00N/18000.01E-", 9),
@@ -182,8 +200,8 @@ mod tests {
             (b"C>S32U6T:`(_fn\"Oj", 12),
             (b"C>D:/000000z4903.50N/07201.75W>", 17),
             (b"C>D::WU2Z", 18),
-            (b"C->D:}E>F,qAC:", 3),
-            (b"C>D,qAC:}", 6),
+            (b"C->D:}E>F,qAc:", 3),
+            (b"C>D,qAc:}", 6),
         ];
         let number =
             |found: Result<AprsPacket<'_>, Refusal>| found.map_or_else(Refusal::number, |_| 0);
@@ -200,7 +218,7 @@ mod tests {
                 );
             }
         }
-        assert_eq!(number(AprsPacket::decode_textual(b"A->B:}C>D,qAC:")), 3);
+        assert_eq!(number(AprsPacket::decode_textual(b"A->B:}C>D,qAc:")), 3);
     }
 
     #[test]
@@ -209,6 +227,7 @@ mod tests {
         for line in [
             POINT,
             b"C>D,E*::WU2Z     :Testing{003",
+            b"C>D,E,qAC,F*,qAR,G:>hi",
             b"C>S32U6T:`(_fn\"Oj/Comment",
         ] {
             let around = inside(line, 2);
@@ -278,13 +297,26 @@ mod tests {
             [15; 2]
         );
         assert_eq!(
-            refusals(POINT, |record| record.innermost.path.hops[7].heard = true),
+            refusals(POINT, |record| record.innermost.path.hops[7].kind = 1),
             [15; 2]
         );
         assert_eq!(
             refusals(POINT, |record| record.innermost.from.had_zero_ssid = true),
             [0; 2]
         );
+        let hops = b"A>B,C,qAC:}D>E,qAR,F*:>hi";
+        assert_eq!(refusals(hops, |_| ()), [14; 2]);
+        for kind in 0..=255 {
+            let expected = if kind <= 2 { 14 } else { 15 };
+            assert_eq!(
+                refusals(hops, |record| record.header.path.hops[1].kind = kind),
+                [expected; 2]
+            );
+            assert_eq!(
+                refusals(hops, |record| record.innermost.path.hops[0].kind = kind),
+                [expected; 2]
+            );
+        }
         let mic_e = b"A>B:}C>S32U6T:`(_fn\"Oj/";
         assert_eq!(refusals(mic_e, |_| ()), [14; 2]);
         assert_eq!(

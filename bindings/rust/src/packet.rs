@@ -162,13 +162,13 @@ impl<'a> AprsPacket<'a> {
         read(ffi::tusselgro_read_frame, frame)
     }
 
-    /// Appends the packet as a line of text, without a line end; at a refusal nothing. The last heard hop gets the
-    /// star, which says that those before it were heard too. One with others inside it is refused, with 14.
+    /// Appends the packet as a line of text, without a line end; at a refusal nothing. The last heard callsign of the
+    /// hops gets the star, which says that those before it were heard too. One with others inside it is refused, with 14.
     pub fn encode_textual(&self, out: &mut Vec<u8>) -> Result<(), Refusal> {
         to_vec(out, self.by(ffi::tusselgro_write_text))
     }
 
-    /// Appends the packet as an AX.25 frame, without flags and checksum; at a refusal nothing.
+    /// Appends the packet as an AX.25 frame, without flags and checksum; at a refusal nothing. Q elements are left out.
     pub fn encode_ax25(&self, out: &mut Vec<u8>) -> Result<(), Refusal> {
         to_vec(out, self.by(ffi::tusselgro_write_frame))
     }

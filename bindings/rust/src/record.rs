@@ -60,7 +60,7 @@ fn part_of(bytes: &[u8], span: ffi::Span) -> Result<&[u8], Refusal> {
 fn path_of(path: &ffi::Path) -> Result<Path, Refusal> {
     let mut via = Path::new();
     for hop in path.hops.iter().take(path.count) {
-        via.push(Via::Callsign(Callsign::of(hop.call), hop.heard))?;
+        via.push(Via::of(hop)?)?;
     }
     Ok(via)
 }
@@ -140,11 +140,7 @@ fn path_record(via: &Path) -> ffi::Path {
         ..Default::default()
     };
     for (place, hop) in path.hops.iter_mut().zip(via) {
-        let Via::Callsign(callsign, heard) = hop;
-        *place = ffi::Hop {
-            call: callsign.raw(),
-            heard: *heard,
-        };
+        *place = hop.raw();
     }
     path
 }
@@ -234,6 +230,10 @@ mod tests {
             b"A-0>B-0:}C-0>S32UVT-0,D-0:`(_fn\"Oj/",
             b"A>B:}C>D:}E>F:}G>H:}I-7>J-8:",
             b"A>B:}>:",
+            b"N0CALL>APRS,TCPIP*,qAC,T2TEXAS:>hi",
+            b"A>B,qAC,C-0,qAr*,qAo,D,qAC-0*:>hi",
+            b"A>B,qAC,qAX,qAU,qAo,qAO,qAS,qAr,qAR:!0000.00N/00000.00E-",
+            b"A>B,C,qAZ:}D>E,qAI,F*:}G>S32UVT,qAR,qAR*,qAR:`(_fn\"Oj/",
         ] {
             let mut record = read(line);
             let packet = packet_of(&record, line).unwrap();
@@ -287,5 +287,31 @@ mod tests {
             packet.encode_textual(&mut Vec::new()),
             Err(Refusal::OutOfRange)
         );
+    }
+
+    /// Of the outermost path and of the innermost. A kind past the count is not looked at.
+    #[test]
+    fn a_hop_made_by_hand_is_refused_and_does_not_trap() {
+        let line = b"A>B,C*,qAC:}D>E,qAR,F:>hi";
+        let spoilt: [fn(&mut ffi::Record); 9] = [
+            |record| record.header.path.hops[0].kind = 2,
+            |record| record.header.path.hops[0].kind = 3,
+            |record| record.header.path.hops[1].kind = 255,
+            |record| record.header.path.hops[1].call.text[2] = b'c',
+            |record| record.header.path.hops[1].call.ssid_len = 255,
+            |record| record.header.path.hops[1].call.call_len = 255,
+            |record| record.innermost.path.hops[0].kind = 3,
+            |record| record.innermost.path.hops[0].call.text[15] = 1,
+            |record| record.innermost.path.hops[1].kind = 2,
+        ];
+        for spoil in spoilt {
+            let mut record = read(line);
+            assert!(packet_of(&record, line).is_ok());
+            spoil(&mut record);
+            assert_eq!(packet_of(&record, line), Err(Refusal::OutOfRange));
+        }
+        let mut record = read(line);
+        record.header.path.hops[2].kind = 255;
+        assert_eq!(packet_of(&record, line), AprsPacket::decode_textual(line));
     }
 }

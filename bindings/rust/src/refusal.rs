@@ -74,7 +74,7 @@ refusals! {
     3 Callsign "a callsign or hop is malformed"
     4 CallsignTooLong "callsign text over 16 bytes"
     5 TooManyHops "a ninth hop"
-    6 QElement "a Q element: a textual hop of three bytes that starts qA"
+    6 QElement "a textual hop of three bytes that starts qA and is none of the ten Q elements"
     7 NotCarried "not carried: body starts '!' '=' '/' '@' with a compressed position"
     8 Latitude "latitude cannot be read"
     9 Longitude "longitude cannot be read"

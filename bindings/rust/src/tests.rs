@@ -9,6 +9,7 @@ const TIMED: &[u8] = b"A>B:@092345z4903.50N/07201.75W>Test1234";
 const MESSAGE: &[u8] = b"N0CALL-01>APRS,K1A*::WU2Z     :Testing{003";
 const STATUS: &[u8] = b"N0CALL-01>APRS,K1A*:>092345zNet Control Center";
 const INNER: &[u8] = b"A>B:}C>D:}E>F:}G>H,K1A*:!4903.50N/07201.75W-";
+const FEED: &[u8] = b"N0CALL-01>APRS,TCPIP*,qAC,T2TEXAS,qAr,qAo:!4903.50N/07201.75W-";
 
 fn read(line: &[u8]) -> AprsPacket<'_> {
     AprsPacket::decode_textual(line).unwrap()
@@ -104,6 +105,7 @@ fn what_is_read_is_written_as_it_stood() {
         MIC_E,
         MESSAGE,
         STATUS,
+        FEED,
         b"X>Y,A,B*,C:=0000.00N/00000.00E-",
     ] {
         assert_eq!(written(&read(line)), Ok(line.to_vec()));
@@ -372,7 +374,144 @@ fn refusals_of_a_message_written_in_their_order() {
     assert!(out.iter().all(|byte| *byte == 0xaa));
 }
 
-/// A digit for the source, one for the destination, one for each hop: 1 where it is marked; `-` for no destination.
+/// A line or a frame from A to B with a status, whose hops are these.
+fn line_via(hops: &str) -> Vec<u8> {
+    format!("A>B{hops}:>x").into_bytes()
+}
+
+fn frame_via(source: &[u8], hops: &[u8]) -> Vec<u8> {
+    [b"\x84@@@@@\xe0", source, hops, b"\x03\xf0>x"].concat()
+}
+
+/// The source where a hop follows it, and where none does.
+const SOURCE: &[u8] = b"\x82@@@@@\x60";
+const LAST_SOURCE: &[u8] = b"\x82@@@@@\x61";
+
+/// Document 02's R-7.
+#[test]
+fn every_q_element_is_read_and_written_at_its_place() {
+    let names = [
+        ("qAC", QConstruct::AC),
+        ("qAX", QConstruct::AX),
+        ("qAU", QConstruct::AU),
+        ("qAo", QConstruct::Ao),
+        ("qAO", QConstruct::AO),
+        ("qAS", QConstruct::AS),
+        ("qAr", QConstruct::Ar),
+        ("qAR", QConstruct::AR),
+        ("qAZ", QConstruct::AZ),
+        ("qAI", QConstruct::AI),
+    ];
+    for (name, q) in names {
+        for (hops, place) in [
+            (format!(",{name}"), 0),
+            (format!(",{name},C,D"), 0),
+            (format!(",C*,{name},D"), 1),
+            (format!(",C,D*,{name}"), 2),
+            (format!(",1,2,3,4,5,6,7*,{name}"), 7),
+        ] {
+            let line = line_via(&hops);
+            let packet = read(&line);
+            assert_eq!(packet.via[place], Via::QConstruct(q));
+            assert_eq!(written(&packet), Ok(line.clone()));
+        }
+        let line = line_via(&format!(",{name}"));
+        let alone = frame_via(LAST_SOURCE, b"");
+        assert_eq!(framed(&read(&line)), Ok(alone));
+    }
+}
+
+/// Typed, and as each hop is then shown: a callsign with its own star, a Q element in brackets.
+#[test]
+fn stars_count_past_q_elements() {
+    let shown = |line: &[u8]| {
+        let hop = |via: &Via| match via {
+            Via::Callsign(..) => via.to_string(),
+            Via::QConstruct(q) => format!("[{q}]"),
+        };
+        read(line).via.iter().map(hop).collect::<Vec<_>>().join(" ")
+    };
+    let cases = [
+        (",C,qAC,D*", "C* [qAC] D*"),
+        (",C*,qAC,D", "C* [qAC] D"),
+        (",qAC,C*", "[qAC] C*"),
+        (
+            ",C,qAC,qAR,D,qAo,E*,qAI,F",
+            "C* [qAC] [qAR] D* [qAo] E* [qAI] F",
+        ),
+        (",C,qAC*,D", "C* qAC* D"),
+        (",C,qAC-0,QAC,qA,qACC", "C qAC QAC qA qACC"),
+    ];
+    for (hops, expected) in cases {
+        assert_eq!(shown(&line_via(hops)), expected);
+    }
+    let ends = read(b"qAC>qAC:>x");
+    assert_eq!((ends.from.as_str(), ends.via.len()), ("qAC", 0));
+    assert_eq!(ends.to().map(Callsign::as_str), Some("qAC"));
+}
+
+/// "counts among the eight"; "6 stays for any other three bytes that start `qA`".
+#[test]
+fn refusals_of_hops_in_their_order() {
+    let cases = [
+        (",qAC,qAX,qAU,qAo,qAO,qAS,qAr,qAR", 0),
+        (",qAC,qAX,qAU,qAo,qAO,qAS,qAr,qAR,qAZ", 5),
+        (",qAC,qAX,qAU,qAo,qAO,qAS,qAr,qAR,C", 5),
+        (",1,2,3,4,5,6,7,8,qAC", 5),
+        (",1,2,3,4,5,6,7,8,qAc", 5),
+        (",qAC,qAc", 6),
+        (",qA*", 6),
+        (",qA-", 6),
+        (",qAc,C-", 6),
+        (",C-,qAc", 3),
+        (",qAC-", 3),
+    ];
+    for (hops, expected) in cases {
+        assert_eq!(refusal(&line_via(hops)), expected, "{hops}");
+    }
+}
+
+/// The star goes to the last callsign that was heard, and a Q element never has it.
+#[test]
+fn a_callsign_spelt_as_a_q_element_is_written_as_it_stands() {
+    let line = line_via(",qAC*,X*");
+    let packet = read(&line);
+    assert!(packet.via.iter().all(|via| via.callsign().is_some()));
+    assert_eq!(written(&packet), Ok(line_via(",qAC,X*")));
+    let back = line_via(",qAC,X*");
+    assert_eq!(read(&back).via[0], Via::QConstruct(QConstruct::AC));
+    let last = line_via(",X,qAC*");
+    assert_eq!(written(&read(&last)), Ok(last.clone()));
+    let address = b"\xb0@@@@@\xe0\xa2\x82\x86@@@\xe1";
+    assert_eq!(framed(&read(&last)), Ok(frame_via(SOURCE, address)));
+}
+
+/// "in a frame it is left out": the last callsign left is marked last, or the source.
+#[test]
+fn a_frame_is_written_without_q_elements() {
+    let cases: [(&str, &[u8], &[u8]); 6] = [
+        (",qAC,qAX,qAU,qAo,qAO,qAS,qAr,qAR", LAST_SOURCE, b""),
+        (",C*,qAC", SOURCE, b"\x86@@@@@\xe1"),
+        (",qAC,C", SOURCE, b"\x86@@@@@\x61"),
+        (",C*,qAC,D", SOURCE, b"\x86@@@@@\xe0\x88@@@@@\x61"),
+        (",qAC,C,qAR,D*,qAI", SOURCE, b"\x86@@@@@\xe0\x88@@@@@\xe1"),
+        (",C,D*", SOURCE, b"\x86@@@@@\xe0\x88@@@@@\xe1"),
+    ];
+    for (hops, source, addresses) in cases {
+        let line = line_via(hops);
+        let frame = frame_via(source, addresses);
+        assert_eq!(framed(&read(&line)), Ok(frame.clone()));
+        let back = AprsPacket::decode_ax25(&frame).unwrap();
+        let packet = read(&line);
+        let callsigns = packet.via.iter().filter(|via| via.callsign().is_some());
+        assert!(back.via.iter().eq(callsigns));
+    }
+    let seven = line_via(",qAC,ABCDEFG");
+    assert_eq!(framed(&read(&seven)), Err(Refusal::NotAx25));
+}
+
+/// A digit for the source, one for the destination, one for each hop that is a callsign: 1 where it is marked; `-` for no
+/// destination.
 fn marks(packet: &AprsPacket<'_>) -> String {
     let hops = packet.via.iter().filter_map(Via::callsign);
     let callsigns = [Some(&packet.from), packet.to()]
@@ -389,8 +528,9 @@ fn marks(packet: &AprsPacket<'_>) -> String {
 /// Document 02's R-2.
 #[test]
 fn a_dropped_zero_is_marked_where_it_stood() {
-    let cases: [(&[u8], &str); 9] = [
+    let cases: [(&[u8], &str); 10] = [
         (b"A-0>B-0,C-0,D-0*,E-0:!0000.00N/00000.00E-", "11111"),
+        (b"A-0>B,qAC,C-0,qAC-0,qAR:", "1011"),
         (b"A-0>B,C,D:", "1000"),
         (b"A>B-0,C,D:", "0100"),
         (b"A>B,C-0,D:", "0010"),
@@ -484,7 +624,7 @@ fn every_refusal_of_a_line() {
         b"A->B:",
         b"ABCDEFGHIJKLMNO-0>B:",
         b"A>B,1,2,3,4,5,6,7,8,:",
-        b"A>B,qAC:",
+        b"A>B,qAc:",
         b"A>B:!/5L!!<*e7>7P[",
         b"A>B:!9000.01N/00000.00E-",
         b"A>B:!0000.00N/000 0.00E-",
@@ -548,12 +688,12 @@ fn spoilt_lines_do_no_harm() {
         (state >> 8) as usize % below
     };
     let (mut accepted, mut refused, mut mistimed, mut malformed) = (0, 0, 0, 0);
-    let mut inside = 0;
+    let (mut inside, mut from_feed, mut misnamed) = (0, 0, 0);
     for _ in 0..20_000 {
-        let mut line = [LINE, MIC_E, TIMED, MESSAGE, STATUS, INNER][random(6)].to_vec();
+        let mut line = [LINE, MIC_E, TIMED, MESSAGE, STATUS, INNER, FEED][random(7)].to_vec();
         for _ in 0..1 + random(3) {
             let at = random(line.len());
-            line[at] = [random(256) as u8, b":>,*-!/h 09{|~}"[random(15)]][random(2)];
+            line[at] = [random(256) as u8, b":>,*-!/h 09{|~}qA"[random(17)]][random(2)];
         }
         line.truncate(1 + random(2 * line.len()));
         let mut room = [0; MOST_BYTES];
@@ -565,12 +705,14 @@ fn spoilt_lines_do_no_harm() {
                 assert_eq!(slice, written(&packet));
                 assert!(packet.inner().is_none() || slice.is_err());
                 inside += usize::from(packet.inner().is_some());
+                from_feed += usize::from(packet.via.iter().any(|via| via.callsign().is_none()));
                 accepted += 1;
             }
             Err(refusal) => {
                 assert!(matches!(refusal.number(), 1..=12 | 17..=19));
                 mistimed += usize::from(refusal == Refusal::Time);
                 malformed += usize::from(refusal == Refusal::Malformed);
+                misnamed += usize::from(refusal == Refusal::QElement);
                 refused += 1;
             }
         }
@@ -578,4 +720,5 @@ fn spoilt_lines_do_no_harm() {
     assert!(accepted > 1_000 && refused > 1_000, "{accepted} {refused}");
     assert!(mistimed > 100 && malformed > 100, "{mistimed} {malformed}");
     assert!(inside > 100, "{inside}");
+    assert!(from_feed > 100 && misnamed > 10, "{from_feed} {misnamed}");
 }

@@ -24,6 +24,11 @@ struct CallWord {
     good: bool,
 }
 
+struct HopWord {
+    hop: Hop,
+    good: bool,
+}
+
 pub struct HeaderWord {
     pub header: Header,
     pub good: bool,
@@ -83,7 +88,7 @@ enum MessageWord {
     Bad,
 }
 
-// ---- callsigns and hops
+// ---- callsigns
 
 fn no_call() -> CallWord {
     let call = callsign::blank();
@@ -132,15 +137,6 @@ fn call_word(s: &[u8]) -> CallWord {
     CallWord { call, good: true }
 }
 
-// A callsign, and a star behind it where the hop is heard.
-fn hop_word(s: &[u8]) -> CallWord {
-    let star = laws::find(s, b'*');
-    if 1 < lines::tail(s, star).len() {
-        return no_call();
-    }
-    call_word(lines::cut(s, star))
-}
-
 // ---- marks, by `BITS`: a digit for each callsign, 1 where its text had the SSID `0`
 
 // Whether each byte is the digit 0 or 1.
@@ -156,11 +152,62 @@ fn are_bits(s: &[u8]) -> bool {
     true
 }
 
-// A callsign with the mark that the digit at a place says; none where there is no digit.
+// Whether the digit at a place is 1; no digit there is as good as 0.
+fn is_set(bits: &[u8], place: usize) -> bool {
+    check::same(lines::cut(lines::tail(bits, place), 1), b"1")
+}
+
+// A callsign with the mark that the digit at a place says.
 fn marked(c: Callsign, bits: &[u8], place: usize) -> Callsign {
     let mut out = c;
-    out.had_zero_ssid = check::same(lines::cut(lines::tail(bits, place), 1), b"1");
+    out.had_zero_ssid = is_set(bits, place);
     out
+}
+
+// ---- hops, each with the digit at a place
+
+// A Q element by its name, which has no star and no mark.
+fn q_word(s: &[u8], bits: &[u8], place: usize) -> HopWord {
+    let text = joined(s, b"");
+    let call = Callsign {
+        text,
+        call_len: 3,
+        ssid_len: 0,
+        had_zero_ssid: false,
+    };
+    let hop = Hop {
+        call,
+        kind: header::Q_ELEMENT,
+    };
+    let named = header::is_q_name(s);
+    HopWord {
+        hop,
+        good: named & !is_set(bits, place),
+    }
+}
+
+// A callsign, and a star behind it where it was heard.
+fn heard_word(s: &[u8], bits: &[u8], place: usize) -> HopWord {
+    let star = laws::find(s, b'*');
+    let stars = lines::tail(s, star).len();
+    let made = call_word(lines::cut(s, star));
+    let call = marked(made.call, bits, place);
+    let hop = Hop {
+        call,
+        kind: (stars == 1) as u8,
+    };
+    HopWord {
+        hop,
+        good: made.good & (stars <= 1),
+    }
+}
+
+// A word with a slash is a callsign, another the name of a Q element.
+fn hop_word(s: &[u8], bits: &[u8], place: usize) -> HopWord {
+    if laws::find(s, b'/') == s.len() {
+        return q_word(s, bits, place);
+    }
+    heard_word(s, bits, place)
 }
 
 // ---- the header
@@ -191,16 +238,11 @@ fn path_word(from: Callsign, to: Callsign, bits: &[u8], s: &[u8]) -> HeaderWord 
     let mut i: usize = 0;
     while i < 8 {
         let comma = laws::find(t, b',');
-        let word = lines::cut(t, comma);
-        let made = hop_word(word);
+        let made = hop_word(lines::cut(t, comma), bits, i + 2);
         if !made.good {
             return no_header();
         }
-        let call = marked(made.call, bits, i + 2);
-        let hop = Hop {
-            call,
-            heard: laws::find(word, b'*') != word.len(),
-        };
+        let hop = made.hop;
         hops[i] = hop;
         i += 1;
         if comma == t.len() {

@@ -1,13 +1,14 @@
 -- Document 01, 'Values for the bench': P1 to P12 as one table, `BenchValues`, under one theorem, `bench-values`. Each line
--- quotes its case and states it of the definitions that the promises cite. Angles are whole hundredths of a minute.
+-- quotes its case and states it of the definitions that the promises cite. Angles are whole hundredths of a minute. P11 stands there
+-- twice, the second time with a Q element among the hops (document 02, R-7).
 -- Assumes nothing.
 use mathlib.Core.Path.{_≡_, refl}
 use mathlib.Core.Bool.{Bool, true, false}
-use mathlib.Core.List.{List, [], _∷_}
+use mathlib.Core.List.{List, [], _∷_, _++_}
 use Prim.Native.Nat.{ℕ, _+_, _*_}
 use lib.IntN.{pos, negℤ}
 use Rattle.laws.specs.Bytes.{star, comma, point, digit0, colon, greater, within, capitalA, capitalB, capitalC, capitalL, capitalN, capitalS, capitalT, capitalU}
-use Rattle.laws.specs.Lists.{indexOf, padTo}
+use Rattle.laws.specs.Lists.{indexOf, anyOf, sameBytes, padTo}
 use Rattle.callsign.specs.declared.Callsign.{Callsign}
 use Rattle.callsign.specs.declared.Field.the-variants.{Hop}
 use Rattle.callsign.specs.Utf8.{after, characters, utf8}
@@ -32,8 +33,9 @@ use Rattle.mic_e.specs.declared.LongitudeField.the-variants.{Read as Lies}
 use Rattle.mic_e.specs.declared.DestinationRead.the-variants.{Read}
 use Rattle.mic_e.proofs.Cases.{cases}
 use Rattle.header.specs.declared.Hop as hops
+use Rattle.header.specs.Hop.{qAC, isQName, heardAs, callHop, qHop, isHeard, isQElement, heardIf}
 use Rattle.header.specs.Header.{before, pathOf, hopsOf, headerOf, headerAccepted, unlessRefused, withHops}
-use Rattle.header.specs.Text.{onFirst, fields, firstOf, othersOf, isQ, hopOf, readHop, hopThen, textHops, starsOf, anyHeard, carried, readRoute, readBefore, readHeaderText, readTextHeader, hopsText, routeText, headerText}
+use Rattle.header.specs.Text.{onFirst, fields, firstOf, othersOf, startsQ, hopOf, hopNamed, readHop, hopThen, textHops, starsOf, carried, readRoute, readBefore, readHeaderText, readTextHeader, hopsText, routeText, headerText}
 
 -- ---- what the table's lines are written with
 
@@ -70,16 +72,24 @@ address = 0x9c ∷ 0x60 ∷ 0x86 ∷ 0x82 ∷ 0x98 ∷ 0x98 ∷ 0xe3 ∷ []
 abbrev line : List ℕ
 line = capitalS ∷ greater ∷ capitalT ∷ comma ∷ capitalA ∷ comma ∷ capitalB ∷ star ∷ comma ∷ capitalC ∷ colon ∷ []
 
+-- `S>T,A,qAC,B*,C:`
+abbrev line-past-Q : List ℕ
+line-past-Q = capitalS ∷ greater ∷ capitalT ∷ comma ∷ capitalA ∷ comma ∷ qAC ++ comma ∷ capitalB ∷ star ∷ comma ∷ capitalC ∷ colon ∷ []
+
 -- a callsign of one letter, and a hop that is one
 abbrev lone : ℕ → Callsign
 lone letter = made (letter ∷ []) []
 
 abbrev hop : ℕ → Bool → hops.Hop
-hop letter heard = record { call = lone letter; heard = heard }
+hop letter heard = callHop (lone letter) heard
 
 -- A and B heard, C not
 abbrev heard-to-B : List hops.Hop
 heard-to-B = hop capitalA true ∷ hop capitalB true ∷ hop capitalC false ∷ []
+
+-- the same with a Q element behind A
+abbrev heard-past-Q : List hops.Hop
+heard-past-Q = hop capitalA true ∷ qHop qAC ∷ hop capitalB true ∷ hop capitalC false ∷ []
 
 -- `ddmm.hhN` by its digits
 abbrev north : ℕ → ℕ → ℕ → ℕ → ℕ → ℕ → List ℕ
@@ -121,6 +131,10 @@ pub record BenchValues : Type 0 where
   pub p11 : (readTextHeader line
       ≡ headerAccepted (lone capitalS) (lone capitalT) (pathOf heard-to-B) 11 2)
       × (headerText (readTextHeader line .header) ≡ line)
+  -- document 02, R-7: "passed over when stars are carried back. In text it is written at its place"
+  pub p11-past-Q : (readTextHeader line-past-Q
+      ≡ headerAccepted (lone capitalS) (lone capitalT) (pathOf heard-past-Q) 15 4)
+      × (headerText (readTextHeader line-past-Q .header) ≡ line-past-Q)
   -- "P12 9000.00N and 8960.00N: 540000; 9000.01N: 8."
   pub p12 : (readLatitude (north 9 0 0 0 0 0) ≡ at-north 540000 false)
       × (readLatitude (north 8 9 6 0 0 0) ≡ at-north 540000 true)
@@ -130,12 +144,21 @@ pub record BenchValues : Type 0 where
 
 p11-read : readTextHeader line
     ≡ headerAccepted (lone capitalS) (lone capitalT) (pathOf heard-to-B) 11 2
-unfolding readTextHeader readHeaderText readBefore readRoute withHops unlessRefused headerAccepted headerOf pathOf fields onFirst firstOf othersOf textHops hopThen before readHop isQ hopOf readText readUnstarred parted callAccepted indexOf utf8 characters after within isZero made joined padTo carried starsOf bit anyHeard
+unfolding readTextHeader readHeaderText readBefore readRoute withHops unlessRefused headerAccepted headerOf pathOf fields onFirst firstOf othersOf textHops hopThen before readHop startsQ hopOf readText readUnstarred parted callAccepted indexOf utf8 characters after within isZero made joined padTo carried starsOf bit anyOf isHeard isQElement heardIf heardAs callHop
 p11-read = refl
 
 p11-written : headerText (headerOf (lone capitalS) (lone capitalT) (pathOf heard-to-B)) ≡ line
-unfolding headerText routeText headerOf pathOf hopsOf hopsText anyHeard textOf callPart ssidPart withStar made joined padTo
+unfolding headerText routeText headerOf pathOf hopsOf hopsText anyOf isHeard heardAs callHop textOf callPart ssidPart withStar made joined padTo
 p11-written = refl
+
+past-Q-read : readTextHeader line-past-Q
+    ≡ headerAccepted (lone capitalS) (lone capitalT) (pathOf heard-past-Q) 15 4
+unfolding readTextHeader readHeaderText readBefore readRoute withHops unlessRefused headerAccepted headerOf pathOf fields onFirst firstOf othersOf textHops hopThen before readHop startsQ isQName sameBytes hopNamed qHop hopOf readText readUnstarred parted callAccepted indexOf utf8 characters after within isZero made joined padTo carried starsOf bit anyOf isHeard isQElement heardIf heardAs callHop
+past-Q-read = refl
+
+past-Q-written : headerText (headerOf (lone capitalS) (lone capitalT) (pathOf heard-past-Q)) ≡ line-past-Q
+unfolding headerText routeText headerOf pathOf hopsOf hopsText anyOf isHeard heardAs callHop qHop textOf callPart ssidPart withStar made joined padTo
+past-Q-written = refl
 
 pub bench-values : BenchValues
 unfolding course lessIf motionNumber motionOut longitudeOut destinationNumber latitudeNumber headerAccepted
@@ -152,5 +175,6 @@ bench-values =
       p9 = (rw (cases .p9-all-blank), cases .p9-five-blank);
       p10 = (P10, P10-read);
       p11 = (p11-read, rw p11-read p11-written);
+      p11-past-Q = (past-Q-read, rw past-Q-read past-Q-written);
       p12 = (ninety-degrees, sixty-minutes, rw past-ninety);
     }

@@ -10,6 +10,7 @@ use Rattle.laws.specs.Lists.{padTo}
 use Rattle.callsign.specs.Text.{blankCall, made, joined}
 use Rattle.header.specs.declared.Hop.{Hop}
 use Rattle.header.specs.declared.Header.{Header}
+use Rattle.header.specs.Hop.{heardAs, callHop}
 use Rattle.header.specs.Header.{blankHeader, headerOf, pathOf, blankHop}
 use Rattle.mic_e.specs.Message.{messageNumber}
 use Rattle.time.specs.Time.{noTime}
@@ -40,7 +41,7 @@ abbrev pub noCall : Callsign
 noCall = record { text = replicate 16 0; «call_len» = 0; «ssid_len» = 0; «had_zero_ssid» = false }
 
 abbrev pub noHop : Hop
-noHop = record { call = noCall; heard = false }
+noHop = record { call = noCall; kind = 0 }
 
 abbrev pub noHeader : Header
 noHeader = record { from = noCall; to = noCall; path = record { hops = replicate 8 noHop; count = 0 } }
@@ -66,7 +67,7 @@ allZero =
 
 -- "A refused decode returns the blank record: Unknown kind, all lengths and numbers 0."
 pub blank-is-zeros : recordInC blankRecord ≡ allZero
-unfolding recordInC bodyInC reportInC blankRecord blankBody noReport noSpan noAddressee noTime kindNumber messageNumber blankHeader headerOf pathOf blankHop blankCall made joined padTo
+unfolding recordInC bodyInC reportInC blankRecord blankBody noReport noSpan noAddressee noTime kindNumber messageNumber blankHeader headerOf pathOf blankHop callHop heardAs blankCall made joined padTo
 blank-is-zeros = refl
 
 pub zeros-are-blank : recordMeant allZero ≡ blankRecord

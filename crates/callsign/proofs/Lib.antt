@@ -13,5 +13,6 @@ pub mod Made
 pub mod Marks
 pub mod AddressBack
 pub mod TextBack
+pub mod TextAgain
 pub mod Theorems
 pub mod Unique

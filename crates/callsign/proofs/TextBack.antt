@@ -11,7 +11,7 @@ use lib.ListN.{length, getD, take, drop, length-append}
 use lib.Seq.{take-suc, take-length}
 use Rattle.laws.specs.Bytes.{star, dash, digit0}
 use Rattle.laws.specs.Lists.{indexOf}
-use Rattle.laws.proofs.Places.{index-split, index-le}
+use Rattle.laws.proofs.Places.{index-split, index-le, none-before}
 use Rattle.laws.proofs.Tests.{and-both}
 use Rattle.callsign.specs.declared.Callsign.{Callsign}
 use Rattle.callsign.specs.declared.CallRead.{CallRead}
@@ -27,7 +27,7 @@ use Rattle.callsign.proofs.Marks.{mark-in-range, mark-in-text}
 pub data Seen (t : List ℕ) (starred : Bool) : CallRead → Type 0 where
   refused : (n : ℕ) → 3 ≤ n → n ≤ 4 → Seen t starred (callRefused n)
   bare : length t ≤ 16 → utf8 t ≡ true → Seen t starred (callAccepted (made t []) starred)
-  zeroed : (a : List ℕ) → t ≡ a ++ dash ∷ digit0 ∷ [] → length t ≤ 16 → utf8 t ≡ true → Seen t starred (callAccepted (markedAs true (made a [])) starred)
+  zeroed : (a : List ℕ) → t ≡ a ++ dash ∷ digit0 ∷ [] → indexOf dash a ≡ length a → length t ≤ 16 → utf8 t ≡ true → Seen t starred (callAccepted (markedAs true (made a [])) starred)
   full : (a b : List ℕ) → t ≡ a ++ dash ∷ b → (length b ≡ 0 → ⊥) → isZero b ≡ false → length t ≤ 16 → utf8 t ≡ true → Seen t starred (callAccepted (made a b) starred)
 
 zero-is : (b : List ℕ) → isZero b ≡ true → b ≡ digit0 ∷ []
@@ -37,15 +37,15 @@ zero-is (x ∷ []) e = ap {B = List ℕ} (λ v. v ∷ []) (eqb-true x digit0 e)
 zero-is (x ∷ y ∷ b) e = absurd (false≢true e)
 
 module _ (t : List ℕ) (starred : Bool) (h : length t ≤ 16) (v : utf8 t ≡ true) where
-  seen-parted : (a b : List ℕ) → t ≡ a ++ dash ∷ b → Seen t starred (parted a b starred)
+  seen-parted : (a b : List ℕ) → t ≡ a ++ dash ∷ b → indexOf dash a ≡ length a → Seen t starred (parted a b starred)
   unfolding parted
-  seen-parted a b e = go (eqb (length a) 0) (eqb (length b) 0) (isZero b) refl refl
+  seen-parted a b e first = go (eqb (length a) 0) (eqb (length b) 0) (isZero b) refl refl
     where
       go : (p q z : Bool) → eqb (length b) 0 ≡ q → isZero b ≡ z
           → Seen t starred (cond p (callRefused 3) (cond q (callRefused 3) (cond z (callAccepted (markedAs true (made a [])) starred) (callAccepted (made a b) starred))))
       go true q z f g = refused 3 (omega arith) (omega arith)
       go false true z f g = refused 3 (omega arith) (omega arith)
-      go false false true f g = zeroed a (e ∙ ap (λ (l : List ℕ). a ++ dash ∷ l) (zero-is b g)) h v
+      go false false true f g = zeroed a (e ∙ ap (λ (l : List ℕ). a ++ dash ∷ l) (zero-is b g)) first h v
       go false false false f g = full a b e (eqb-false (length b) 0 f) g h v
 
 pub seen : (t : List ℕ) (starred : Bool) → Seen t starred (readUnstarred t starred)
@@ -60,18 +60,18 @@ seen t starred = go (ltb 16 (length t)) (utf8 t) (eqb (indexOf dash t) (length t
     go false true false e f g =
         let n : indexOf dash t ≡ length t → ⊥ = eqb-false (indexOf dash t) (length t) g in
         seen-parted t starred (ltb-false 16 (length t) e) f (take (indexOf dash t) t) (drop (suc (indexOf dash t)) t)
-        (index-split dash t (omega (arith, index-le dash t)))
+        (index-split dash t (omega (arith, index-le dash t))) (none-before dash t)
 
 -- ---- in range
 
-sides : (t a b : List ℕ) → t ≡ a ++ dash ∷ b → utf8 t ≡ true → (utf8 a ≡ true) × (utf8 b ≡ true)
+pub sides : (t a b : List ℕ) → t ≡ a ++ dash ∷ b → utf8 t ≡ true → (utf8 a ≡ true) × (utf8 b ≡ true)
 sides t a b e v = and-both (utf8 a) (utf8 b) (sym (utf8-split dash (omega arith) a b) ∙ ap utf8 (sym e) ∙ v)
 
 seen-range : (t : List ℕ) (starred : Bool) (r : CallRead) → Seen t starred r → inRange (r .call) ≡ true
 unfolding callRefused callAccepted joined
 seen-range t starred r (refused n h m) = blank-range
 seen-range t starred r (bare h v) = made-range t [] h v utf8-none zero-none
-seen-range t starred r (zeroed a e h v) =
+seen-range t starred r (zeroed a e first h v) =
     mark-in-range true (made a []) ∙ made-range a [] (omega (arith, ap length e, length-append a (dash ∷ digit0 ∷ []))) (sides t a (digit0 ∷ []) e v .0) utf8-none zero-none
 seen-range t starred r (full a b e k z h v) =
     let s = sides t a b e v in
@@ -83,7 +83,7 @@ seen-refusal : (t : List ℕ) (starred : Bool) (r : CallRead) → Seen t starred
 unfolding callRefused callAccepted
 seen-refusal t starred r (refused n h m) z = (h, m)
 seen-refusal t starred r (bare h v) z = absurd (z refl)
-seen-refusal t starred r (zeroed a e h v) z = absurd (z refl)
+seen-refusal t starred r (zeroed a e first h v) z = absurd (z refl)
 seen-refusal t starred r (full a b e k z h v) y = absurd (y refl)
 
 -- ---- the text again
@@ -101,7 +101,7 @@ typedText c = withZero (textOf c) (c .«had_zero_ssid»)
 unfoldable pub asRead : CallRead → List ℕ
 asRead r = withStar (typedText (r .call)) (r .starred)
 
-bare-written : (a : List ℕ) → textOf (made a []) ≡ a
+pub bare-written : (a : List ℕ) → textOf (made a []) ≡ a
 unfolding joined
 bare-written a = made-written a []
 
@@ -109,7 +109,7 @@ seen-back : (t : List ℕ) (starred : Bool) (r : CallRead) → Seen t starred r 
 unfolding callRefused callAccepted asRead typedText withZero markedAs made
 seen-back t starred r (refused n h m) q = absurd (omega arith)
 seen-back t starred r (bare h v) q = ap (λ (l : List ℕ). withStar l starred) (bare-written t)
-seen-back t starred r (zeroed a e h v) q = ap (λ (l : List ℕ). withStar l starred) (ap (λ (l : List ℕ). l ++ dash ∷ digit0 ∷ []) (mark-in-text true (made a []) ∙ bare-written a) ∙ sym e)
+seen-back t starred r (zeroed a e first h v) q = ap (λ (l : List ℕ). withStar l starred) (ap (λ (l : List ℕ). l ++ dash ∷ digit0 ∷ []) (mark-in-text true (made a []) ∙ bare-written a) ∙ sym e)
 seen-back t starred r (full a b e k z h v) q = ap (λ (l : List ℕ). withStar l starred) (made-written a b ∙ joined-full a b k ∙ sym e)
 
 star-off : (s : List ℕ) → getD s (length s - 1) 0 ≡ star → take (length s - 1) s ++ star ∷ [] ≡ s

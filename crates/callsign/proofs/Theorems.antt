@@ -13,8 +13,8 @@ use Rattle.callsign.specs.declared.Callsign.{Callsign}
 use Rattle.callsign.specs.declared.Field.{Field}
 use Rattle.callsign.specs.declared.Field.the-variants.{Hop}
 use Rattle.callsign.specs.Utf8.{after, characters, utf8}
-use Rattle.callsign.specs.Text.{joined, made, markedAs, isZero, readText}
-use Rattle.callsign.specs.Range.{callPart, ssidPart, textLen, isDashed, inRange, rangeRefusal, textOf}
+use Rattle.callsign.specs.Text.{joined, made, markedAs, isZero, callAccepted, readText}
+use Rattle.callsign.specs.Range.{callPart, ssidPart, textLen, isDashed, inRange, rangeRefusal, textOf, withStar}
 use Rattle.callsign.specs.Address.{ssidOf, heardOf, lastOf, onto, areSpaces, unpacked, ssidText, addressOf, readAddress}
 use Rattle.callsign.specs.Packed.{ssidNumber, bit, upperBits, seventhOf, sent, packedAs, packedBy, writeAddress}
 use Rattle.callsign.proofs.Ranges.{accepted}
@@ -22,6 +22,7 @@ use Rattle.callsign.proofs.Bits.{heardIn}
 use Rattle.callsign.proofs.Characters.{address-as}
 use Rattle.callsign.proofs.AddressBack as address
 use Rattle.callsign.proofs.TextBack as text
+use Rattle.callsign.proofs.TextAgain as again
 use Rattle.callsign.proofs.Marks as marks
 
 -- an address that was written reads back: the call raised, the SSID's number as text, bit 7 as the field has it
@@ -50,6 +51,11 @@ text-can-be-written s = accepted (readText s .call) (text.text-range s)
 -- what an accepted text is written as, with the `-0` that its mark tells of and the star that was reported, is that text
 pub text-is-kept : (s : List ℕ) → readText s .refusal ≡ 0 → text.asRead (readText s) ≡ s
 text-is-kept = text.text-back
+
+-- a callsign that was read, written with a star or without one, reads back without its mark, unless its text ends in a star
+pub text-reads-back : (s : List ℕ) → readText s .refusal ≡ 0 → again.endsInStar (textOf (readText s .call)) ≡ false → (b : Bool)
+    → readText (withStar (textOf (readText s .call)) b) ≡ callAccepted (marks.unmarkedCall (readText s .call)) b
+text-reads-back = again.text-again
 
 -- ---- document 02, R-2: the mark of a dropped `0`
 

@@ -1,7 +1,7 @@
 -- What a reader of headers answers: a refusal of its list with the blank header, or a header in range and a place within
 -- the input.
 -- Assumes nothing.
-use mathlib.Core.Path.{_≡_, refl, ap, _∙_}
+use mathlib.Core.Path.{_≡_, refl, ap}
 use mathlib.Core.Logic.{inl}
 use mathlib.Core.Bool.{Bool, true, false, cond, false≢true}
 use mathlib.Core.List.{List, [], _∷_}
@@ -23,6 +23,7 @@ use Rattle.callsign.proofs.Made.{blank-range}
 use Rattle.callsign.proofs.Theorems.{text-is-in-range, address-is-in-range}
 use Rattle.header.specs.declared.Hop.{Hop}
 use Rattle.header.specs.declared.HeaderRead.{HeaderRead}
+use Rattle.header.specs.Hop.{heardAs, callHop, isHeard, isQElement}
 use Rattle.header.specs.Header.{mostBytes, Hops, blankHop, pathOf, hopsOf, headerOf, blankHeader, headerRefused, headerAccepted, unlessRefused, withHops}
 use Rattle.header.specs.Text.{fields, firstOf, othersOf, starsOf, carried, readRoute, readBefore, readHeaderText, readTextHeader}
 use Rattle.header.specs.Frame.{startsWithPair, withPair, readSource, readFrameHeader}
@@ -66,7 +67,7 @@ module _ (s : List ℕ) where
       → Answered InText Starred s (withHops w (λ l. headerAccepted from to (pathOf (carried l)) body (starsOf l)))
   unfolding withHops
   hops-answered from to body a b m (none n p) = no n p
-  hops-answered from to body a b m (some l k q) = let c = length-carried l in yes from to (carried l) body (starsOf l) a b (omega arith) (carried-range l ∙ q) m (record { typed = l; back = refl; number = refl })
+  hops-answered from to body a b m (some l k q) = let c = length-carried l in yes from to (carried l) body (starsOf l) a b (omega arith) (carried-range l q) m (record { typed = l; back = refl; number = refl })
 
   route-answered : (from : Callsign) (t : List ℕ) (body : ℕ) → inRange from ≡ true → body ≤ length s → Answered InText Starred s (readRoute from t body)
   unfolding readRoute
@@ -142,7 +143,7 @@ module _ (s : List ℕ) where
 -- ---- what every such answer has
 
 blanks : (k : ℕ) → every isBlank (replicate k blankHop) ≡ true
-unfolding isBlank isBlankCall blankHop blankCall made joined padTo zeros
+unfolding isBlank isBlankCall blankHop callHop heardAs blankCall made joined padTo zeros
 blanks k = every-replicate isBlank blankHop refl k
 
 pub path-range : (l : List Hop) → length l ≤ 8 → every hopInRange l ≡ true → pathInRange (pathOf l) ≡ true
@@ -150,7 +151,7 @@ unfolding pathInRange pathOf hopsOf padTo
 path-range l m q =
     rw (le-leb (length l) 8 m, take-at l (replicate (8 - length l) blankHop) (length l) refl, q, drop-at l (replicate (8 - length l) blankHop) (length l) refl) (blanks (8 - length l))
 
-header-range : (from to : Callsign) (l : List Hop) → inRange from ≡ true → inRange to ≡ true → length l ≤ 8 → every hopInRange l ≡ true → headerInRange (headerOf from to (pathOf l)) ≡ true
+pub header-range : (from to : Callsign) (l : List Hop) → inRange from ≡ true → inRange to ≡ true → length l ≤ 8 → every hopInRange l ≡ true → headerInRange (headerOf from to (pathOf l)) ≡ true
 unfolding headerInRange headerOf
 header-range from to l a b m q = rw (a, b) (path-range l m q)
 
@@ -185,24 +186,26 @@ module _ (ok : ℕ → Type 0) (kept : List Hop → ℕ → Type 0) (s : List �
 
 -- ---- stars
 
--- hop i is heard exactly where a bit j from i on is set
+-- hop i, a callsign, is heard exactly where a bit j from i on is set
 module _ (ok : ℕ → Type 0) (s : List ℕ) (i : ℕ) (d : Hop) where
-  pub answered-heard : {r : HeaderRead} → Answered ok Starred s r → i < r .header .path .count → getD (r .header .path .hops) i d .heard ≡ true → (j : ℕ) × ((i ≤ j) × (isSet (r .stars) j ≡ true))
+  pub answered-heard : {r : HeaderRead} → Answered ok Starred s r → i < r .header .path .count → isHeard (getD (r .header .path .hops) i d) ≡ true → (j : ℕ) × ((i ≤ j) × (isSet (r .stars) j ≡ true))
   unfolding headerRefused headerAccepted headerOf blankHeader pathOf padTo
   answered-heard (no n p) h e = absurd (omega arith)
   answered-heard (yes from to l body stars a b m q k t) h e =
       let c = length-carried (t .typed) in
       let z : i < length (t .typed) = omega (arith, ap length (t .back)) in
-      let f : getD (carried (t .typed)) i d .heard ≡ true = rw (← t .back) (rw (List·getD-append l (replicate (8 - length l) blankHop) d i h) at e) in
+      let f : isHeard (getD (carried (t .typed)) i d) ≡ true = rw (← t .back) (rw (List·getD-append l (replicate (8 - length l) blankHop) d i h) at e) in
       rw (t .number) (heard-then-set (t .typed) i d z f)
 
-  pub answered-set : {r : HeaderRead} → Answered ok Starred s r → i < r .header .path .count → (j : ℕ) → i ≤ j → isSet (r .stars) j ≡ true → getD (r .header .path .hops) i d .heard ≡ true
+  pub answered-set : {r : HeaderRead} → Answered ok Starred s r → i < r .header .path .count → isQElement (getD (r .header .path .hops) i d) ≡ false → (j : ℕ) → i ≤ j → isSet (r .stars) j ≡ true
+      → isHeard (getD (r .header .path .hops) i d) ≡ true
   unfolding headerRefused headerAccepted headerOf blankHeader pathOf padTo
-  answered-set (no n p) h j o e = absurd (omega arith)
-  answered-set (yes from to l body stars a b m q k t) h j o e =
-      let c = length-carried (t .typed) in
+  answered-set (no n p) h c j o e = absurd (omega arith)
+  answered-set (yes from to l body stars a b m q k t) h c j o e =
+      let y = length-carried (t .typed) in
       let z : i < length (t .typed) = omega (arith, ap length (t .back)) in
-      let f : getD l i d .heard ≡ true = rw (t .back) (set-then-heard (t .typed) i d z j o (rw (t .number) at e)) in
+      let w : isQElement (getD (carried (t .typed)) i d) ≡ false = rw (← t .back) (rw (List·getD-append l (replicate (8 - length l) blankHop) d i h) at c) in
+      let f : isHeard (getD l i d) ≡ true = rw (t .back) (set-then-heard (t .typed) i d z w j o (rw (t .number) at e)) in
       rw (List·getD-append l (replicate (8 - length l) blankHop) d i h) f
 
 pub answered-starless : (ok : ℕ → Type 0) (s : List ℕ) {r : HeaderRead} → Answered ok Starless s r → r .stars ≡ 0

@@ -1,4 +1,5 @@
--- A header that was written into a frame reads back from it: its callsigns as addresses hold them, each hop heard as it was.
+-- A header that was written into a frame reads back from it without its Q elements: its callsigns as addresses hold them, each hop heard
+-- as it was.
 -- Assumes nothing.
 use mathlib.Core.Path.{_≡_, refl, sym, ap, _∙_}
 use mathlib.Core.Bool.{Bool, true, false, cond}
@@ -6,10 +7,9 @@ use mathlib.Core.List.{List, [], _∷_, _++_, map, append-assoc}
 use Prim.Native.Nat.{ℕ, zero, suc, _+_, _*_, _≤_}
 use native.Mathlib.Nat.{le-of-suc-le-suc}
 use native.Mathlib.Omega.{arith}
-use lib.Dec.{eqb}
-use borrow.Author.Tests.{eq-eqb, ne-eqb, le-ltb}
-use lib.ListN.{length, take, drop, length-append, length-map}
-use lib.Seq.{take-at, drop-at, drop-drop, length-take-le}
+use borrow.Author.Tests.{le-ltb}
+use lib.ListN.{length, take, drop, length-append, length-map, length-take}
+use lib.Seq.{take-at, drop-at, drop-drop}
 use Rattle.callsign.specs.declared.Callsign.{Callsign}
 use Rattle.callsign.specs.declared.AddressWritten.{AddressWritten}
 use Rattle.callsign.specs.declared.Field.the-variants.{Destination, Source, Hop as HopField}
@@ -21,68 +21,71 @@ use Rattle.callsign.proofs.AddressBack.{inAddress, address-seven}
 use Rattle.callsign.proofs.Theorems.{address-reads-back}
 use Rattle.header.specs.declared.Hop.{Hop}
 use Rattle.header.specs.declared.Header.{Header}
+use Rattle.header.specs.Hop.{callHop, isHeard, callsOf}
 use Rattle.header.specs.Header.{mostBytes, these, before, pathOf, hopsOf, headerAccepted, unlessRefused, withHops}
 use Rattle.header.specs.Frame.{pair, startsWithPair, addressHop, addressThen, frameHops, withPair, readSource, readFrameHeader, isNone, hopAddresses, addresses, firstRefusal, addressBytes, headerFrame}
 use Rattle.header.specs.Range.{headerInRange, frameRefusal}
+use Rattle.header.proofs.Hops.{calls-few}
 use Rattle.header.proofs.InRange.{route-count}
 use Rattle.header.proofs.Frames.{destination-read}
 use Rattle.header.proofs.FrameWritten.{first-none, hops-length}
 
 -- a hop as its address holds it: "Frames keep each heard bit as it is."
 unfoldable pub inFrame : Hop → Hop
-inFrame h = record { call = inAddress (h .call); heard = h .heard }
+inFrame h = callHop (inAddress (h .call)) (isHeard h)
 
 -- ---- hops
 
-hop-back : (h : Hop) (last : Bool) (k : ℕ) (x : List ℕ) → writeAddress (h .call) (HopField (h .heard)) last .refusal ≡ 0
-    → frameHops (suc k) (writeAddress (h .call) (HopField (h .heard)) last .bytes ++ x) ≡ before (inFrame h) (cond last (these []) (frameHops k x))
+hop-back : (h : Hop) (last : Bool) (k : ℕ) (x : List ℕ) → writeAddress (h .call) (HopField (isHeard h)) last .refusal ≡ 0
+    → frameHops (suc k) (writeAddress (h .call) (HopField (isHeard h)) last .bytes ++ x) ≡ before (inFrame h) (cond last (these []) (frameHops k x))
 unfolding frameHops addressThen addressHop inFrame heardIn
 hop-back h last k x z =
-    let a = writeAddress (h .call) (HopField (h .heard)) last in
-    let s : length (a .bytes) ≡ 7 = address-seven (h .call) (HopField (h .heard)) last z in
+    let a = writeAddress (h .call) (HopField (isHeard h)) last in
+    let s : length (a .bytes) ≡ 7 = address-seven (h .call) (HopField (isHeard h)) last z in
     let m : 7 ≤ length (a .bytes ++ x) = rw (length-append (a .bytes) x, s) (omega arith) in
-    rw (le-ltb (length (a .bytes ++ x)) 7 m, take-at (a .bytes) x 7 s, drop-at (a .bytes) x 7 s, address-reads-back (h .call) (HopField (h .heard)) last z)
+    rw (le-ltb (length (a .bytes ++ x)) 7 m, take-at (a .bytes) x 7 s, drop-at (a .bytes) x 7 s, address-reads-back (h .call) (HopField (isHeard h)) last z)
 
 pub hops-back : (h : Hop) (l : List Hop) (k : ℕ) (x : List ℕ) → length (h ∷ l) ≤ k → firstRefusal (hopAddresses (h ∷ l)) ≡ 0
     → frameHops k (addressBytes (hopAddresses (h ∷ l)) ++ x) ≡ these (map inFrame (h ∷ l))
 unfolding addressBytes hopAddresses before isNone
 hops-back h l zero x m z = absurd (omega arith)
 hops-back h [] (suc k) x m z =
-    let a = writeAddress (h .call) (HopField (h .heard)) true in
+    let a = writeAddress (h .call) (HopField (isHeard h)) true in
     rw (append-assoc (a .bytes) [] x) (hop-back h true k x (first-none a [] z .0))
 hops-back h (h′ ∷ l) (suc k) x m z =
-    let a = writeAddress (h .call) (HopField (h .heard)) false in
+    let a = writeAddress (h .call) (HopField (isHeard h)) false in
     let p = first-none a (hopAddresses (h′ ∷ l)) z in
     rw (append-assoc (a .bytes) (addressBytes (hopAddresses (h′ ∷ l))) x)
     (hop-back h false k (addressBytes (hopAddresses (h′ ∷ l)) ++ x) (p .0) ∙ ap (before (inFrame h)) (hops-back h′ l k x (le-of-suc-le-suc m) (p .1)))
 
 -- ---- the whole frame
 
-all-hops : (l : List Hop) (n : ℕ) (x : List ℕ) → length l ≡ n → n ≤ 8 → firstRefusal (hopAddresses l) ≡ 0
-    → cond (eqb n 0) (these []) (frameHops 8 (addressBytes (hopAddresses l) ++ x)) ≡ these (map inFrame l)
-all-hops [] n x e m z = rw (eq-eqb n 0 (sym e))
-all-hops (h ∷ l) n x e m z = rw (ne-eqb n 0 (λ q. omega arith)) (hops-back h l 8 x (omega arith) z)
+all-hops : (l : List Hop) (x : List ℕ) → length l ≤ 8 → firstRefusal (hopAddresses l) ≡ 0
+    → cond (isNone l) (these []) (frameHops 8 (addressBytes (hopAddresses l) ++ x)) ≡ these (map inFrame l)
+unfolding isNone
+all-hops [] x m z = refl
+all-hops (h ∷ l) x m z = hops-back h l 8 x m z
 
 pair-back : (from to : Callsign) (l : List Hop) (s x : List ℕ) → drop (14 + 7 * length l) s ≡ pair ++ x
     → withPair from to (pathOf l) s ≡ headerAccepted from to (pathOf l) (16 + 7 * length l) 0
 unfolding withPair pathOf startsWithPair
 pair-back from to l s x e = let q : 14 + 7 * length l + 2 ≡ 16 + 7 * length l = omega arith in rw (e, q)
 
-module _ (h : Header) (body : List ℕ) (full : length (h .path .hops) ≡ 8) (e : headerInRange h ≡ true) (z : firstRefusal (addresses h) ≡ 0) where
+module _ (h : Header) (body : List ℕ) (e : headerInRange h ≡ true) (z : firstRefusal (addresses h) ≡ 0) where
+  abbrev hops : List Hop
+  hops = callsOf (hopsOf (h .path))
+
   abbrev a : AddressWritten
   a = writeAddress (h .to) Destination false
 
   abbrev b : AddressWritten
-  b = writeAddress (h .from) Source (eqb (h .path .count) 0)
-
-  abbrev hops : List Hop
-  hops = take (h .path .count) (h .path .hops)
+  b = writeAddress (h .from) Source (isNone hops)
 
   abbrev rest : List ℕ
   rest = addressBytes (hopAddresses hops) ++ (pair ++ body)
 
   parts : (a .refusal ≡ 0) × (firstRefusal (b ∷ hopAddresses hops) ≡ 0)
-  unfolding addresses hopsOf
+  unfolding addresses
   parts = first-none a (b ∷ hopAddresses hops) z
 
   others : (b .refusal ≡ 0) × (firstRefusal (hopAddresses hops) ≡ 0)
@@ -92,13 +95,16 @@ module _ (h : Header) (body : List ℕ) (full : length (h .path .hops) ≡ 8) (e
   a-seven = address-seven (h .to) Destination false (parts .0)
 
   b-seven : length (b .bytes) ≡ 7
-  b-seven = address-seven (h .from) Source (eqb (h .path .count) 0) (others .0)
+  b-seven = address-seven (h .from) Source (isNone hops) (others .0)
 
-  counted : length hops ≡ h .path .count
-  counted = let m = route-count h e in length-take-le (h .path .count) (h .path .hops) (omega arith)
+  few : length hops ≤ 8
+  unfolding hopsOf
+  few =
+      let m = route-count h e in
+      omega (arith, calls-few (take (h .path .count) (h .path .hops)), length-take (h .path .count) (h .path .hops))
 
   spelled : headerFrame h ++ body ≡ a .bytes ++ (b .bytes ++ rest)
-  unfolding headerFrame addressBytes addresses hopsOf
+  unfolding headerFrame addressBytes addresses
   spelled = simp append-assoc
 
   from-there : drop 7 (headerFrame h ++ body) ≡ b .bytes ++ rest
@@ -118,16 +124,15 @@ module _ (h : Header) (body : List ℕ) (full : length (h .path .hops) ≡ 8) (e
   source-back : readSource (inAddress (h .to)) (headerFrame h ++ body) ≡ headerAccepted (inAddress (h .from)) (inAddress (h .to)) (pathOf (map inFrame hops)) (16 + 7 * length hops) 0
   unfolding readSource unlessRefused withHops heardIn
   source-back =
-      let m = route-count h e in
       let n : length (map inFrame hops) ≡ length hops = length-map hops inFrame in
       let p : drop (14 + 7 * length (map inFrame hops)) (headerFrame h ++ body) ≡ pair ++ body = rw n pair-there in
       rw (
         le-ltb (length (headerFrame h ++ body)) 14 long,
         from-there,
         take-at (b .bytes) rest 7 b-seven,
-        address-reads-back (h .from) Source (eqb (h .path .count) 0) (others .0),
+        address-reads-back (h .from) Source (isNone hops) (others .0),
         hops-there,
-        all-hops hops (h .path .count) (pair ++ body) counted m (others .1),
+        all-hops hops (pair ++ body) few (others .1),
       )
       (pair-back (inAddress (h .from)) (inAddress (h .to)) (map inFrame hops) (headerFrame h ++ body) body p ∙ rw n)
 
@@ -141,7 +146,7 @@ module _ (h : Header) (body : List ℕ) (full : length (h .path .hops) ≡ 8) (e
       (address-as (inAddress (h .to)) true false) q refl refl (sym source-back))
 
   size : length (headerFrame h) ≡ 16 + 7 * length hops
-  unfolding headerFrame addressBytes addresses hopsOf
+  unfolding headerFrame addressBytes addresses
   size =
       rw (
         length-append (a .bytes ++ (b .bytes ++ addressBytes (hopAddresses hops))) pair,
@@ -153,12 +158,12 @@ module _ (h : Header) (body : List ℕ) (full : length (h .path .hops) ≡ 8) (e
       ) (omega arith)
 
 -- a header that can be written, and any body behind it
-pub frame-back : (h : Header) (body : List ℕ) → length (h .path .hops) ≡ 8 → frameRefusal h ≡ 0 → length (headerFrame h ++ body) ≤ mostBytes
-    → readFrameHeader (headerFrame h ++ body) ≡ headerAccepted (inAddress (h .from)) (inAddress (h .to)) (pathOf (map inFrame (hopsOf (h .path)))) (length (headerFrame h)) 0
-unfolding frameRefusal hopsOf
-frame-back h body full z short = go (headerInRange h) refl z
+pub frame-back : (h : Header) (body : List ℕ) → frameRefusal h ≡ 0 → length (headerFrame h ++ body) ≤ mostBytes
+    → readFrameHeader (headerFrame h ++ body) ≡ headerAccepted (inAddress (h .from)) (inAddress (h .to)) (pathOf (map inFrame (callsOf (hopsOf (h .path))))) (length (headerFrame h)) 0
+unfolding frameRefusal
+frame-back h body z short = go (headerInRange h) refl z
   where
     go : (k : Bool) → headerInRange h ≡ k → cond k (firstRefusal (addresses h)) 15 ≡ 0
-        → readFrameHeader (headerFrame h ++ body) ≡ headerAccepted (inAddress (h .from)) (inAddress (h .to)) (pathOf (map inFrame (take (h .path .count) (h .path .hops)))) (length (headerFrame h)) 0
-    go true e q = back h body full e q short ∙ rw (size h body full e q)
+        → readFrameHeader (headerFrame h ++ body) ≡ headerAccepted (inAddress (h .from)) (inAddress (h .to)) (pathOf (map inFrame (callsOf (hopsOf (h .path))))) (length (headerFrame h)) 0
+    go true e q = back h body e q short ∙ rw (size h body e q)
     go false e q = absurd (omega arith)

@@ -7,6 +7,7 @@ use mathlib.Core.List.{List, []}
 use Prim.Native.Nat.{ℕ, suc, _+_, _-_, _/_, _<_, _≤_}
 use native.Mathlib.Omega.{arith}
 use borrow.Author.Tests.{lt-ltb, le-ltb, not-true, not-false}
+use mir.Val.{boolByte}
 use lib.ListN.{length, getD, take, drop, set, replicate, length-drop}
 use lib.Seq.{drop-drop}
 use Rattle.laws.specs.Bytes.{space, isLetterOrDigit, raised}
@@ -17,9 +18,11 @@ use Rattle.callsign.specs.Address.{ssidOf, heardOf, lastOf, ssidText, addressRe
 use Rattle.callsign.proofs.Characters.{Sofar, start, stops-odd, goes-space, stops-late, stops-other, goes-character, reads, address-as, seven-at, byte-at}
 use Rattle.header.specs.declared.Hop.{Hop}
 use Rattle.header.specs.declared.PathRead.{PathRead}
+use Rattle.header.specs.Hop.{callHop}
 use Rattle.header.specs.Header.{Hops, refused, these, before, blankHop}
 use Rattle.header.specs.Frame.{addressHop, addressThen, frameHops}
 use Rattle.header.specs.Private.{pathRefused, frameRead}
+use Rattle.header.proofs.Hops.{flag-as}
 use Rattle.header.proofs.Going.{Going, going-start, going-more, going-refused, going-done}
 
 -- ---- one character of the address at a place
@@ -118,16 +121,17 @@ module _ (s : List ℕ) (hops : List Hop) (count at : ℕ) (g : Walking s hops c
 
     module _ (room : at + 7 ≤ length s) (c : Callsign) (h l : Bool) (q : address-as c h l ≡ readAddress (take 7 (drop at s))) where
       goes : (later : Hops) → cond l (these []) (frameHops (8 - (count + 1)) (drop (at + 7) s)) ≡ later
-          → Going (frameHops 8 s) later (set hops count (record { call = c; heard = h })) (count + 1)
-      unfolding addressThen addressHop
+          → Going (frameHops 8 s) later (set hops count (record { call = c; kind = boolByte h })) (count + 1)
+      unfolding addressThen addressHop callHop
       goes later e =
           let w = g .few in
-          going-more _ _ hops count (g .going) (omega arith) (record { call = c; heard = h }) later (next room (address-as c h l) q ∙ ap (before (record { call = c; heard = h })) e)
+          let b : record { call = c; kind = boolByte h } ≡ callHop c h = rw (flag-as h) in
+          going-more _ _ hops count (g .going) (omega arith) (record { call = c; kind = boolByte h }) later (next room (address-as c h l) q ∙ ap (before (callHop c h)) e ∙ ap (λ (x : Hop). before x later) (sym b))
 
-      pub walk-on : l ≡ false → Walking s (set hops count (record { call = c; heard = h })) (count + 1) (at + 7)
+      pub walk-on : l ≡ false → Walking s (set hops count (record { call = c; kind = boolByte h })) (count + 1) (at + 7)
       walk-on e = record { few = let w = g .few in omega arith; within = room; going = goes _ (rw e) }
 
-      pub walk-ends : l ≡ true → Walked s (set hops count (record { call = c; heard = h })) (count + 1)
+      pub walk-ends : l ≡ true → Walked s (set hops count (record { call = c; kind = boolByte h })) (count + 1)
       walk-ends e = record { going = goes (these []) (rw e) }
 
 -- ---- where the ways out of the loop meet: a refusal, or the last address
@@ -151,7 +155,7 @@ module _ (s : List ℕ) (hops hops′ : List Hop) (count count′ at refusal′ 
     out-unread call n sp i w r e = inl ((λ z. omega arith), rw r (walk-unread s hops count at g more (w .room) e))
 
     pub out-last : (call : List ℕ) (n : ℕ) (sp : Bool) (i refusal : ℕ) (c : Callsign) (h l : Bool) → Spelling s at call n sp i → refusal ≡ 0 → address-as c h l ≡ readAddress (take 7 (drop at s)) → l ≡ true
-        → hops′ ≡ set hops count (record { call = c; heard = h }) → count′ ≡ count + 1 → refusal′ ≡ refusal → Outcome s hops′ count′ refusal′
+        → hops′ ≡ set hops count (record { call = c; kind = boolByte h }) → count′ ≡ count + 1 → refusal′ ≡ refusal → Outcome s hops′ count′ refusal′
     unfolding Outcome
     out-last call n sp i refusal c h l w z q e eh ec er = inr (er ∙ z, rw (eh, ec) (walk-ends s hops count at g more (w .room) c h l q e))
 

@@ -1,8 +1,8 @@
 -- A text that was read stands in its header, the stars as typed and the marks: each callsign with the `-0` that its mark tells of, each
--- hop with the star that its bit tells of, and behind source and destination a star or none.
+-- hop with the star that its bit tells of, a Q element by its name, and behind source and destination a star or none.
 -- Assumes nothing.
 use mathlib.Core.Path.{_≡_, refl, sym, ap, _∙_}
-use mathlib.Core.Bool.{Bool, true, false, cond}
+use mathlib.Core.Bool.{Bool, true, false, cond, _||_, and-true}
 use mathlib.Core.List.{List, [], _∷_, _++_}
 use Prim.Native.Nat.{ℕ, zero, suc, _+_, _/_, _%_, _<_}
 use native.Mathlib.Omega.{arith}
@@ -15,15 +15,17 @@ use Rattle.laws.specs.Lists.{indexOf}
 use Rattle.laws.proofs.Places.{index-split, index-le}
 use Rattle.callsign.specs.declared.Callsign.{Callsign}
 use Rattle.callsign.specs.declared.CallRead.{CallRead}
-use Rattle.callsign.specs.Text.{readText}
+use Rattle.callsign.specs.Text.{made, readText}
 use Rattle.callsign.specs.Range.{withStar}
-use Rattle.callsign.proofs.TextBack.{typedText, asRead}
+use Rattle.callsign.proofs.TextBack.{withZero, typedText, asRead, bare-written}
 use Rattle.callsign.proofs.Theorems.{text-is-kept}
 use Rattle.header.specs.declared.Hop.{Hop}
 use Rattle.header.specs.declared.Header.{Header}
 use Rattle.header.specs.declared.HeaderRead.{HeaderRead}
+use Rattle.header.specs.Hop.{isQName, callHop, qHop, isHeard, anyHeard, heardIf}
 use Rattle.header.specs.Header.{mostBytes, Hops, refused, these, before, pathOf, hopsOf, headerOf, headerRefused, headerAccepted, unlessRefused, withHops}
-use Rattle.header.specs.Text.{onFirst, fields, firstOf, othersOf, isQ, hopRefused, hopOf, readHop, hopThen, textHops, starsOf, carried, readRoute, readBefore, readHeaderText, readTextHeader}
+use Rattle.header.specs.Text.{onFirst, fields, firstOf, othersOf, startsQ, hopRefused, hopNamed, hopOf, readHop, hopThen, textHops, starsOf, carried, readRoute, readBefore, readHeaderText, readTextHeader}
+use Rattle.header.proofs.Hops.{call-heard, heard-is-call, if-heard, if-twice}
 use Rattle.header.proofs.Typed.{lowest, others}
 use Rattle.header.proofs.Stars.{eachText}
 use Rattle.header.proofs.Going.{padded-front}
@@ -34,7 +36,7 @@ use Rattle.header.proofs.TextHops.{fields-some}
 -- the hops with the stars of a number, bit j for hop j
 unfoldable pub starredBy : ℕ → List Hop → List Hop
 starredBy stars [] = []
-starredBy stars (h ∷ l) = record { call = h .call; heard = eqb (stars % 2) 1 } ∷ starredBy (stars / 2) l
+starredBy stars (h ∷ l) = heardIf (eqb (stars % 2) 1) h ∷ starredBy (stars / 2) l
 
 -- all but the colon: each callsign with its `-0`, each hop with its star
 unfoldable pub routeTyped : Bool → Bool → ℕ → Header → List ℕ
@@ -47,10 +49,15 @@ headerTyped source destination stars h = routeTyped source destination stars h +
 
 -- ---- the stars
 
-pub stars-back : (l : List Hop) → starredBy (starsOf l) (carried l) ≡ l
-unfolding starredBy starsOf carried
+-- a hop that is heard as it is
+same-heard : (h : Hop) → isHeard (heardIf (isHeard h) h) ≡ isHeard h
+same-heard h = if-heard (isHeard h) h ∙ rw (← and-true (isHeard h)) (heard-is-call h true)
+
+stars-back : (l : List Hop) → eachText typedText (starredBy (starsOf l) (carried l)) ≡ eachText typedText l
+unfolding starredBy starsOf carried eachText
 stars-back [] = refl
-stars-back (h ∷ l) = rw (lowest (h .heard) (starsOf l), others (h .heard) (starsOf l), stars-back l)
+stars-back (h ∷ l) =
+    rw (lowest (isHeard h) (starsOf l), others (isHeard h) (starsOf l), if-twice (isHeard h || anyHeard l) h, same-heard h, stars-back l) (unfold heardIf in refl)
 
 hops-back : (l : List Hop) → hopsOf (pathOf l) ≡ l
 unfolding hopsOf pathOf
@@ -78,14 +85,19 @@ fields-back (x ∷ l) = let p = fields-some l in go (eqb x comma) refl (fields l
 
 -- ---- hops
 
-hop-typed : (t : List ℕ) → readHop t .refusal ≡ 0 → withStar (typedText (readHop t .hop .call)) (readHop t .hop .heard) ≡ t
-unfolding readHop hopRefused hopOf asRead
-hop-typed t = go (isQ t)
+name-typed : (t : List ℕ) → withStar (typedText (qHop t .call)) (isHeard (qHop t)) ≡ t
+unfolding qHop isHeard withStar typedText withZero made
+name-typed t = bare-written t
+
+pub hop-typed : (t : List ℕ) → readHop t .refusal ≡ 0 → withStar (typedText (readHop t .hop .call)) (isHeard (readHop t .hop)) ≡ t
+unfolding readHop hopRefused hopNamed hopOf asRead
+hop-typed t = go (startsQ t) (isQName t)
   where
-    go : (b : Bool) → cond b (hopRefused 6) (hopOf (readText t)) .refusal ≡ 0
-        → withStar (typedText (cond b (hopRefused 6) (hopOf (readText t)) .hop .call)) (cond b (hopRefused 6) (hopOf (readText t)) .hop .heard) ≡ t
-    go true z = absurd (omega arith)
-    go false z = text-is-kept t z
+    go : (b n : Bool) → cond b (cond n (hopNamed t) (hopRefused 6)) (hopOf (readText t)) .refusal ≡ 0
+        → withStar (typedText (cond b (cond n (hopNamed t) (hopRefused 6)) (hopOf (readText t)) .hop .call)) (isHeard (cond b (cond n (hopNamed t) (hopRefused 6)) (hopOf (readText t)) .hop)) ≡ t
+    go true true z = name-typed t
+    go true false z = absurd (omega arith)
+    go false n z = rw (call-heard (readText t .call) (readText t .starred)) (unfold callHop in text-is-kept t z)
 
 -- refused, or hops that are typed as the parts are
 data Typed (fs : List (List ℕ)) : Hops → Type 0 where
@@ -102,27 +114,41 @@ hops-typed (suc k) (t ∷ ts) = go (eqb (readHop t .refusal) 0) refl (hops-typed
     go : (b : Bool) → eqb (readHop t .refusal) 0 ≡ b → {w : Hops} → Typed ts w → Typed (t ∷ ts) (cond b (before (readHop t .hop) w) (refused (readHop t .refusal)))
     go true e (none n z) = none n z
     go true e (some l q) =
-        some (readHop t .hop ∷ l) (ap {B = List ℕ} (λ f. comma ∷ (f ++ afterCommas ts)) (sym (hop-typed t (eqb-true (readHop t .refusal) 0 e))) ∙ ap {B = List ℕ} (λ v. comma ∷ (withStar (typedText (readHop t .hop .call)) (readHop t .hop .heard) ++ v)) q)
+        some (readHop t .hop ∷ l) (ap {B = List ℕ} (λ f. comma ∷ (f ++ afterCommas ts)) (sym (hop-typed t (eqb-true (readHop t .refusal) 0 e))) ∙ ap {B = List ℕ} (λ v. comma ∷ (withStar (typedText (readHop t .hop .call)) (isHeard (readHop t .hop)) ++ v)) q)
     go false e w = none (readHop t .refusal) (eqb-false (readHop t .refusal) 0 e)
 
 -- ---- what stands before the colon
 
--- the stars that were behind source and destination, the place of the body, and the text
+-- the text whose parts, but for the first, are the hops, and the hops with the stars that were typed
+pub record PathTyped (h : Header) : Type 0 where
+  pub text : List ℕ
+  pub typed : List Hop
+  pub read : textHops 8 (othersOf (fields text)) ≡ these typed
+  pub path : hopsOf (h .path) ≡ carried typed
+
+-- the stars that were behind source and destination, the place of the body, the text, and its hops
 record Route (t : List ℕ) (body : ℕ) (r : HeaderRead) : Type 0 where
   source : Bool
   destination : Bool
   place : r .body ≡ body
   text : t ≡ routeTyped source destination (r .stars) (r .header)
+  hops : PathTyped (r .header)
 
 -- by source and destination, each as it was read
 module _ (body : ℕ) (from : Callsign) (source : Bool) (f : List ℕ) (p : withStar (typedText from) source ≡ f) where
-  path-kept : (to : Callsign) (destination : Bool) (d : List ℕ) → withStar (typedText to) destination ≡ d → (fs : List (List ℕ)) {w : Hops} → Typed fs w
+  path-kept : (to : Callsign) (destination : Bool) (d : List ℕ) → withStar (typedText to) destination ≡ d → (t : List ℕ) {w : Hops} → textHops 8 (othersOf (fields t)) ≡ w → Typed (othersOf (fields t)) w
       → withHops w (λ l. headerAccepted from to (pathOf (carried l)) body (starsOf l)) .refusal ≡ 0
-      → Route (f ++ greater ∷ (d ++ afterCommas fs)) body (withHops w (λ l. headerAccepted from to (pathOf (carried l)) body (starsOf l)))
+      → Route (f ++ greater ∷ (d ++ afterCommas (othersOf (fields t)))) body (withHops w (λ l. headerAccepted from to (pathOf (carried l)) body (starsOf l)))
   unfolding withHops headerRefused headerAccepted headerOf routeTyped
-  path-kept to destination d q fs (none n z) e = absurd (z e)
-  path-kept to destination d q fs (some l s) e =
-      record { source = source; destination = destination; place = refl; text = rw (hops-back (carried l), stars-back l, p, q, s) }
+  path-kept to destination d q t r (none n z) e = absurd (z e)
+  path-kept to destination d q t r (some l s) e =
+      record {
+        source = source;
+        destination = destination;
+        place = refl;
+        text = rw (hops-back (carried l), stars-back l, p, q, s);
+        hops = record { text = t; typed = l; read = r; path = hops-back (carried l) };
+      }
 
   route-kept : (t : List ℕ) → readRoute from t body .refusal ≡ 0 → Route (f ++ greater ∷ t) body (readRoute from t body)
   unfolding readRoute unlessRefused headerRefused asRead rejoined
@@ -136,7 +162,7 @@ module _ (body : ℕ) (from : Callsign) (source : Bool) (f : List ℕ) (p : with
           → Route (f ++ greater ∷ t) body (cond b (withHops (textHops 8 (othersOf (fields t))) (λ l. headerAccepted from (to .call) (pathOf (carried l)) body (starsOf l))) (headerRefused (to .refusal)))
       go true e z =
           rw (fields-back t) at
-          (path-kept (to .call) (to .starred) (firstOf (fields t)) (text-is-kept (firstOf (fields t)) (eqb-true (to .refusal) 0 e)) (othersOf (fields t)) (hops-typed 8 (othersOf (fields t))) z)
+          (path-kept (to .call) (to .starred) (firstOf (fields t)) (text-is-kept (firstOf (fields t)) (eqb-true (to .refusal) 0 e)) t refl (hops-typed 8 (othersOf (fields t))) z)
       go false e z = absurd (eqb-false (to .refusal) 0 e z)
 
 before-kept : (t : List ℕ) (body : ℕ) → readBefore t body .refusal ≡ 0 → Route t body (readBefore t body)
@@ -166,6 +192,7 @@ pub record Kept (s : List ℕ) (r : HeaderRead) : Type 0 where
   pub source : Bool
   pub destination : Bool
   pub text : take (r .body) s ≡ headerTyped source destination (r .stars) (r .header)
+  pub hops : PathTyped (r .header)
 
 -- up to the first b, and with it
 with-found : (b : ℕ) (s : List ℕ) → indexOf b s < length s → take (indexOf b s + 1) s ≡ take (indexOf b s) s ++ b ∷ []
@@ -190,6 +217,7 @@ text-kept s = go (eqb c (length s)) refl
           source = r .source;
           destination = r .destination;
           text = ap (λ (k : ℕ). take k s) (r .place) ∙ with-found colon s (omega (arith, index-le colon s)) ∙ ap (λ (t : List ℕ). t ++ colon ∷ []) (r .text);
+          hops = r .hops;
         }
 
 pub line-kept : (s : List ℕ) → readTextHeader s .refusal ≡ 0 → Kept s (readTextHeader s)

@@ -1,11 +1,14 @@
+pub mod Hops
 pub mod Typed
 pub mod Stars
+pub mod Last
 pub mod Going
 pub mod Walks
 pub mod TextHops
 pub mod Heads
 pub mod InRange
 pub mod Pieces
+pub mod HopsPut
 pub mod Putting
 pub mod TextWritten
 pub mod FrameWritten
@@ -14,6 +17,8 @@ pub mod Frames
 pub mod Answers
 pub mod FrameBack
 pub mod Kept
+pub mod WithoutQ
 pub mod Marks
+pub mod PathBack
 pub mod Theorems
 pub mod Unique

@@ -1,16 +1,16 @@
 -- The marks of dropped zeros in a header: what is judged and written is that of the header without them, and no frame sets one.
 -- Assumes nothing.
 use mathlib.Core.Path.{_≡_, refl, ap}
-use mathlib.Core.Bool.{Bool, true, false, not, cond, _&&_, _||_}
+use mathlib.Core.Bool.{Bool, true, false, cond, _&&_, _||_}
 use mathlib.Core.List.{List, [], _∷_, map, map-map, map-append}
 use Prim.Native.Nat.{ℕ, zero, suc, _+_, _-_, _*_}
 use lib.Dec.{eqb, ltb}
 use lib.ListN.{length, take, drop, replicate}
-use Rattle.laws.specs.Lists.{padTo}
+use Rattle.laws.specs.Lists.{anyOf, padTo}
 use Rattle.laws.proofs.Lists.{take-map, drop-map, map-replicate}
 use Rattle.laws.proofs.Each.{every-map}
 use Rattle.callsign.specs.declared.Callsign.{Callsign}
-use Rattle.callsign.specs.declared.Field.the-variants.{Destination, Hop as HopField}
+use Rattle.callsign.specs.declared.Field.the-variants.{Destination, Source, Hop as HopField}
 use Rattle.callsign.specs.Text.{markedAs, blankCall}
 use Rattle.callsign.specs.Address.{readAddress}
 use Rattle.callsign.proofs.Marks.{mark-in-range, mark-of-blank, mark-in-text, mark-in-address, unmarkedCall, unmarked-made, unmarked-address}
@@ -18,15 +18,16 @@ use Rattle.header.specs.declared.Hop.{Hop}
 use Rattle.header.specs.declared.Path.{Path}
 use Rattle.header.specs.declared.Header.{Header}
 use Rattle.header.specs.declared.HeaderRead.{HeaderRead}
+use Rattle.header.specs.Hop.{notHeard, callHop, isHeard, isQElement, callsOf, anyHeard}
 use Rattle.header.specs.Header.{mostBytes, Hops, refused, these, before, blankHop, pathOf, hopsOf, headerOf, blankHeader, headerRefused, headerAccepted, unlessRefused, withHops}
-use Rattle.header.specs.Text.{anyHeard, hopsText, routeText, headerText}
+use Rattle.header.specs.Text.{hopsText, routeText, headerText}
 use Rattle.header.specs.Frame.{startsWithPair, addressHop, addressThen, frameHops, withPair, readSource, readFrameHeader, isNone, hopAddresses, addresses, headerFrame}
-use Rattle.header.specs.Range.{hopInRange, isBlank, isBlankHeader, pathInRange, headerInRange, textRefusal, frameRefusal}
+use Rattle.header.specs.Range.{isSomeHop, hopInRange, isBlank, isBlankHeader, pathInRange, headerInRange, textRefusal, frameRefusal}
 
 -- ---- a header without its marks
 
 unfoldable pub unmarkedHop : Hop → Hop
-unmarkedHop h = record { call = unmarkedCall (h .call); heard = h .heard }
+unmarkedHop h = record { call = unmarkedCall (h .call); kind = h .kind }
 
 unfoldable pub unmarkedPath : Path → Path
 unmarkedPath p = record { hops = map unmarkedHop (p .hops); count = p .count }
@@ -40,20 +41,30 @@ hops-unmarked : (p : Path) → hopsOf (unmarkedPath p) ≡ map unmarkedHop (hops
 unfolding hopsOf unmarkedPath
 hops-unmarked p = take-map unmarkedHop (p .count) (p .hops)
 
-heard-unmarked : (l : List Hop) → anyHeard (map unmarkedHop l) ≡ anyHeard l
-unfolding anyHeard unmarkedHop
+pub heard-unmarked : (l : List Hop) → anyHeard (map unmarkedHop l) ≡ anyHeard l
+unfolding anyOf isHeard unmarkedHop
 heard-unmarked [] = refl
-heard-unmarked (h ∷ l) = ap (λ (b : Bool). h .heard || b) (heard-unmarked l)
+heard-unmarked (h ∷ l) = ap (λ (b : Bool). isHeard h || b) (heard-unmarked l)
+
+calls-unmarked : (l : List Hop) → callsOf (map unmarkedHop l) ≡ map unmarkedHop (callsOf l)
+unfolding callsOf isQElement unmarkedHop
+calls-unmarked [] = refl
+calls-unmarked (h ∷ l) = go (isQElement h) (calls-unmarked l)
+  where
+    go : (k : Bool) → callsOf (map unmarkedHop l) ≡ map unmarkedHop (callsOf l)
+        → cond k (callsOf (map unmarkedHop l)) (unmarkedHop h ∷ callsOf (map unmarkedHop l)) ≡ map unmarkedHop (cond k (callsOf l) (h ∷ callsOf l))
+    go true r = r
+    go false r = ap {B = List Hop} (λ t. unmarkedHop h ∷ t) r
 
 -- ---- the range
 
 hop-in-range : (h : Hop) → hopInRange (unmarkedHop h) ≡ hopInRange h
-unfolding unmarkedHop
-hop-in-range h = mark-in-range false (h .call)
+unfolding hopInRange isSomeHop isQElement unmarkedHop
+hop-in-range h = rw (mark-in-range false (h .call), mark-in-text false (h .call))
 
 hop-of-blank : (h : Hop) → isBlank (unmarkedHop h) ≡ isBlank h
 unfolding isBlank unmarkedHop
-hop-of-blank h = ap (λ (b : Bool). not (h .heard) && b) (mark-of-blank false (h .call))
+hop-of-blank h = ap (λ (b : Bool). eqb (h .kind) notHeard && b) (mark-of-blank false (h .call))
 
 path-in-range : (p : Path) → pathInRange (unmarkedPath p) ≡ pathInRange p
 unfolding pathInRange
@@ -72,7 +83,7 @@ unmarked-is-blank h = rw (mark-of-blank false (h .from), mark-of-blank false (h 
 -- ---- a line
 
 hops-text : (l : List Hop) → hopsText (map unmarkedHop l) ≡ hopsText l
-unfolding hopsText unmarkedHop
+unfolding hopsText isHeard unmarkedHop
 hops-text [] = refl
 hops-text (h ∷ l) = rw (mark-in-text false (h .call), heard-unmarked l, hops-text l)
 
@@ -92,15 +103,15 @@ none-unmarked [] = refl
 none-unmarked (h ∷ l) = refl
 
 hop-addresses : (l : List Hop) → hopAddresses (map unmarkedHop l) ≡ hopAddresses l
-unfolding hopAddresses unmarkedHop
+unfolding hopAddresses isHeard unmarkedHop
 hop-addresses [] = refl
-hop-addresses (h ∷ l) = rw (mark-in-address false (h .call) (HopField (h .heard)) (isNone (map unmarkedHop l)), none-unmarked l, hop-addresses l)
+hop-addresses (h ∷ l) = rw (mark-in-address false (h .call) (HopField (isHeard h)) (isNone (map unmarkedHop l)), none-unmarked l, hop-addresses l)
 
 same-addresses : (h : Header) → addresses (unmarked h) ≡ addresses h
 unfolding addresses unmarked headerOf
 same-addresses h =
-    rw (hops-unmarked (h .path), hop-addresses (hopsOf (h .path)), mark-in-address false (h .to) Destination false)
-    (unfold unmarkedPath in rw (mark-in-address false (h .from)) refl)
+    let calls = callsOf (hopsOf (h .path)) in
+    rw (hops-unmarked (h .path), calls-unmarked (hopsOf (h .path)), hop-addresses calls, none-unmarked calls, mark-in-address false (h .to) Destination false, mark-in-address false (h .from) Source (isNone calls))
 
 pub unmarked-frame : (h : Header) → headerFrame (unmarked h) ≡ headerFrame h
 unfolding headerFrame
@@ -131,7 +142,7 @@ hop-in-front h e (none n) = none n
 hop-in-front h e (some l q) = some (h ∷ l) (rw (e, q))
 
 address-hop : (s : List ℕ) → unmarkedHop (addressHop (readAddress s)) ≡ addressHop (readAddress s)
-unfolding addressHop unmarkedHop
+unfolding addressHop callHop unmarkedHop
 address-hop s = rw (unmarked-address s)
 
 frame-hops : (k : ℕ) (s : List ℕ) → Unmarked (frameHops k s)
@@ -151,7 +162,7 @@ either-bare true p q = p
 either-bare false p q = q
 
 hop-bare : unmarkedHop blankHop ≡ blankHop
-unfolding unmarkedHop blankHop blankCall
+unfolding unmarkedHop blankHop callHop blankCall
 hop-bare = rw (unmarked-made [] [])
 
 path-bare : (l : List Hop) → map unmarkedHop l ≡ l → unmarkedPath (pathOf l) ≡ pathOf l

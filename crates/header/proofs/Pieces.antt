@@ -228,12 +228,24 @@ module _ (v : List ℕ) (at : ℕ) (w : Answer) (left : List ℕ) (p : Piece) (h
 pub place-fits : (v left bytes : List ℕ) (at k : ℕ) (w : Answer) → at ≤ length v → ends w left ≡ wrote k bytes (take (length v - at) (drop at v)) → length v < 2 ^ 64 → Fits w64 (at + w .reported)
 place-fits v left bytes at k w h sent b = let m = place-within bytes v left at k w h sent in record { fits = omega arith }
 
+-- ---- a piece that is refused before any byte, and one that has none
+
+pub piece-refused : (v : List ℕ) (at r k : ℕ) (p : Piece) → (p .refusal ≡ 0 → ⊥) → k ≡ max r (p .refusal) → building k v at ≡ withPiece (building r v at) p
+unfolding withPiece answerTo
+piece-refused v at r k p z e = rw (ne-eqb (p .refusal) 0 z, e)
+
+pub nothing-put : (v : List ℕ) (at r : ℕ) (p : Piece) → at ≤ length v → p ≡ plain [] → building r v at ≡ withPiece (building r v at) p
+unfolding withPiece answerTo
+nothing-put v at r p h e =
+    let n : at + length {A = ℕ} [] ≡ at = omega arith in
+    let m : r ≡ max r 0 = omega arith in
+    rw (e, n, le-leb at (length v) h, ← added-none (filled v at)) (λ i. record { refusal = m i; array = filled v at })
+
 -- ---- an address, which its writer gives whole
 
 module _ (v : List ℕ) (at r : ℕ) (a d : AddressWritten) (q : a ≡ d) where
   pub address-refused : (k : ℕ) → (a .refusal ≡ 0 → ⊥) → k ≡ max r (a .refusal) → building k v at ≡ withPiece (building r v at) (addressPiece d)
-  unfolding withPiece answerTo
-  address-refused k z e = rw (← q, ne-eqb (a .refusal) 0 z, e)
+  address-refused k z e = rw (← q) (piece-refused v at r k (addressPiece a) z e)
 
   pub address-put : (b : Building) → a .refusal ≡ 0 → b ≡ withPiece (building r v at) (plain (a .bytes)) → b ≡ withPiece (building r v at) (addressPiece d)
   address-put b z e = e ∙ ap (λ (n : ℕ). withPiece (building r v at) (record { refusal = n; bytes = a .bytes })) (sym z) ∙ ap (λ (x : AddressWritten). withPiece (building r v at) (addressPiece x)) q

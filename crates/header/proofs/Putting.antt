@@ -1,24 +1,22 @@
 -- The hops of a header put one by one, as text or as addresses: what is done, and what the rest still adds.
 -- Assumes nothing.
 use mathlib.Core.Path.{_≡_, refl, sym, ap, _∙_}
-use mathlib.Core.Bool.{Bool, true, false, not, _&&_}
+use mathlib.Core.Bool.{Bool, true, false, not, cond, _&&_, _||_}
 use mathlib.Core.List.{List, [], _∷_, _++_, append-assoc}
-use Prim.Native.Nat.{ℕ, suc, _+_, _-_, _<_, _≤_}
+use Prim.Native.Nat.{ℕ, suc, _+_, _<_, _≤_}
 use native.Mathlib.Numerals.{add-one}
 use native.Mathlib.Omega.{arith}
 use lib.Dec.{eqb}
-use borrow.Author.Tests.{eq-eqb, ne-eqb, eqb-true, eqb-false}
 use lib.ListN.{length, take, getD}
-use lib.Seq.{slice, slice-cons, slice-empty, length-slice, getD-take, length-take-le}
+use lib.Seq.{slice, slice-cons, slice-empty, getD-take, length-take-le}
 use Rattle.laws.specs.Bytes.{comma}
-use Rattle.callsign.specs.declared.Field.the-variants.{Hop as HopField}
-use Rattle.callsign.specs.Packed.{writeAddress}
+use Rattle.laws.specs.Lists.{anyOf}
 use Rattle.header.specs.declared.Hop.{Hop}
 use Rattle.header.specs.declared.Put.{Put}
-use Rattle.header.specs.Text.{anyHeard}
-use Rattle.header.specs.Frame.{isNone, hopAddresses}
-use Rattle.header.specs.Private.{Piece, Building, building, plain, callPiece, addressPiece, hopAddressPieces, withPiece, withPieces, heardUpTo, hopPieces}
-use Rattle.header.proofs.Stars.{star-at}
+use Rattle.header.specs.Hop.{isHeard, isQElement, isCall, callsOf, anyHeard}
+use Rattle.header.specs.Frame.{isNone}
+use Rattle.header.specs.Private.{Piece, Building, building, plain, hopPiece, hopAddressPiece, hopAddressPieces, withPiece, withPieces, isSought, upTo, hopPieces}
+use Rattle.header.proofs.Last.{last-at, none-found}
 use Rattle.header.proofs.Pieces.{piece-within, piece-length, pieces-within, pieces-append}
 
 -- ---- the place behind a piece, and behind several
@@ -86,25 +84,26 @@ module _ (of : List Hop → List Piece) (v₀ : List ℕ) (p₀ : Put) (hops : L
 -- ---- as text
 
 module _ (v₀ : List ℕ) (p₀ : Put) (hops : List Hop) (n : ℕ) (v : List ℕ) (p : Put) (i : ℕ) (g : Putting hopPieces v₀ p₀ hops n v p i)
-    (d : Hop) (last : ℕ) (lt : i < n) (f : length hops ≡ 8) (el : last ≡ heardUpTo (take n hops)) where
+    (d : Hop) (last : ℕ) (lt : i < n) (f : length hops ≡ 8) (el : last ≡ upTo (isSought true) (take n hops)) where
   -- the hop at i is starred where it is the last heard one
-  starred : eqb (i + 1) last ≡ (getD hops i d .heard && not (anyHeard (slice (i + 1) n hops)))
+  starred : eqb (i + 1) last ≡ (isHeard (getD hops i d) && not (anyHeard (slice (i + 1) n hops)))
+  unfolding isSought
   starred =
       let k = g .few in
       let m : length (take n hops) ≡ n = length-take-le n hops (omega arith) in
-      rw (el, add-one) (star-at (take n hops) i d (omega arith) ∙ rw (getD-take n hops i d lt))
+      rw (el, add-one) (last-at isHeard (take n hops) i d (omega arith) ∙ rw (getD-take n hops i d lt))
 
-  spelled : hopPieces (slice i n hops) ≡ (plain (comma ∷ []) ∷ callPiece (getD hops i d .call) (eqb (i + 1) last) ∷ []) ++ hopPieces (slice (i + 1) n hops)
+  spelled : hopPieces (slice i n hops) ≡ (plain (comma ∷ []) ∷ hopPiece (getD hops i d) (eqb (i + 1) last) ∷ []) ++ hopPieces (slice (i + 1) n hops)
   unfolding hopPieces
   spelled = let k = g .few in rw (slice-cons i n hops d lt (omega arith), starred, add-one)
 
   pub hop-put : (r₁ n₁ : ℕ) (v₁ v₂ : List ℕ) (p₂ : Put)
       → building r₁ v₁ n₁ ≡ withPiece (building (p .refusal) v (p .at)) (plain (comma ∷ []))
-      → building (p₂ .refusal) v₂ (p₂ .at) ≡ withPiece (building r₁ v₁ n₁) (callPiece (getD hops i d .call) (eqb (i + 1) last))
+      → building (p₂ .refusal) v₂ (p₂ .at) ≡ withPiece (building r₁ v₁ n₁) (hopPiece (getD hops i d) (eqb (i + 1) last))
       → Putting hopPieces v₀ p₀ hops n v₂ p₂ (i + 1)
   unfolding withPieces
   hop-put r₁ n₁ v₁ v₂ p₂ q₁ q₂ =
-      let c = callPiece (getD hops i d .call) (eqb (i + 1) last) in
+      let c = hopPiece (getD hops i d) (eqb (i + 1) last) in
       let w = place-behind (p .refusal) (p .at) r₁ n₁ v v₁ (plain (comma ∷ [])) q₁ (g .within) in
       let s₁ : length v₁ ≡ length v = ap (λ (b : Building). length (b .array .bytes)) q₁ ∙ piece-length (building (p .refusal) v (p .at)) (plain (comma ∷ [])) in
       let s₂ : length v₂ ≡ length v₁ = ap (λ (b : Building). length (b .array .bytes)) q₂ ∙ piece-length (building r₁ v₁ n₁) c in
@@ -113,35 +112,50 @@ module _ (v₀ : List ℕ) (p₀ : Put) (hops : List Hop) (n : ℕ) (v : List �
 
 -- ---- as addresses
 
-none-by-length : (l : List Hop) → isNone l ≡ eqb (length l) 0
-unfolding isNone
-none-by-length [] = refl
-none-by-length (h ∷ l) = sym (ne-eqb (suc (length l)) 0 (λ z. omega arith))
-
--- a hop is the last where no other follows
-last-by-count : (hops : List Hop) (n i : ℕ) → i < n → n ≤ length hops → isNone (slice (i + 1) n hops) ≡ eqb (i + 1) n
-last-by-count hops n i h k = none-by-length (slice (i + 1) n hops) ∙ rw (length-slice (i + 1) n hops k) (go (eqb (i + 1) n) refl)
+none-called : (l : List Hop) → not (anyOf isCall l) ≡ isNone (callsOf l)
+unfolding anyOf callsOf isNone
+none-called [] = refl
+none-called (h ∷ l) = go (isQElement h) (none-called l)
   where
-    go : (b : Bool) → eqb (i + 1) n ≡ b → eqb (n - (i + 1)) 0 ≡ eqb (i + 1) n
-    go true e = let q = eqb-true (i + 1) n e in eq-eqb (n - (i + 1)) 0 (omega arith) ∙ sym e
-    go false e = let q = eqb-false (i + 1) n e in ne-eqb (n - (i + 1)) 0 (λ z. q (omega arith)) ∙ sym e
+    go : (k : Bool) → not (anyOf isCall l) ≡ isNone (callsOf l) → not (not k || anyOf isCall l) ≡ isNone (cond k (callsOf l) (h ∷ callsOf l))
+    go true r = r
+    go false r = refl
+
+-- no callsign is left
+pub none-left : (l : List Hop) → eqb (upTo (isSought false) l) 0 ≡ isNone (callsOf l)
+unfolding isSought
+none-left l = none-found isCall l ∙ none-called l
+
+-- of a Q element it does not matter whether it were the last
+q-piece : (h : Hop) (a b : Bool) → isQElement h ≡ true → hopAddressPiece h a ≡ hopAddressPiece h b
+unfolding hopAddressPiece
+q-piece h a b e = rw e
 
 module _ (v₀ : List ℕ) (p₀ : Put) (hops : List Hop) (n : ℕ) (v : List ℕ) (p : Put) (i : ℕ) (g : Putting hopAddressPieces v₀ p₀ hops n v p i)
-    (d : Hop) (lt : i < n) (f : length hops ≡ 8) where
-  addressed : hopAddressPieces (slice i n hops)
-      ≡ (addressPiece (writeAddress (getD hops i d .call) (HopField (getD hops i d .heard)) (eqb (i + 1) n)) ∷ []) ++ hopAddressPieces (slice (i + 1) n hops)
-  unfolding hopAddresses
-  addressed =
+    (d : Hop) (last : ℕ) (lt : i < n) (f : length hops ≡ 8) (el : last ≡ upTo isCall (take n hops)) where
+  -- a callsign is the last where no other follows
+  is-last : isQElement (getD hops i d) ≡ false → eqb (i + 1) last ≡ isNone (callsOf (slice (i + 1) n hops))
+  is-last q =
       let k = g .few in
-      let e : isNone (slice (suc i) n hops) ≡ eqb (suc i) n = rw add-one at (last-by-count hops n i lt (omega arith)) in
-      rw (slice-cons i n hops d lt (omega arith), add-one, e)
+      let m : length (take n hops) ≡ n = length-take-le n hops (omega arith) in
+      rw (el, add-one) (last-at isCall (take n hops) i d (omega arith) ∙ rw (getD-take n hops i d lt, q) (none-called (slice (suc i) n hops)))
 
-  pub hop-addressed : (v′ : List ℕ) (p′ : Put)
-      → building (p′ .refusal) v′ (p′ .at) ≡ withPiece (building (p .refusal) v (p .at)) (addressPiece (writeAddress (getD hops i d .call) (HopField (getD hops i d .heard)) (eqb (i + 1) n)))
+  its-piece : hopAddressPiece (getD hops i d) (isNone (callsOf (slice (i + 1) n hops))) ≡ hopAddressPiece (getD hops i d) (eqb (i + 1) last)
+  its-piece = go (isQElement (getD hops i d)) refl
+    where
+      go : (k : Bool) → isQElement (getD hops i d) ≡ k → hopAddressPiece (getD hops i d) (isNone (callsOf (slice (i + 1) n hops))) ≡ hopAddressPiece (getD hops i d) (eqb (i + 1) last)
+      go true q = q-piece (getD hops i d) _ _ q
+      go false q = ap (hopAddressPiece (getD hops i d)) (sym (is-last q))
+
+  addressed : hopAddressPieces (slice i n hops) ≡ (hopAddressPiece (getD hops i d) (eqb (i + 1) last) ∷ []) ++ hopAddressPieces (slice (i + 1) n hops)
+  unfolding hopAddressPieces
+  addressed = let k = g .few in rw (slice-cons i n hops d lt (omega arith), ← its-piece, add-one)
+
+  pub hop-addressed : (v′ : List ℕ) (p′ : Put) → building (p′ .refusal) v′ (p′ .at) ≡ withPiece (building (p .refusal) v (p .at)) (hopAddressPiece (getD hops i d) (eqb (i + 1) last))
       → Putting hopAddressPieces v₀ p₀ hops n v′ p′ (i + 1)
   unfolding withPieces
   hop-addressed v′ p′ q =
-      let a = addressPiece (writeAddress (getD hops i d .call) (HopField (getD hops i d .heard)) (eqb (i + 1) n)) in
+      let a = hopAddressPiece (getD hops i d) (eqb (i + 1) last) in
       let s : length v′ ≡ length v = ap (λ (b : Building). length (b .array .bytes)) q ∙ piece-length (building (p .refusal) v (p .at)) a in
       more hopAddressPieces v₀ p₀ hops n v p i g v′ p′ (a ∷ []) lt addressed s (place-behind (p .refusal) (p .at) (p′ .refusal) (p′ .at) v v′ a q (g .within))
       (λ x. ap (λ (b : Building). withPieces b x) (sym q))

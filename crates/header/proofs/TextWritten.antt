@@ -18,20 +18,21 @@ use Rattle.callsign.specs.Range.{inRange, rangeRefusal, textOf, withStar}
 use Rattle.callsign.proofs.Ranges.{text-short, star-short}
 use Rattle.header.specs.declared.Hop.{Hop}
 use Rattle.header.specs.declared.Header.{Header}
+use Rattle.header.specs.Hop.{isHeard, anyHeard}
 use Rattle.header.specs.Header.{hopsOf}
-use Rattle.header.specs.Text.{anyHeard, hopsText, routeText, headerText}
+use Rattle.header.specs.Text.{hopsText, routeText, headerText}
 use Rattle.header.specs.Range.{hopInRange, headerInRange, textRefusal}
-use Rattle.header.specs.Private.{Building, isTidy, building, plain, callPiece, withPiece, withPieces, endPieces, hopPieces, textPieces}
+use Rattle.header.specs.Private.{Building, isTidy, building, plain, callPiece, hopPiece, withPiece, withPieces, endPieces, hopPieces, textPieces}
 use Rattle.header.proofs.Pieces.{bytesOf, greatest, sizeOf, sizes, bytes-append, greatest-append, sizes-append, sizes-accepted, put-out}
 use Rattle.header.proofs.Putting.{all-put}
-use Rattle.header.proofs.InRange.{tidy-count, judged-tidy, path-tidy, untidy-out, tidy-range}
+use Rattle.header.proofs.InRange.{call-fine, tidy-count, judged-tidy, path-tidy, untidy-out, tidy-range}
 
 -- ---- refusals
 
 hops-judged : (l : List Hop) → greatest (hopPieces l) ≡ cond (every hopInRange l) 0 15
-unfolding hopPieces greatest every rangeRefusal
+unfolding hopPieces greatest every
 hops-judged [] = refl
-hops-judged (h ∷ l) = go (inRange (h .call)) (every hopInRange l) (hops-judged l)
+hops-judged (h ∷ l) = go (hopInRange h) (every hopInRange l) (hops-judged l)
   where
     go : (a b : Bool) → greatest (hopPieces l) ≡ cond b 0 15 → max 0 (max (cond a 0 15) (greatest (hopPieces l))) ≡ cond (a && b) 0 15
     go true true e = omega arith
@@ -62,7 +63,7 @@ text-judged h e =
 hops-spelled : (l : List Hop) → bytesOf (hopPieces l) ≡ hopsText l
 unfolding hopPieces bytesOf hopsText
 hops-spelled [] = refl
-hops-spelled (h ∷ l) = ap (λ (x : List ℕ). comma ∷ (withStar (textOf (h .call)) (h .heard && not (anyHeard l)) ++ x)) (hops-spelled l)
+hops-spelled (h ∷ l) = ap (λ (x : List ℕ). comma ∷ (withStar (textOf (h .call)) (isHeard h && not (anyHeard l)) ++ x)) (hops-spelled l)
 
 pub text-spelled : (h : Header) → bytesOf (textPieces h) ≡ headerText h
 unfolding textPieces bytesOf withStar headerText routeText
@@ -86,19 +87,19 @@ call-size c = go (inRange c) refl
     go true e = text-short c e
     go false e = omega arith
 
-starred-size : (c : Callsign) (starred : Bool) → sizeOf (callPiece c starred) ≤ 17
-unfolding sizeOf rangeRefusal
-starred-size c starred = go (inRange c) refl
+hop-size : (h : Hop) (starred : Bool) → sizeOf (hopPiece h starred) ≤ 17
+unfolding sizeOf
+hop-size h starred = go (hopInRange h) refl
   where
-    go : (b : Bool) → inRange c ≡ b → cond (eqb (cond b 0 15) 0) (length (withStar (textOf c) starred)) 0 ≤ 17
-    go true e = star-short c starred e
+    go : (b : Bool) → hopInRange h ≡ b → cond (eqb (cond b 0 15) 0) (length (withStar (textOf (h .call)) starred)) 0 ≤ 17
+    go true e = star-short (h .call) starred (call-fine h e)
     go false e = omega arith
 
 hops-size : (l : List Hop) → sizes (hopPieces l) ≤ 18 * length l
 unfolding hopPieces sizes
 hops-size [] = omega arith
 hops-size (h ∷ l) =
-    let a = starred-size (h .call) (h .heard && not (anyHeard l)) in
+    let a = hop-size h (isHeard h && not (anyHeard l)) in
     let b = hops-size l in
     let d : sizeOf (plain (comma ∷ [])) ≡ 1 = plain-size (comma ∷ []) in
     omega arith

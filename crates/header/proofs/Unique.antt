@@ -10,6 +10,7 @@ use Rattle.laws.proofs.Unique.{one-value}
 use Rattle.buffer.proofs.Wrote.{one-end}
 use Rattle.header.specs.declared.Header.{Header}
 use Rattle.header.specs.declared.HeaderRead.{HeaderRead}
+use Rattle.header.specs.Hop.{isQName}
 use Rattle.header.specs.Header.{blankHeader}
 use Rattle.header.specs.Text.{readHeaderText, readTextHeader, headerText}
 use Rattle.header.specs.Frame.{readFrameHeader, headerFrame}
@@ -17,6 +18,9 @@ use Rattle.header.specs.Range.{isBlankHeader, textRefusal, frameRefusal}
 
 pub unique-blank : (r r′ : Header) → r ≡ blankHeader → r′ ≡ blankHeader → r ≡ r′
 unique-blank r r′ = one-value r r′ blankHeader
+
+pub unique-is-q-name : (t : List ℕ) (r r′ : Bool) → r ≡ isQName t → r′ ≡ isQName t → r ≡ r′
+unique-is-q-name t r r′ = one-value r r′ (isQName t)
 
 pub unique-read-any-length : (s : List ℕ) (r r′ : HeaderRead) → r ≡ readHeaderText s → r′ ≡ readHeaderText s → r ≡ r′
 unique-read-any-length s r r′ = one-value r r′ (readHeaderText s)

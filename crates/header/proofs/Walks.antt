@@ -1,27 +1,32 @@
 -- What reading hops can give, of a text or of a frame: a refusal, or at most so many hops, each in range.
 -- Assumes nothing.
-use mathlib.Core.Path.{_≡_, refl, ap}
+use mathlib.Core.Path.{_≡_, refl}
 use mathlib.Core.Logic.{_⊎_, inl, inr}
-use mathlib.Core.Bool.{Bool, true, false, cond, _&&_}
+use mathlib.Core.Bool.{Bool, true, false, cond, _&&_, _||_}
 use mathlib.Core.List.{List, [], _∷_}
 use Prim.Native.Nat.{ℕ, zero, suc, _<_, _≤_}
 use native.Mathlib.Omega.{arith}
-use lib.Dec.{eqb, ltb}
+use lib.Dec.{eqb, ltb, leb}
 use borrow.Author.Tests.{eqb-false}
 use lib.ListN.{length, take, drop}
 use Rattle.laws.specs.Lists.{every}
-use Rattle.callsign.specs.Text.{readText}
+use Rattle.laws.proofs.Tests.{and-second}
+use Rattle.laws.proofs.Each.{every-first, every-rest}
+use Rattle.callsign.specs.declared.Callsign.{Callsign}
+use Rattle.callsign.specs.Text.{blankCall, readText}
 use Rattle.callsign.specs.Address.{call, readAddress}
-use Rattle.callsign.specs.Range.{inRange}
+use Rattle.callsign.specs.Range.{inRange, textOf}
 use Rattle.callsign.proofs.Theorems.{text-is-in-range, address-is-in-range}
 use Rattle.callsign.proofs.Made.{blank-range}
 use Rattle.callsign.proofs.TextBack.{text-refusal}
 use Rattle.callsign.proofs.AddressBack.{address-refusal}
 use Rattle.header.specs.declared.Hop.{Hop}
 use Rattle.header.specs.Header.{Hops, refused, these, before, blankHop}
-use Rattle.header.specs.Text.{isQ, hopRefused, hopOf, readHop, hopThen, textHops, carried}
+use Rattle.header.specs.Hop.{isQName, notHeard, wasHeard, qElement, heardAs, callHop, isHeard, isQElement, anyHeard, heardIf}
+use Rattle.header.specs.Text.{startsQ, hopRefused, hopNamed, hopOf, readHop, hopThen, textHops, carried}
 use Rattle.header.specs.Frame.{addressHop, addressThen, frameHops}
-use Rattle.header.specs.Range.{hopInRange}
+use Rattle.header.specs.Range.{isSomeHop, hopInRange}
+use Rattle.header.proofs.Hops.{if-q, call-is-call, name-range}
 
 -- ---- the numbers
 
@@ -60,20 +65,31 @@ pub call-in-text : (s : List ℕ) → (readText s .refusal ≡ 0 → ⊥) → In
 call-in-text s z = let m = text-refusal s z in record { low = omega arith; high = omega arith }
 
 hop-in-text : (t : List ℕ) → (readHop t .refusal ≡ 0 → ⊥) → InText (readHop t .refusal)
-unfolding readHop hopRefused hopOf
-hop-in-text t = go (isQ t)
+unfolding readHop hopRefused hopNamed hopOf
+hop-in-text t = go (startsQ t) (isQName t)
   where
-    go : (b : Bool) → (cond b (hopRefused 6) (hopOf (readText t)) .refusal ≡ 0 → ⊥) → InText (cond b (hopRefused 6) (hopOf (readText t)) .refusal)
-    go true z = record { low = omega arith; high = omega arith }
-    go false z = call-in-text t z
+    go : (b n : Bool) → (cond b (cond n (hopNamed t) (hopRefused 6)) (hopOf (readText t)) .refusal ≡ 0 → ⊥) → InText (cond b (cond n (hopNamed t) (hopRefused 6)) (hopOf (readText t)) .refusal)
+    go true true z = absurd (z refl)
+    go true false z = record { low = omega arith; high = omega arith }
+    go false n z = call-in-text t z
+
+-- a callsign in range is a hop in range
+call-range : (c : Callsign) (b : Bool) → inRange c ≡ true → hopInRange (callHop c b) ≡ true
+unfolding hopInRange isSomeHop
+call-range c b e = rw (call-is-call c b) (unfold callHop heardAs in go b)
+  where
+    go : (b : Bool) → (leb (cond b wasHeard notHeard) wasHeard && inRange c) ≡ true
+    go true = e
+    go false = e
 
 hop-range : (t : List ℕ) → hopInRange (readHop t .hop) ≡ true
-unfolding readHop hopRefused hopOf blankHop
-hop-range t = go (isQ t)
+unfolding readHop hopRefused hopNamed hopOf blankHop
+hop-range t = go (startsQ t) (isQName t) refl
   where
-    go : (b : Bool) → inRange (cond b (hopRefused 6) (hopOf (readText t)) .hop .call) ≡ true
-    go true = blank-range
-    go false = text-is-in-range t
+    go : (b n : Bool) → isQName t ≡ n → hopInRange (cond b (cond n (hopNamed t) (hopRefused 6)) (hopOf (readText t)) .hop) ≡ true
+    go true true e = name-range t e
+    go true false e = call-range blankCall false blank-range
+    go false n e = call-range (readText t .call) (readText t .starred) (text-is-in-range t)
 
 pub text-sound : (k : ℕ) (parts : List (List ℕ)) → Sound InText k (textHops k parts)
 unfolding textHops hopThen every
@@ -86,10 +102,21 @@ text-sound (suc k) (t ∷ ts) =
     (λ e. before-sound InText (readHop t .hop) k (hop-range t) r)
     (λ e. none (readHop t .refusal) (hop-in-text t (eqb-false (readHop t .refusal) 0 e)))
 
-pub carried-range : (l : List Hop) → every hopInRange (carried l) ≡ every hopInRange l
+-- whoever is heard, a hop in range stays so
+if-range : (b : Bool) (h : Hop) → hopInRange h ≡ true → hopInRange (heardIf b h) ≡ true
+unfolding hopInRange isSomeHop
+if-range b h e = rw (if-q b h) (unfold heardIf heardAs in go (isQElement h) b e)
+  where
+    go : (k b : Bool) → (cond k (isQName (textOf (h .call))) (leb (h .kind) wasHeard) && inRange (h .call)) ≡ true
+        → (cond k (isQName (textOf (h .call))) (leb (cond k qElement (cond b wasHeard notHeard)) wasHeard) && inRange (h .call)) ≡ true
+    go true b e = e
+    go false true e = and-second (leb (h .kind) wasHeard) (inRange (h .call)) e
+    go false false e = and-second (leb (h .kind) wasHeard) (inRange (h .call)) e
+
+pub carried-range : (l : List Hop) → every hopInRange l ≡ true → every hopInRange (carried l) ≡ true
 unfolding every carried
-carried-range [] = refl
-carried-range (h ∷ l) = ap (λ (b : Bool). inRange (h .call) && b) (carried-range l)
+carried-range [] e = refl
+carried-range (h ∷ l) e = rw (if-range (isHeard h || anyHeard l) h (every-first hopInRange h l e), carried-range l (every-rest hopInRange h l e))
 
 -- ---- a frame's hops
 
@@ -107,6 +134,6 @@ frame-sound (suc k) s =
     (λ e.
     either-sound InFrame (suc k) (eqb (a .refusal) 0)
     (λ f.
-    before-sound InFrame (addressHop a) k (address-is-in-range (take 7 s))
+    before-sound InFrame (addressHop a) k (call-range (a .call) (a .heard) (address-is-in-range (take 7 s)))
     (either-sound InFrame k (a .last) (λ g. some [] (omega arith) refl) (λ g. r)))
     (λ f. none (a .refusal) (address-in-frame (take 7 s) (eqb-false (a .refusal) 0 f))))

@@ -1,6 +1,6 @@
 -- The header of an AX.25 frame. Document 01, order: "1; destination's 7 bytes present (2), readable (3), not last (2); source
 -- the same without the last test; each hop 5, 2, 3; control pair; body." Modules, 5: "the walk ends at the first address
--- whose low bit is set; then exactly the two bytes 03 f0 must follow."
+-- whose low bit is set; then exactly the two bytes 03 f0 must follow." Document 02, R-7, of a Q element: "in a frame it is left out".
 -- Assumes nothing.
 use Prim.Native.Nat.{ℕ, zero, suc, _+_, _*_}
 use mathlib.Core.Bool.{Bool, true, false, cond, _&&_}
@@ -17,6 +17,7 @@ use Rattle.header.specs.declared.Hop.{Hop}
 use Rattle.header.specs.declared.Header.{Header}
 use Rattle.header.specs.declared.Path.{Path}
 use Rattle.header.specs.declared.HeaderRead.{HeaderRead}
+use Rattle.header.specs.Hop.{callHop, isHeard, callsOf}
 use Rattle.header.specs.Header.{mostBytes, Hops, refused, these, before, pathOf, hopsOf, headerRefused, headerAccepted, unlessRefused, withHops}
 
 -- ---- the control and protocol bytes
@@ -43,7 +44,7 @@ startsWithPair (a ∷ b ∷ l) = eqb a control && eqb b protocol
 
 -- "Frames keep each heard bit as it is."
 unfoldable pub addressHop : AddressRead → Hop
-addressHop a = record { call = a .call; heard = a .heard }
+addressHop a = callHop (a .call) (a .heard)
 
 -- "ends at the first address whose low bit is set"
 unfoldable pub addressThen : AddressRead → Hops → Hops
@@ -95,14 +96,15 @@ isNone (h ∷ l) = false
 -- the low bit of the last one is set
 unfoldable pub hopAddresses : List Hop → List AddressWritten
 hopAddresses [] = []
-hopAddresses (h ∷ l) = writeAddress (h .call) (HopField (h .heard)) (isNone l) ∷ hopAddresses l
+hopAddresses (h ∷ l) = writeAddress (h .call) (HopField (isHeard h)) (isNone l) ∷ hopAddresses l
 
--- "destination, source, hops in order"; without hops the source is the last
+-- "destination, source, hops in order", of which Q elements are left out; without hops the source is the last
 unfoldable pub addresses : Header → List AddressWritten
 addresses h =
+    let calls = callsOf (hopsOf (h .path)) in
     writeAddress (h .to) Destination false
-    ∷ writeAddress (h .from) Source (eqb (h .path .count) 0)
-    ∷ hopAddresses (hopsOf (h .path))
+    ∷ writeAddress (h .from) Source (isNone calls)
+    ∷ hopAddresses calls
 
 -- the refusal of the first address that is not written, or 0
 unfoldable pub firstRefusal : List AddressWritten → ℕ

@@ -13,6 +13,7 @@ use Rattle.header.specs.declared.Hop.{Hop}
 use Rattle.header.specs.declared.Path.{Path}
 use Rattle.header.specs.declared.Header.{Header}
 use Rattle.header.specs.declared.HeaderRead.{HeaderRead}
+use Rattle.header.specs.Hop.{callHop}
 
 -- "a line or frame is at most 512 bytes"
 abbrev pub mostBytes : ℕ
@@ -22,7 +23,7 @@ mostBytes = 512
 
 -- a blank callsign, not heard
 unfoldable pub blankHop : Hop
-blankHop = record { call = blankCall; heard = false }
+blankHop = callHop blankCall false
 
 -- hops in the array of eight, the others blank
 unfoldable pub pathOf : List Hop → Path

@@ -1,3 +1,4 @@
+pub mod Hop
 pub mod Header
 pub mod Text
 pub mod Frame

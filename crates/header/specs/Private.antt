@@ -1,27 +1,28 @@
 -- What only private functions promise: hops as the code hands them on; the pieces of a header, each with its writer's refusal, put
--- one behind the other into a scratch array; a path apart from its callsigns; and the place of the last star.
+-- one behind the other into a scratch array; a path apart from its callsigns; and the place of the last hop that is sought.
 -- Assumes nothing.
 use Prim.Native.Nat.{ℕ, suc, _+_, max}
-use mathlib.Core.Bool.{Bool, false, not, cond, _&&_}
-use mathlib.Core.List.{List, [], _∷_, _++_, map}
+use mathlib.Core.Bool.{Bool, true, false, not, cond, _&&_}
+use mathlib.Core.List.{List, [], _∷_, _++_}
 use lib.ListN.{length, take, drop}
 use lib.Dec.{eqb, leb}
 use Rattle.laws.specs.Bytes.{comma, colon, greater}
-use Rattle.laws.specs.Lists.{every}
+use Rattle.laws.specs.Lists.{every, anyOf}
 use Rattle.buffer.specs.Filled.{Filled, filled, added}
 use Rattle.callsign.specs.declared.Callsign.{Callsign}
 use Rattle.callsign.specs.declared.AddressWritten.{AddressWritten}
-use Rattle.callsign.specs.declared.Field.the-variants.{Destination, Source}
+use Rattle.callsign.specs.declared.Field.the-variants.{Destination, Source, Hop as HopField}
 use Rattle.callsign.specs.Packed.{writeAddress}
 use Rattle.callsign.specs.Range.{rangeRefusal, textOf, withStar}
 use Rattle.header.specs.declared.Hop.{Hop}
 use Rattle.header.specs.declared.Path.{Path}
 use Rattle.header.specs.declared.PathRead.{PathRead}
 use Rattle.header.specs.declared.Header.{Header}
+use Rattle.header.specs.Hop.{wasHeard, qElement, heardAs, isHeard, isQElement, isCall, callsOf, anyHeard}
 use Rattle.header.specs.Header.{Hops, refused, these, pathOf, hopsOf}
-use Rattle.header.specs.Text.{starsOf, anyHeard, carried}
-use Rattle.header.specs.Frame.{pair, hopAddresses, addresses}
-use Rattle.header.specs.Range.{isBlank}
+use Rattle.header.specs.Text.{starsOf, carried}
+use Rattle.header.specs.Frame.{pair, isNone}
+use Rattle.header.specs.Range.{hopInRange, isBlank}
 
 -- ---- hops read
 
@@ -43,9 +44,13 @@ textRead (these l) = record { path = pathOf (carried l); stars = starsOf l; refu
 abbrev pub starredRead : List Hop → ℕ → PathRead
 starredRead hops n = record { path = record { hops = carried (take n hops) ++ drop n hops; count = n }; stars = starsOf (take n hops); refusal = 0 }
 
+-- the number of a hop of such a number, where a callsign is heard or not
+unfoldable pub carriedKind : ℕ → Bool → ℕ
+carriedKind kind heard = cond (eqb kind qElement) qElement (heardAs heard)
+
 -- ---- a path to be written
 
--- at most eight hops, and blank ones behind them; their callsigns are not looked at
+-- at most eight hops, and blank ones behind them; the eight are not looked at
 unfoldable pub isTidy : Path → Bool
 isTidy p = leb (p .count) 8 && every isBlank (drop (p .count) (p .hops))
 
@@ -92,10 +97,18 @@ callPiece c starred = record { refusal = rangeRefusal c; bytes = withStar (textO
 abbrev pub endPieces : Callsign → Callsign → List Piece
 endPieces from to = callPiece from false ∷ plain (greater ∷ []) ∷ callPiece to false ∷ []
 
+-- a Q element in range, or the number of a callsign, which is not looked at
+unfoldable pub isTidyHop : Hop → Bool
+isTidyHop h = cond (isQElement h) (hopInRange h) (leb (h .kind) wasHeard)
+
+-- a hop's text
+abbrev pub hopPiece : Hop → Bool → Piece
+hopPiece h starred = record { refusal = cond (hopInRange h) 0 15; bytes = withStar (textOf (h .call)) starred }
+
 -- each hop after a comma, the last heard one with a star
 unfoldable pub hopPieces : List Hop → List Piece
 hopPieces [] = []
-hopPieces (h ∷ l) = plain (comma ∷ []) ∷ callPiece (h .call) (h .heard && not (anyHeard l)) ∷ hopPieces l
+hopPieces (h ∷ l) = plain (comma ∷ []) ∷ hopPiece h (isHeard h && not (anyHeard l)) ∷ hopPieces l
 
 -- a header's text
 unfoldable pub textPieces : Header → List Piece
@@ -109,17 +122,31 @@ addressPiece a = record { refusal = a .refusal; bytes = a .bytes }
 abbrev pub endAddressPieces : Callsign → Callsign → Bool → List Piece
 endAddressPieces to from last = addressPiece (writeAddress to Destination false) ∷ addressPiece (writeAddress from Source last) ∷ []
 
--- hops
-abbrev pub hopAddressPieces : List Hop → List Piece
-hopAddressPieces l = map addressPiece (hopAddresses l)
+-- a hop's address; of a Q element there are no bytes
+unfoldable pub hopAddressPiece : Hop → Bool → Piece
+hopAddressPiece h last =
+    let a = writeAddress (h .call) (HopField (isHeard h)) last in
+    record { refusal = cond (isTidyHop h) (cond (isQElement h) 0 (a .refusal)) 15; bytes = cond (isQElement h) [] (a .bytes) }
+
+-- each hop, the last callsign marked
+unfoldable pub hopAddressPieces : List Hop → List Piece
+hopAddressPieces [] = []
+hopAddressPieces (h ∷ l) = hopAddressPiece h (isNone (callsOf l)) ∷ hopAddressPieces l
 
 -- a header's frame
 unfoldable pub framePieces : Header → List Piece
-framePieces h = map addressPiece (addresses h) ++ plain pair ∷ []
+framePieces h =
+    let hops = hopsOf (h .path) in
+    endAddressPieces (h .to) (h .from) (isNone (callsOf hops)) ++ (hopAddressPieces hops ++ plain pair ∷ [])
 
--- ---- the last star
+-- ---- the last of the hops that are sought
 
--- the number of hops up to the last that was heard, 0 where none was
-unfoldable pub heardUpTo : List Hop → ℕ
-heardUpTo [] = 0
-heardUpTo (h ∷ l) = cond (anyHeard l) (suc (heardUpTo l)) (cond (h .heard) 1 0)
+-- a callsign: a heard one, or any
+unfoldable pub isSought : Bool → Hop → Bool
+isSought true h = isHeard h
+isSought false h = isCall h
+
+-- the number of hops up to the last for which the test holds, 0 where there is none
+unfoldable pub upTo : (Hop → Bool) → List Hop → ℕ
+upTo p [] = 0
+upTo p (h ∷ l) = cond (anyOf p l) (suc (upTo p l)) (cond (p h) 1 0)

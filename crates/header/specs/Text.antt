@@ -1,9 +1,10 @@
 -- The header of a line of text. Document 01, order: "1; `:`; `>`; source; destination; hops from the left; body. A hop: 5, 6,
 -- 4, 3." Modules, 5: "In text a hop is heard if it or a later hop is starred; writing stars the last heard one only." Document 02, R-2:
--- "every header reader passes this on for source, destination and each hop", the mark of a dropped zero, which a callsign carries.
+-- "every header reader passes this on for source, destination and each hop", the mark of a dropped zero, which a callsign carries. R-7:
+-- "In text it is written at its place .. 6 stays for any other three bytes that start `qA`."
 -- Assumes nothing.
 use Prim.Native.Nat.{ℕ, zero, suc, _+_, _*_}
-use mathlib.Core.Bool.{Bool, false, not, cond, _&&_, _||_}
+use mathlib.Core.Bool.{Bool, not, cond, _&&_, _||_}
 use mathlib.Core.List.{List, [], _∷_, _++_}
 use lib.ListN.{length, take, drop, getD}
 use lib.Dec.{eqb, ltb}
@@ -18,6 +19,7 @@ use Rattle.header.specs.declared.Hop.{Hop}
 use Rattle.header.specs.declared.HopRead.{HopRead}
 use Rattle.header.specs.declared.Header.{Header}
 use Rattle.header.specs.declared.HeaderRead.{HeaderRead}
+use Rattle.header.specs.Hop.{isQName, callHop, qHop, isHeard, anyHeard, heardIf}
 use Rattle.header.specs.Header.{mostBytes, Hops, refused, these, before, blankHop, pathOf, hopsOf, headerRefused, headerAccepted, unlessRefused, withHops}
 
 -- ---- the parts between commas
@@ -44,21 +46,25 @@ othersOf (f ∷ fs) = fs
 
 -- ---- hops
 
--- 6: "a textual hop of three bytes that starts `qA`"
-unfoldable pub isQ : List ℕ → Bool
-isQ t = eqb (length t) 3 && (eqb (getD t 0 0) smallQ && eqb (getD t 1 0) capitalA)
+-- "a textual hop of three bytes that starts `qA`"
+unfoldable pub startsQ : List ℕ → Bool
+startsQ t = eqb (length t) 3 && (eqb (getD t 0 0) smallQ && eqb (getD t 1 0) capitalA)
 
 -- a refusal: a blank hop
 unfoldable pub hopRefused : ℕ → HopRead
 hopRefused n = record { refusal = n; hop = blankHop }
 
+-- a Q element
+unfoldable pub hopNamed : List ℕ → HopRead
+hopNamed name = record { refusal = 0; hop = qHop name }
+
 -- a hop by its callsign, marked or not, 4 and 3; its star
 unfoldable pub hopOf : CallRead → HopRead
-hopOf c = record { refusal = c .refusal; hop = record { call = c .call; heard = c .starred } }
+hopOf c = record { refusal = c .refusal; hop = callHop (c .call) (c .starred) }
 
--- "A hop: .. 6, 4, 3."
+-- "A hop: .. 6, 4, 3."; "6 stays for any other three bytes that start `qA`"
 unfoldable pub readHop : List ℕ → HopRead
-readHop t = cond (isQ t) (hopRefused 6) (hopOf (readText t))
+readHop t = cond (startsQ t) (cond (isQName t) (hopNamed t) (hopRefused 6)) (hopOf (readText t))
 
 -- a hop in front of those that follow, or its refusal
 unfoldable pub hopThen : HopRead → Hops → Hops
@@ -75,17 +81,12 @@ textHops (suc k) (t ∷ ts) = hopThen (readHop t) (textHops k ts)
 -- the stars as typed, of hops before these are carried back: a bit for each hop, that of the first hop the lowest
 unfoldable pub starsOf : List Hop → ℕ
 starsOf [] = 0
-starsOf (h ∷ l) = bit (h .heard) + 2 * starsOf l
-
--- one of the hops is heard
-unfoldable pub anyHeard : List Hop → Bool
-anyHeard [] = false
-anyHeard (h ∷ l) = h .heard || anyHeard l
+starsOf (h ∷ l) = bit (isHeard h) + 2 * starsOf l
 
 -- "heard if it or a later hop is starred"
 unfoldable pub carried : List Hop → List Hop
 carried [] = []
-carried (h ∷ l) = record { call = h .call; heard = h .heard || anyHeard l } ∷ carried l
+carried (h ∷ l) = heardIf (isHeard h || anyHeard l) h ∷ carried l
 
 -- ---- the header read
 
@@ -116,10 +117,10 @@ readTextHeader s = cond (ltb mostBytes (length s)) (headerRefused 1) (readHeader
 
 -- ---- the header written
 
--- each hop after a comma; "the last heard one only" is starred
+-- each hop after a comma, a Q element too; "the last heard one only" is starred
 unfoldable pub hopsText : List Hop → List ℕ
 hopsText [] = []
-hopsText (h ∷ l) = comma ∷ (withStar (textOf (h .call)) (h .heard && not (anyHeard l)) ++ hopsText l)
+hopsText (h ∷ l) = comma ∷ (withStar (textOf (h .call)) (isHeard h && not (anyHeard l)) ++ hopsText l)
 
 -- all but the colon
 unfoldable pub routeText : Header → List ℕ

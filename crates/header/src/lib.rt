@@ -1,29 +1,37 @@
 // The header of a packet: source, destination, up to eight hops, and where the body starts; of a line of text and of an
 // AX.25 frame, read and written.
 ghost use mathlib.Core.Path.{_≡_};
-ghost use mathlib.Core.Bool.{cond};
-ghost use mathlib.Core.List.{[]};
+ghost use mathlib.Core.Bool.{true, cond, _&&_};
+ghost use mathlib.Core.List.{[], _∷_};
 ghost use Prim.Native.Nat.{_≤_, max};
 ghost use lib.ListN.{length, take, drop};
+ghost use Rattle.laws.specs.Bytes.{capitalA, smallQ};
 ghost use Rattle.laws.specs.Lists.{every};
 ghost use Rattle.buffer.specs.Wrote.{ends, wrote};
 ghost use Rattle.callsign.specs.Packed.{writeAddress};
+ghost use Rattle.callsign.specs.Range.{inRange, textOf};
+ghost use Rattle.header.specs.Hop.{isQName, isCall, qHop};
 ghost use Rattle.header.specs.Header.{these, blankHop, pathOf, blankHeader, headerRefused, headerAccepted};
-ghost use Rattle.header.specs.Text.{fields, isQ, readHop, textHops, readRoute, readBefore, readHeaderText, readTextHeader, headerText};
+ghost use Rattle.header.specs.Text.{fields, startsQ, hopRefused, hopNamed, readHop, textHops, readRoute, readBefore, readHeaderText, readTextHeader, headerText};
 ghost use Rattle.header.specs.Frame.{startsWithPair, frameHops, withPair, readSource, readFrameHeader, headerFrame};
 ghost use Rattle.header.specs.Range.{isBlank, isBlankHeader, textRefusal, frameRefusal};
-ghost use Rattle.header.specs.Private.{pathRefused, frameRead, textRead, starredRead, isTidy, building, plain, callPiece, addressPiece, withPiece, withPieces, heardUpTo, endPieces, hopPieces, textPieces, endAddressPieces, hopAddressPieces, framePieces};
+ghost use Rattle.header.specs.Private.{pathRefused, frameRead, textRead, starredRead, carriedKind, isTidyHop, isTidy, building, plain, callPiece, addressPiece, hopPiece, hopAddressPiece, withPiece, withPieces, isSought, upTo, endPieces, hopPieces, textPieces, endAddressPieces, hopAddressPieces, framePieces};
 use callsign::Callsign;
 use callsign::Field;
 
 // How long a line or a frame may be.
 const MOST_BYTES: usize = 512;
 
-// A hop that a packet goes through, and whether it was heard from there.
+// The kinds of a hop: a callsign that was not heard is 0, one that was heard is 1; a Q element, whose name is its callsign's text, is 2.
+pub const HEARD: u8 = 1;
+
+pub const Q_ELEMENT: u8 = 2;
+
+// A hop of a packet's path. A heard Q element has no number.
 #[repr(C)]
 pub struct Hop {
     pub call: Callsign,
-    pub heard: bool,
+    pub kind: u8,
 }
 
 // How many hops there are, and the hops in their order; those beyond `count` are blank. The count stands first, since a header has a
@@ -70,7 +78,7 @@ fn blank_hop() -> Hop
     ensures { λ r. ⌜ r ≡ blankHop ⌝ }
 {
     let call = callsign::blank();
-    Hop { call, heard: false }
+    Hop { call, kind: 0 }
 }
 
 // The path of no hops.
@@ -133,8 +141,8 @@ fn path_refused(n: u8) -> PathRead
 // ---- a line of text read
 
 // Three bytes that start `qA`.
-fn is_q(t: &[u8]) -> bool
-    ensures { λ r. ⌜ r ≡ isQ (now (t .entry)) ⌝ }
+fn starts_q(t: &[u8]) -> bool
+    ensures { λ r. ⌜ r ≡ startsQ (now (t .entry)) ⌝ }
 {
     if t.len() == 3 {
         if t[0] == b'q' {
@@ -144,18 +152,75 @@ fn is_q(t: &[u8]) -> bool
     false
 }
 
+// Whether `qA` and c are the name of a Q element.
+fn ends_name(c: u8) -> bool
+    ensures { λ r. ⌜ r ≡ isQName (smallQ ∷ capitalA ∷ c ∷ []) ⌝ }
+{
+    (c == b'C')
+        | (c == b'X')
+        | (c == b'U')
+        | (c == b'o')
+        | (c == b'O')
+        | (c == b'S')
+        | (c == b'r')
+        | (c == b'R')
+        | (c == b'Z')
+        | (c == b'I')
+}
+
+// Whether t is the name of a Q element.
+pub fn is_q_name(t: &[u8]) -> bool
+    ensures { λ r. ⌜ r ≡ isQName (now (t .entry)) ⌝ }
+{
+    if starts_q(t) {
+        return ends_name(t[2]);
+    }
+    false
+}
+
+// The Q element of `qA` and c.
+fn q_hop(c: u8) -> Hop
+    ensures { λ r. ⌜ r ≡ qHop (smallQ ∷ capitalA ∷ c ∷ []) ⌝ }
+{
+    let mut text = [0u8; 16];
+    text[0] = b'q';
+    text[1] = b'A';
+    text[2] = c;
+    let call = Callsign {
+        text,
+        call_len: 3,
+        ssid_len: 0,
+        had_zero_ssid: false,
+    };
+    Hop {
+        call,
+        kind: Q_ELEMENT,
+    }
+}
+
+// Reads a hop of `qA` and c: a Q element, or 6.
+fn read_q(c: u8) -> HopRead
+    ensures { λ r. ⌜ r ≡ cond (isQName (smallQ ∷ capitalA ∷ c ∷ [])) (hopNamed (smallQ ∷ capitalA ∷ c ∷ [])) (hopRefused 6) ⌝ }
+{
+    if ends_name(c) {
+        let hop = q_hop(c);
+        return HopRead { hop, refusal: 0 };
+    }
+    let hop = blank_hop();
+    HopRead { hop, refusal: 6 }
+}
+
 fn read_hop(t: &[u8]) -> HopRead
     ensures { λ r. ⌜ r ≡ readHop (now (t .entry)) ⌝ }
 {
-    if is_q(t) {
-        let hop = blank_hop();
-        return HopRead { hop, refusal: 6 };
+    if starts_q(t) {
+        return read_q(t[2]);
     }
     let c = callsign::read_text(t);
     let call = c.call;
     let hop = Hop {
         call,
-        heard: c.starred,
+        kind: c.starred as u8,
     };
     HopRead {
         hop,
@@ -163,19 +228,32 @@ fn read_hop(t: &[u8]) -> HopRead
     }
 }
 
-// The path of the first n hops, each heard where it or a later one is starred, and the stars as typed: those from hop i on are
-// none exactly where the number made of them is 0.
+// The number of a hop of such a number, where a callsign is heard or not; a Q element stays one.
+fn carried_kind(kind: u8, heard: bool) -> u8
+    ensures { λ r. ⌜ r ≡ carriedKind kind heard ⌝ }
+{
+    if kind == Q_ELEMENT {
+        return kind;
+    }
+    heard as u8
+}
+
+// The path of the first n hops, each callsign heard where it or a later one is starred, and the stars as typed.
 fn carry(hops: [Hop; 8], n: usize) -> PathRead
     requires { ⌜ n ≤ 8 ⌝ }
     ensures { λ r. ⌜ r ≡ starredRead hops n ⌝ }
 {
     let mut out = hops;
     let mut stars: u8 = 0;
+    let mut heard = false;
     let mut i = n;
     while 0 < i {
         i -= 1;
-        stars = 2 * stars + (out[i].heard as u8);
-        out[i].heard = stars != 0;
+        let kind = out[i].kind;
+        let starred = kind == HEARD;
+        stars = 2 * stars + (starred as u8);
+        heard = starred | heard;
+        out[i].kind = carried_kind(kind, heard);
     }
     let path = Path {
         hops: out,
@@ -320,9 +398,10 @@ fn walk(s: &[u8]) -> PathRead
         }
         let seventh = s[at + 6];
         let made = callsign::address_call(call, n, seventh);
+        let heard = callsign::heard(seventh);
         hops[count] = Hop {
             call: made,
-            heard: callsign::heard(seventh),
+            kind: heard as u8,
         };
         count += 1;
         at += 7;
@@ -428,7 +507,7 @@ pub fn read_frame(s: &[u8]) -> HeaderRead
 fn is_blank_hop(h: Hop) -> bool
     ensures { λ r. ⌜ r ≡ isBlank h ⌝ }
 {
-    if h.heard {
+    if h.kind != 0 {
         return false;
     }
     callsign::is_blank(h.call)
@@ -493,6 +572,38 @@ fn greater(a: u8, b: u8) -> u8
     if a < b { b } else { a }
 }
 
+// Whether the callsign of a Q element is in range, and its text a name.
+fn is_named(c: Callsign) -> bool
+    ensures { λ r. ⌜ r ≡ (isQName (textOf c) && inRange c) ⌝ }
+{
+    if !callsign::in_range(c) {
+        return false;
+    }
+    let n = callsign::text_len(c);
+    let text = c.text;
+    is_q_name(&text[..n])
+}
+
+// Whether a hop is a Q element in range, or has the number of a callsign, which its own writer judges.
+fn is_tidy_hop(h: Hop) -> bool
+    ensures { λ r. ⌜ r ≡ isTidyHop h ⌝ }
+{
+    if h.kind != Q_ELEMENT {
+        return h.kind <= HEARD;
+    }
+    is_named(h.call)
+}
+
+// Puts nothing of a hop that is out of range.
+fn put_nothing(p: Put) -> Put
+    ensures { λ r. ⌜ (r .at ≡ p .at) × (r .refusal ≡ max (p .refusal) 15) ⌝ }
+{
+    Put {
+        at: p.at,
+        refusal: greater(p.refusal, 15),
+    }
+}
+
 // Puts bytes that nothing refuses.
 fn put_bytes(p: Put, s: &[u8], scratch: &mut [u8]) -> Put
     requires { ⌜ p .at ≤ length (now scratch) ⌝ }
@@ -519,6 +630,17 @@ fn put_call(p: Put, c: Callsign, starred: bool, scratch: &mut [u8]) -> Put
     }
 }
 
+// Puts a hop's text, with a star behind it where starred.
+fn put_hop(p: Put, h: Hop, starred: bool, scratch: &mut [u8]) -> Put
+    requires { ⌜ p .at ≤ length (now scratch) ⌝ }
+    ensures { λ r. ⌜ building (r .refusal) (now (scratch .exit)) (r .at) ≡ withPiece (building (p .refusal) (now (scratch .entry)) (p .at)) (hopPiece h starred) ⌝ }
+{
+    if !is_tidy_hop(h) {
+        return put_nothing(p);
+    }
+    put_call(p, h.call, starred, scratch)
+}
+
 // Puts a callsign's address.
 fn put_address(p: Put, c: Callsign, field: Field, last: bool, scratch: &mut [u8]) -> Put
     requires { ⌜ p .at ≤ length (now scratch) ⌝ }
@@ -535,6 +657,21 @@ fn put_address(p: Put, c: Callsign, field: Field, last: bool, scratch: &mut [u8]
     put_bytes(p, &seven, scratch)
 }
 
+// Puts a hop's address; of a Q element nothing.
+fn put_hop_address(p: Put, h: Hop, last: bool, scratch: &mut [u8]) -> Put
+    requires { ⌜ p .at ≤ length (now scratch) ⌝ }
+    ensures { λ r. ⌜ building (r .refusal) (now (scratch .exit)) (r .at) ≡ withPiece (building (p .refusal) (now (scratch .entry)) (p .at)) (hopAddressPiece h last) ⌝ }
+{
+    if !is_tidy_hop(h) {
+        return put_nothing(p);
+    }
+    if h.kind == Q_ELEMENT {
+        return p;
+    }
+    let field = Field::Hop(h.kind == HEARD);
+    put_address(p, h.call, field, last, scratch)
+}
+
 // Writes what is put, unless a piece of it was refused.
 fn write_put(p: Put, scratch: &[u8], out: &mut [u8]) -> buffer::Answer
     requires { ⌜ p .at ≤ length (now scratch) ⌝ }
@@ -547,38 +684,50 @@ fn write_put(p: Put, scratch: &[u8], out: &mut [u8]) -> buffer::Answer
     buffer::write(&scratch[..n], out)
 }
 
-// ---- a line of text written
+// ---- which hop is the last
 
-// The number of hops up to the last of the first n that was heard; 0 where none was.
-fn heard_up_to(hops: [Hop; 8], n: usize) -> usize
+// Whether a hop is sought: a heard callsign, or any.
+fn is_sought(heard: bool, h: Hop) -> bool
+    ensures { λ r. ⌜ r ≡ isSought heard h ⌝ }
+{
+    if heard {
+        return h.kind == HEARD;
+    }
+    h.kind != Q_ELEMENT
+}
+
+// The number of hops up to the last of the first n that is sought; 0 where none is.
+fn up_to(heard: bool, hops: [Hop; 8], n: usize) -> usize
     requires { ⌜ n ≤ 8 ⌝ }
-    ensures { λ r. ⌜ r ≡ heardUpTo (take n hops) ⌝ }
+    ensures { λ r. ⌜ r ≡ upTo (isSought heard) (take n hops) ⌝ }
 {
     let mut last: usize = 0;
     let mut i: usize = 0;
     while i < n {
-        let heard = hops[i].heard;
+        let h = hops[i];
         i += 1;
-        if heard {
+        if is_sought(heard, h) {
             last = i;
         }
     }
     last
 }
 
+// ---- a line of text written
+
 // Puts each of the first n hops after a comma, with a star after the last that was heard.
 fn put_hops(p: Put, hops: [Hop; 8], n: usize, scratch: &mut [u8]) -> Put
     requires { ⌜ (n ≤ 8) × (p .at ≤ length (now scratch)) ⌝ }
     ensures { λ r. ⌜ building (r .refusal) (now (scratch .exit)) (r .at) ≡ withPieces (building (p .refusal) (now (scratch .entry)) (p .at)) (hopPieces (take n hops)) ⌝ }
 {
-    let last = heard_up_to(hops, n);
+    let last = up_to(true, hops, n);
     let mut done = p;
     let mut i: usize = 0;
     while i < n {
         let h = hops[i];
         i += 1;
         let comma = put_bytes(done, b",", scratch);
-        done = put_call(comma, h.call, i == last, scratch);
+        done = put_hop(comma, h, i == last, scratch);
     }
     done
 }
@@ -619,18 +768,17 @@ pub fn write_text(h: Header, out: &mut [u8]) -> buffer::Answer
 
 // ---- a frame written
 
-// Puts the addresses of the first n hops, the last of them marked.
-fn put_hop_addresses(p: Put, hops: [Hop; 8], n: usize, scratch: &mut [u8]) -> Put
-    requires { ⌜ (n ≤ 8) × (p .at ≤ length (now scratch)) ⌝ }
+// Puts the addresses of the callsigns among the first n hops, the last of them marked.
+fn put_hop_addresses(p: Put, hops: [Hop; 8], n: usize, last: usize, scratch: &mut [u8]) -> Put
+    requires { ⌜ (n ≤ 8) × (p .at ≤ length (now scratch)) × (last ≡ upTo isCall (take n hops)) ⌝ }
     ensures { λ r. ⌜ building (r .refusal) (now (scratch .exit)) (r .at) ≡ withPieces (building (p .refusal) (now (scratch .entry)) (p .at)) (hopAddressPieces (take n hops)) ⌝ }
 {
     let mut done = p;
     let mut i: usize = 0;
     while i < n {
         let h = hops[i];
-        let field = Field::Hop(h.heard);
         i += 1;
-        done = put_address(done, h.call, field, i == n, scratch);
+        done = put_hop_address(done, h, i == last, scratch);
     }
     done
 }
@@ -651,8 +799,9 @@ fn put_frame(h: Header, scratch: &mut [u8]) -> Put
 {
     let path = h.path;
     let hops = path.hops;
-    let ends = put_end_addresses(h.to, h.from, path.count == 0, scratch);
-    let route = put_hop_addresses(ends, hops, path.count, scratch);
+    let last = up_to(false, hops, path.count);
+    let ends = put_end_addresses(h.to, h.from, last == 0, scratch);
+    let route = put_hop_addresses(ends, hops, path.count, last, scratch);
     put_bytes(route, b"\x03\xf0", scratch)
 }
 

@@ -4,6 +4,7 @@ pub mod Lists
 pub mod Places
 pub mod Search
 pub mod Each
+pub mod Among
 pub mod Every
 pub mod Classes
 pub mod Unique

@@ -9,7 +9,7 @@ use native.Mathlib.Omega.{arith}
 use mir.Val.{Fits}
 use mir.Syntax.{w64}
 use lib.Dec.{eqb}
-use borrow.Author.Tests.{eqb-true}
+use borrow.Author.Tests.{eq-eqb, eqb-true}
 use lib.ListN.{length, take, drop}
 use Rattle.laws.specs.Lists.{indexOf}
 use Rattle.laws.proofs.Lists.{part-length}
@@ -37,6 +37,43 @@ index-le b (x ∷ l) = go (eqb x b) (index-le b l)
     go : (k : Bool) → indexOf b l ≤ length l → cond k 0 (suc (indexOf b l)) ≤ suc (length l)
     go true r = omega arith
     go false r = omega arith
+
+-- ---- a text without a byte
+
+-- in front of its first place there is none
+pub none-before : (b : ℕ) (t : List ℕ) → indexOf b (take (indexOf b t) t) ≡ length (take (indexOf b t) t)
+unfolding indexOf
+none-before b [] = refl
+none-before b (x ∷ l) = go (eqb x b) refl (none-before b l)
+  where
+    go : (k : Bool) → eqb x b ≡ k → indexOf b (take (indexOf b l) l) ≡ length (take (indexOf b l) l)
+        → indexOf b (take (cond k 0 (suc (indexOf b l))) (x ∷ l)) ≡ length (take (cond k 0 (suc (indexOf b l))) (x ∷ l))
+    go true e r = refl
+    go false e r = rw (e, r)
+
+-- nor in the front of a text that has none
+pub none-in-front : (b : ℕ) (k l : List ℕ) → indexOf b (k ++ l) ≡ length (k ++ l) → indexOf b k ≡ length k
+unfolding indexOf
+none-in-front b [] l h = refl
+none-in-front b (x ∷ k) l h = go (eqb x b) (λ r. none-in-front b k l r) h
+  where
+    go : (t : Bool) → (indexOf b (k ++ l) ≡ length (k ++ l) → indexOf b k ≡ length k) → cond t 0 (suc (indexOf b (k ++ l))) ≡ suc (length (k ++ l))
+        → cond t 0 (suc (indexOf b k)) ≡ suc (length k)
+    go true r e = absurd (omega arith)
+    go false r e = ap suc (r (omega arith))
+
+-- behind such a text it is found
+pub first-behind : (b : ℕ) (k l : List ℕ) → indexOf b k ≡ length k → indexOf b (k ++ b ∷ l) ≡ length k
+unfolding indexOf
+first-behind b [] l h = rw (eq-eqb b b refl)
+first-behind b (x ∷ k) l h = go (eqb x b) (λ r. first-behind b k l r) h
+  where
+    go : (t : Bool) → (indexOf b k ≡ length k → indexOf b (k ++ b ∷ l) ≡ length k) → cond t 0 (suc (indexOf b k)) ≡ suc (length k)
+        → cond t 0 (suc (indexOf b (k ++ b ∷ l))) ≡ suc (length k)
+    go true r e = absurd (omega arith)
+    go false r e = ap suc (r (omega arith))
+
+-- ---- a place that a search gave
 
 -- a place d that the search for b gave; short of the length, there is a byte at it
 

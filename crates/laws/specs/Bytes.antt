@@ -63,6 +63,9 @@ capitalC = 0x43
 abbrev pub capitalE : ℕ
 capitalE = 0x45
 
+abbrev pub capitalI : ℕ
+capitalI = 0x49
+
 abbrev pub capitalJ : ℕ
 capitalJ = 0x4a
 
@@ -75,8 +78,14 @@ capitalL = 0x4c
 abbrev pub capitalN : ℕ
 capitalN = 0x4e
 
+abbrev pub capitalO : ℕ
+capitalO = 0x4f
+
 abbrev pub capitalP : ℕ
 capitalP = 0x50
+
+abbrev pub capitalR : ℕ
+capitalR = 0x52
 
 abbrev pub capitalS : ℕ
 capitalS = 0x53
@@ -89,6 +98,9 @@ capitalU = 0x55
 
 abbrev pub capitalW : ℕ
 capitalW = 0x57
+
+abbrev pub capitalX : ℕ
+capitalX = 0x58
 
 abbrev pub capitalY : ℕ
 capitalY = 0x59
@@ -105,8 +117,14 @@ smallA = 0x61
 abbrev pub smallH : ℕ
 smallH = 0x68
 
+abbrev pub smallO : ℕ
+smallO = 0x6f
+
 abbrev pub smallQ : ℕ
 smallQ = 0x71
+
+abbrev pub smallR : ℕ
+smallR = 0x72
 
 abbrev pub smallZ : ℕ
 smallZ = 0x7a

@@ -1,7 +1,7 @@
--- Lists: the first place of a byte, a test of every element, zeros, and a list padded to a length.
+-- Lists: the first place of a byte, a test of every element or of any, zeros, lists that are the same, and a list padded to a length.
 -- Assumes nothing.
 use Prim.Native.Nat.{ℕ, zero, suc, _-_}
-use mathlib.Core.Bool.{Bool, true, cond, _&&_}
+use mathlib.Core.Bool.{Bool, true, false, cond, _&&_, _||_}
 use mathlib.Core.List.{List, [], _∷_, _++_}
 use lib.ListN.{length, replicate}
 use lib.Dec.{eqb}
@@ -15,6 +15,18 @@ indexOf b (x ∷ l) = cond (eqb x b) zero (suc (indexOf b l))
 unfoldable pub every : {A : Type 0} → (A → Bool) → List A → Bool
 every p [] = true
 every p (x ∷ l) = p x && every p l
+
+-- a test that holds of one element at least
+unfoldable pub anyOf : {A : Type 0} → (A → Bool) → List A → Bool
+anyOf p [] = false
+anyOf p (x ∷ l) = p x || anyOf p l
+
+-- the same bytes in the same order
+unfoldable pub sameBytes : List ℕ → List ℕ → Bool
+sameBytes [] [] = true
+sameBytes [] (y ∷ l) = false
+sameBytes (x ∷ k) [] = false
+sameBytes (x ∷ k) (y ∷ l) = eqb x y && sameBytes k l
 
 -- l, and copies of z up to n elements
 unfoldable pub padTo : {A : Type 0} → ℕ → A → List A → List A

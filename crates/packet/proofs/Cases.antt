@@ -7,12 +7,13 @@ use mathlib.Core.List.{List, [], _∷_, _++_}
 use Prim.Native.Nat.{ℕ}
 use lib.IntN.{pos}
 use Rattle.laws.specs.Bytes.{comma, point, slash, dash, digit0, colon, greater, bang, capitalE, capitalN, within}
-use Rattle.laws.specs.Lists.{indexOf, every, padTo}
+use Rattle.laws.specs.Lists.{indexOf, every, anyOf, padTo}
 use Rattle.callsign.specs.Utf8.{after, characters, utf8}
 use Rattle.callsign.specs.Text.{joined, made, isZero, callAccepted, parted, readUnstarred, readText as readCall}
 use Rattle.callsign.specs.Range.{callPart, ssidPart, textOf as callText, withStar}
+use Rattle.header.specs.Hop.{heardAs, callHop, isHeard, isQElement, heardIf}
 use Rattle.header.specs.Header.{blankHeader, pathOf, hopsOf, headerOf, headerAccepted, unlessRefused as unlessHeader, before, withHops}
-use Rattle.header.specs.Text.{onFirst, fields, firstOf, othersOf, isQ, hopOf, readHop, hopThen, textHops, starsOf, anyHeard, carried}
+use Rattle.header.specs.Text.{onFirst, fields, firstOf, othersOf, startsQ, hopOf, readHop, hopThen, textHops, starsOf, carried}
 use Rattle.header.specs.Text.{readRoute, readBefore, readHeaderText, hopsText, routeText, headerText}
 use Rattle.header.proofs.Theorems.{P11-text, P11-hops}
 use Rattle.numbers.specs.Sign.{signedOf, isMinus}
@@ -59,8 +60,8 @@ pub P11-read : readText P11-line ≡ record { refusal = 0; «record» = P11-reco
 unfolding
     readText readAnyText packetAfter unlessRefused bodyBehind holdsPacket packetOf recordOf keptTo readBody openingOf bodyAfter positionedFrom timeAt behindTime positionFrom positionBody spanFrom readHeaderText
     readBefore readRoute withHops starsOf pathOf headerOf unlessHeader headerAccepted firstOf othersOf fields onFirst textHops hopThen
-    before readHop isQ hopOf readCall readUnstarred parted callAccepted indexOf utf8 characters after within isZero made
-    joined padTo carried anyHeard readPosition isUncompressed isNumeric withLatitude withLongitude
+    before readHop startsQ hopOf readCall readUnstarred parted callAccepted indexOf utf8 characters after within isZero made
+    joined padTo carried anyOf isHeard isQElement heardIf heardAs callHop readPosition isUncompressed isNumeric withLatitude withLongitude
     readLatitude latitudeIn latitudeWith readLongitude longitudeIn longitudeWith blanksIn restBlank countedDigits every
     lastAs numberAfter numberOf degreesOf minutesOf hundredthsOf valueOf sizeOf fits angleIn signedOf
 P11-read = refl
@@ -69,5 +70,5 @@ pub P11-written : textBytes P11-record [] [] ≡ P11-line
 unfolding
     textBytes bytesOf bodyBytes bytesAs tailBytes tailAs positionType positionBytes noTime isPresent timeText writtenHeader writtenTo toAs positionText latitudeText longitudeText
     blankedPlaces northOrSouth eastOrWest isMinus textOf placesOf digitsOf digitOf lastAs headerText routeText hopsText
-    hopsOf anyHeard callText callPart ssidPart withStar made joined padTo pathOf
+    hopsOf anyOf isHeard heardAs callHop callText callPart ssidPart withStar made joined padTo pathOf
 P11-written = refl

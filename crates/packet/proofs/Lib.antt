@@ -9,6 +9,7 @@ pub mod Inside
 pub mod Times
 pub mod Texts
 pub mod Marks
+pub mod WithoutQ
 pub mod Theorems
 pub mod Cases
 pub mod Unique

@@ -1,5 +1,5 @@
 -- The crate's theorems: what is read, the boxes of it, the marks of dropped zeros, its time, messages and status lines, packets inside
--- packets, and what of it is not written.
+-- packets, Q elements in a frame, and what of it is not written.
 -- Assumes nothing.
 use mathlib.Core.Path.{_≡_, refl, ap, _∙_}
 use mathlib.Core.Bool.{Bool, true, false, not, cond}
@@ -36,6 +36,7 @@ use Rattle.packet.proofs.Given.{Given, after-blank, refused-first, give
 use Rattle.packet.proofs.Times.{TimeKept, any-text-time-kept, text-time-kept, frame-time-kept}
 use Rattle.packet.proofs.Texts.{PacketText, Starts, any-text-message, any-text-status, text-message, text-status, frame-message, frame-status, message-line-short, message-line-fits, message-frame-fits, status-line-fits, status-frame-fits}
 use Rattle.packet.proofs.Marks.{unmarkedRecord, unmarked-text-bytes, unmarked-frame-bytes, unmarked-refusal-of-text, unmarked-refusal-of-frame, unmarked-blank-record, unmarked-frame-header, LineKept, any-text-line-kept, text-line-kept}
+use Rattle.packet.proofs.WithoutQ.{recordWithoutQ, without-q-bytes, without-q-refusal}
 
 -- ---- "A refused decode returns the blank record"
 
@@ -231,6 +232,13 @@ moved-places-show-the-same = moved-shows
 -- "Writing them remains refused with 14", after 15
 pub third-party-is-never-written : (r : Record) → (r .inner ≡ 0 → ⊥) → (text identifier : List ℕ) → recordRefusal r text identifier ≡ orElse (rangeRefusal r) 14
 third-party-is-never-written r z text identifier = inside-refuses r z text identifier
+
+-- ---- document 02, R-7: Q elements in the path
+
+-- "in a frame it is left out": the frame of a record is that of the record without the Q elements of its outermost header
+pub q-elements-leave-frames : (r : Record) → recordInRange r ≡ true → (text identifier : List ℕ)
+    → (frameRefusal (recordWithoutQ r) text identifier ≡ frameRefusal r text identifier) × (frameBytes (recordWithoutQ r) text identifier ≡ frameBytes r text identifier)
+q-elements-leave-frames r e text identifier = (without-q-refusal r e text identifier, without-q-bytes r text identifier)
 
 -- ---- which read records are not written: 15 for those two, 14 for Unknown and with a packet inside, 18 for what is handed over with a
 -- message or a status, 1 over 512 bytes, and no other

@@ -1,16 +1,20 @@
--- What the definition of a row amounts to: a callsign in a row is what would be written of it, and the destination is the outermost
--- header's.
+-- What the definition of a row amounts to: a callsign in a row is what would be written of it, the destination is the outermost
+-- header's, and Q elements are never among the heard hops.
 -- Assumes nothing.
 use mathlib.Core.Path.{_≡_, refl, sym, ap}
-use mathlib.Core.Bool.{true}
-use Prim.Native.Nat.{ℕ}
+use mathlib.Core.Bool.{Bool, true, false, cond}
+use mathlib.Core.List.{List, [], _∷_}
+use Prim.Native.Nat.{ℕ, suc}
 use borrow.Author.Tests.{eq-eqb, ne-eqb}
 use lib.ListN.{length}
 use Rattle.callsign.specs.declared.Callsign.{Callsign}
 use Rattle.callsign.specs.Range.{inRange, textOf}
 use Rattle.callsign.proofs.Ranges.{text-in-use}
+use Rattle.header.specs.declared.Hop.{Hop}
+use Rattle.header.specs.Hop.{isHeard, isQElement, callsOf}
+use Rattle.header.proofs.Hops.{q-unheard}
 use Rattle.body.specs.declared.Kind.{Kind}
-use Rattle.row.specs.Row.{orPoint, callField, ownToField, toField}
+use Rattle.row.specs.Row.{orPoint, callField, ownToField, toField, heardAmong}
 
 -- a callsign in range stands in its row as it would be written, and a point stands for an empty one
 pub call-as-written : (c : Callsign) → inRange c ≡ true → length (c .text) ≡ 16 → callField c ≡ orPoint (textOf c)
@@ -26,3 +30,14 @@ module _ (inner : ℕ) (kind : Kind) (to : Callsign) where
   pub own-to : inner ≡ 0 → toField inner kind to ≡ ownToField kind to
   unfolding toField
   own-to z = rw (eq-eqb inner 0 z) refl
+
+-- document 02, R-7: the heard hops of a path are as many as those of its callsigns alone
+pub q-elements-are-never-heard : (l : List Hop) → heardAmong (callsOf l) ≡ heardAmong l
+unfolding heardAmong callsOf
+q-elements-are-never-heard [] = refl
+q-elements-are-never-heard (h ∷ l) = go (isQElement h) refl (q-elements-are-never-heard l)
+  where
+    go : (k : Bool) → isQElement h ≡ k → heardAmong (callsOf l) ≡ heardAmong l
+        → heardAmong (cond k (callsOf l) (h ∷ callsOf l)) ≡ cond (isHeard h) (suc (heardAmong l)) (heardAmong l)
+    go true e r = rw (q-unheard h e) r
+    go false e r = rw r

@@ -2,7 +2,7 @@
 -- heard hops, latitude, longitude." "`-` is absent; an accepted empty callsign prints `.`." A refused line has no hops; a
 -- Mic-E record has no destination. Document 02, R-5: line 2 "then answers `2 0 N0CALL APRS 0 0 - -`": a message and a status line
 -- keep their destination and have no place, as the Unknown kind. Document 02, R-6: "the listing prints the outermost header", and
--- the innermost body's place.
+-- the innermost body's place. R-7: a Q element is one of the hops, and never heard.
 -- Assumes nothing.
 use Prim.Native.Nat.{ℕ, zero, suc, _+_}
 use mathlib.Core.Bool.{cond}
@@ -17,6 +17,7 @@ use Rattle.callsign.specs.Range.{textLen}
 use Rattle.position.specs.declared.Place.{Place}
 use Rattle.header.specs.declared.Hop.{Hop}
 use Rattle.header.specs.declared.Path.{Path}
+use Rattle.header.specs.Hop.{isHeard}
 use Rattle.body.specs.declared.Kind.{Kind}
 use Rattle.body.specs.declared.Kind.the-variants.{Unknown, Position, MicE, Message, Status}
 use Rattle.packet.specs.declared.Record.{Record}
@@ -52,7 +53,7 @@ toField inner kind to = cond (eqb inner 0) (ownToField kind to) (callField to)
 
 unfoldable pub heardAmong : List Hop → ℕ
 heardAmong [] = zero
-heardAmong (h ∷ l) = cond (h .heard) (suc (heardAmong l)) (heardAmong l)
+heardAmong (h ∷ l) = cond (isHeard h) (suc (heardAmong l)) (heardAmong l)
 
 -- "hops, heard hops"
 unfoldable pub heardHops : Path → ℕ

@@ -83,7 +83,7 @@ fn put_to(inner: u8, kind: Kind, to: Callsign, row: &mut [u8], at: usize) -> usi
 
 // ---- several fields
 
-// How many of the first hops, `count` of them, are heard.
+// How many of the first hops, `count` of them, are heard; a Q element never is.
 fn heard(hops: [Hop; 8], count: usize) -> usize
     ensures { λ r. ⌜ r ≡ heardAmong (take count hops) ⌝ }
 {
@@ -93,7 +93,7 @@ fn heard(hops: [Hop; 8], count: usize) -> usize
         if count <= i {
             return n;
         }
-        if hops[i].heard {
+        if hops[i].kind == header::HEARD {
             n += 1;
             i += 1;
             continue;

@@ -25,10 +25,13 @@ fn kind(k: Kind, out: &mut [u8], at: usize) -> usize {
     }
 }
 
-// One hop, a comma before it unless it is the first, and a star behind it if it is heard.
+// One hop, a comma before it unless it is the first: a Q element by its bare name, a callsign with a star behind it if it was heard.
 fn hop(h: Hop, first: bool, plain: bool, out: &mut [u8], at: usize) -> usize {
-    let end = words::call(lines::cut(b",", !first as usize), h.call, plain, out, at);
-    buffer::put(lines::cut(b"*", h.heard as usize), out, end)
+    let named = h.kind == header::Q_ELEMENT;
+    let heard = h.kind == header::HEARD;
+    let comma = lines::cut(b",", !first as usize);
+    let end = words::call(comma, h.call, plain | named, out, at);
+    buffer::put(lines::cut(b"*", heard as usize), out, end)
 }
 
 fn hops(label: &[u8], path: Path, plain: bool, out: &mut [u8], at: usize) -> usize {

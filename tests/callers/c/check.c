@@ -164,7 +164,7 @@ bool same_callsign(const tusselgro_callsign *a, const tusselgro_callsign *b) {
 static bool same_path(const tusselgro_path *a, const tusselgro_path *b) {
     bool same = a->count == b->count;
     for (int at = 0; at < TUSSELGRO_MOST_HOPS; at++)
-        same = same && same_callsign(&a->hops[at].call, &b->hops[at].call) && a->hops[at].heard == b->hops[at].heard;
+        same = same && same_callsign(&a->hops[at].call, &b->hops[at].call) && a->hops[at].kind == b->hops[at].kind;
     return same;
 }
 
@@ -209,6 +209,7 @@ bool any_fault(void) { return faults > 0; }
 static void check_all(void) {
     check_reading();
     check_writing();
+    check_hops();
     check_parts();
     check_times();
     check_messages();

@@ -71,6 +71,18 @@ void refuses(tusselgro_record record, slice text, slice identifier, int expected
 enum { HEADER_MARKS = 2 + TUSSELGRO_MOST_HOPS, MARKS = 2 * HEADER_MARKS };
 bool *mark_of(tusselgro_record *record, size_t place);
 
+/* What document 02 says of hops: whether each kind in a path may stand there; whether a path is that of a header with these hops
+   typed, each behind its comma; whether it is written rightly, in a line from its first comma on, in a frame from the source
+   on. */
+bool are_kinds_right(const tusselgro_path *path);
+bool is_path_read(const tusselgro_path *path, slice typed);
+bool is_path_text(const tusselgro_path *path, const uint8_t *text);
+bool is_path_frame(const tusselgro_path *path, const uint8_t *source);
+
+/* A hop in words: as it was typed, with the zero that was dropped; a star where it was heard, a Q element in brackets. */
+enum { HOP_TOLD = 32 };
+void tell_hop(char told[HOP_TOLD], const tusselgro_hop *hop);
+
 /* What document 02 says of times: whether seven bytes are one, and whether the numbers of a record are one, or none. */
 bool is_time_text(const uint8_t *seven);
 bool is_time(tusselgro_time time);
@@ -107,6 +119,7 @@ bool is_blank(const tusselgro_record *record);
 
 void check_reading(void);
 void check_writing(void);
+void check_hops(void);
 void check_parts(void);
 void check_times(void);
 void check_messages(void);

@@ -67,9 +67,9 @@ static void tell_header(char told[TOLD], const tusselgro_header *h) {
     tell(told, ">");
     tell_call(told, &h->to);
     for (size_t hop = 0; hop < h->path.count; hop++) {
-        tell(told, ",");
-        tell_call(told, &h->path.hops[hop].call);
-        tell(told, h->path.hops[hop].heard ? "*" : "");
+        char hop_told[HOP_TOLD];
+        tell_hop(hop_told, &h->path.hops[hop]);
+        tell(told, ",%s", hop_told);
     }
 }
 
@@ -164,6 +164,14 @@ static void check_headers(void) {
     READS("}C-0>S32U6T-0,E-0:`(_fn\"Oj/", "1 C-0>,E-0 mic-e 200564 -72774 20 knots 251 degrees 27+0");
     READS("}C>D,1,2,3,4,5,6,7,8*:>", "1 C>D,1*,2*,3*,4*,5*,6*,7*,8* status 23+0");
     READS("}C-0>D-0,X-0*,Y:}E>F:>hi", "2 E>F status 22+2");
+    READS("}C>D,qAC,E*:>hi", "1 C>D,[qAC],E* status 13+2");
+    READS("}C>D,E,qAR,F*,qAC*,qAo,G:>hi", "1 C>D,E*,[qAR],F*,qAC*,[qAo],G status 26+2");
+    READS("}C>D,TCPIP*,qAC,T2TEXAS:" POINT, "1 C>D,TCPIP*,[qAC],T2TEXAS position 1 2 44+0");
+    READS("}C>D,qAC,qAX,qAU,qAo,qAO,qAS,qAr,qAR:x", "1 C>D,[qAC],[qAX],[qAU],[qAo],[qAO],[qAS],[qAr],[qAR] unknown");
+    READS("}C>S32U6T,qAZ,E-0:`(_fn\"Oj/", "1 C>,[qAZ],E-0 mic-e 200564 -72774 20 knots 251 degrees 27+0");
+    READS("}C>D,qAC,X*:}E>F,qAI:>hi", "2 E>F,[qAI] status 22+2");
+    READS("}C>D,qAC,X*:}E>F:>hi", "2 E>F status 18+2");
+    READS("}qAC>qAR:x", "1 qAC>qAR unknown");
     READS("}c\xc3\xa9>d:x", "1 c\xc3\xa9>d unknown");
     READS("}>:", "1 > unknown");
     READS("}>:}>:}>:}>:", "4 > unknown");
@@ -217,8 +225,8 @@ static void check_faults(void) {
         FAULT("", 2), FAULT("x", 2), FAULT("}", 2), FAULT(":", 2), FAULT("C>D", 2), FAULT("C:>D", 2),
         FAULT("C->D:", 3), FAULT("-1>D:", 3), FAULT("C>D-:", 3), FAULT("C>D,-:", 3), FAULT("C>D,\xff:x", 3),
         FAULT("ABCDEFGHIJKLMNOPQ>D:", 4), FAULT("ABCDEFGHIJKLMNO-0>D:", 4), FAULT("C>D,ABCDEFGHIJKLMNOPQ:", 4),
-        FAULT("C>D,1,2,3,4,5,6,7,8,9:", 5), FAULT("C>D,1,2,3,4,5,6,7,8,qAC:", 5),
-        FAULT("C>D,qAC:", 6), FAULT("C>D,E*,qA*:}", 6),
+        FAULT("C>D,1,2,3,4,5,6,7,8,9:", 5), FAULT("C>D,1,2,3,4,5,6,7,8,qAC:", 5), FAULT("C>D,qAC,2,3,4,5,6,7,8,9:", 5),
+        FAULT("C>D,qAc:", 6), FAULT("C>D,E*,qA*:}", 6), FAULT("C>D,qAC,qAx:x", 6),
         FAULT("C>D:!/5L!!<*e7>7P[", 7), FAULT("C>D:=", 7), FAULT("C>D:/010000z", 7),
         FAULT("C>D:!9000.01N/18000.01E-", 8), FAULT("C>D:!9000.00N/18000.01E-", 9), FAULT("C>D:@010000z0", 10),
         FAULT("C>D:!4903.50N/07201.75W", 10), FAULT("C>D:/", 10),
@@ -235,14 +243,16 @@ static void check_faults(void) {
 /* "Faults come in reading order, outermost first"; 512 is tested once, of the whole. */
 static void check_order(void) {
     REFUSED(LINE("A:}C>D:x"), 2);
-    REFUSED(LINE("A->B:}C>D,qAC:"), 3);
+    REFUSED(LINE("A->B:}C>D,qAc:"), 3);
     REFUSED(LINE("ABCDEFGHIJKLMNOPQ>B:}"), 4);
     REFUSED(LINE("A>B,1,2,3,4,5,6,7,8,9:}C->D:"), 5);
-    REFUSED(LINE("A>B,qAC:}C->D:"), 6);
-    REFUSED(LINE("A>B:}C->D:}E>F,qAC:"), 3);
-    REFUSED(LINE("A>B:}C>D,qAC:}E->F:"), 6);
+    REFUSED(LINE("A>B,qAc:}C->D:"), 6);
+    REFUSED(LINE("A>B:}C->D:}E>F,qAc:"), 3);
+    REFUSED(LINE("A>B:}C>D,qAc:}E->F:"), 6);
+    REFUSED(LINE("A>B,qAC:}C>D,qAC:}E->F:"), 3);
     REFUSED(LINE("A>B:}C>D:}E>F:}G>H:}I->J:}K>L:x"), 3);
-    REFUSED(LINE("A>B:}C>D:}E>F:}G>H,qAC:}I>J:}K>L:x"), 6);
+    REFUSED(LINE("A>B:}C>D:}E>F:}G>H,qAc:}I>J:}K>L:x"), 6);
+    REFUSED(LINE("A>B:}C>D:}E>F:}G>H,qAC:}I>J:}K>L:x"), 19);
     REFUSED(LINE("A>B:}C>D:}E>F:}G>H:}I>J:}K->L:x"), 19);
     for (const form *f = forms; f < forms + 2; f++) {
         uint8_t packet[513];
@@ -283,6 +293,10 @@ static void check_whole(void) {
     HOLDS(read.record.inner == 2 && is_told(&read.record.header, "A-0>S32U6T-0,X-0,Y"));
     HOLDS(is_told(&read.record.innermost, "E>,Z-0*") && read.record.body.kind == TUSSELGRO_MIC_E);
     HOLDS(read.record.body.place.latitude == 200564 && is_span(read.record.body.comment, 50, 2));
+    read = LINE("A>B,X,qAR,Y*,qAC:}C>D,qAC,Z:>hi");
+    REFUSED(read, 0);
+    HOLDS(is_told(&read.record.header, "A>B,X*,[qAR],Y*,[qAC]") && is_told(&read.record.innermost, "C>D,[qAC],Z"));
+    HOLDS(read.record.inner == 1 && is_span(read.record.body.comment, 29, 2));
     REFUSED(LINE("A>S32U6T:}C>LLLLLL:`(_fn\"Oj/"), 11);
     REFUSED(LINE("A>LLLLLL:}C>S32U6T:`(_fn\"Oj/"), 0);
     read = read_lent(tusselgro_read_frame, BYTES("\x82\xa0\xa4\xa6@@\xe0\x9c\x60\x86\x82\x98\x98\x62\x9c\x60\x86\x82\x98\x98\xe3"
@@ -301,7 +315,7 @@ static tusselgro_record record_of(const char *line) {
 
 static const char *const kinds[] = {
     "C>D:",    "C>D:" POINT, "C>D:@092345z0000.01N/00000.02E-", "C-0>S32U6T-0,E*:`(_fn\"Oj/", "C>D::WU2Z     :",
-    "C>D:>hi", "C>D:>092345z", "C>D,1,2,3,4,5,6,7,8-0*:>",
+    "C>D:>hi", "C>D,E,qAC,F*,qAR:>092345z", "C>D,1,2,3,4,5,6,7,8-0*:>",
 };
 
 enum { KINDS = sizeof kinds / sizeof *kinds };
@@ -372,7 +386,9 @@ static void check_blank(void) {
             SPOILT(record, r.innermost.path.hops[at].call.text[0] = 1, 15);
             SPOILT(record, r.innermost.path.hops[at].call.call_len = 1, 15);
             SPOILT(record, r.innermost.path.hops[at].call.ssid_len = 1, 15);
-            SPOILT(record, r.innermost.path.hops[at].heard = true, 15);
+            SPOILT(record, r.innermost.path.hops[at].kind = TUSSELGRO_HEARD, 15);
+            SPOILT(record, r.innermost.path.hops[at].kind = TUSSELGRO_Q_CONSTRUCT, 15);
+            SPOILT(record, r.innermost.path.hops[at].kind = 255, 15);
         }
     }
     for (size_t place = HEADER_MARKS; place < MARKS; place++) {
@@ -404,7 +420,11 @@ static void check_ranges(void) {
         IN_EITHER(h->path.count = 9);
         IN_EITHER(h->path.count = (size_t)-1);
         IN_EITHER(h->path.hops[7].call.text[0] = 'E');
-        IN_EITHER(h->path.hops[7].heard = true);
+        IN_EITHER(h->path.hops[7].kind = TUSSELGRO_HEARD);
+        IN_EITHER(h->path.hops[7].kind = TUSSELGRO_Q_CONSTRUCT);
+        IN_EITHER(h->path.hops[7].kind = 255);
+        IN_EITHER(h->path.hops[0].kind = TUSSELGRO_Q_CONSTRUCT);
+        IN_EITHER(h->path.hops[0].kind = 3);
         IN_EITHER(h->path.hops[0].call = zero_ssid);
         SPOILT(record, r.header.path.count = 0, 15);
         SPOILT(record, r.header.path.count = 2, 14);

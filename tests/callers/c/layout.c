@@ -38,7 +38,7 @@ STARTS(callsign, ssid_len, 17);
 STARTS(callsign, had_zero_ssid, 18);
 
 STARTS(hop, call, 0);
-STARTS(hop, heard, 19);
+STARTS(hop, kind, 19);
 
 STARTS(path, count, 0);
 STARTS(path, hops, 8);

@@ -216,14 +216,15 @@ static void check_headers(void) {
     REFUSED(LINE("A->B::x"), 3);
     REFUSED(LINE("ABCDEFGHIJKLMNOPQ>B::x"), 4);
     REFUSED(LINE("A>B,1,2,3,4,5,6,7,8,9::x"), 5);
-    REFUSED(LINE("A>B,qAC::x"), 6);
+    REFUSED(LINE("A>B,qAc::x"), 6);
+    REFUSED(LINE("A>B,qAC::x"), 18);
     tusselgro_read read = LINE("N0CALL>APRS:>hi");
     REFUSED(read, 0);
     HOLDS(is_to(read.record.header.from, "N0CALL") && is_to(read.record.header.to, "APRS"));
     HOLDS(read.record.header.path.count == 0 && is_span(read.record.body.comment, 13, 2));
     read = LINE("N0CALL-0>S32U6T-0,WIDE1-0*::WU2Z     :Testing{003");
     REFUSED(read, 0);
-    HOLDS(is_to(read.record.header.to, "S32U6T") && read.record.header.path.hops[0].heard);
+    HOLDS(is_to(read.record.header.to, "S32U6T") && read.record.header.path.hops[0].kind == TUSSELGRO_HEARD);
     for (size_t place = 0; place < MARKS; place++) HOLDS(*mark_of(&read.record, place) == (place < 3));
     HOLDS(is_span(read.record.body.comment, 38, 7) && is_span(read.record.body.identifier, 46, 3));
 }

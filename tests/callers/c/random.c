@@ -59,9 +59,32 @@ static const char *const lines[] = {
     "N0CALL-0>APRS-0,WIDE1-0,WIDE2-0*,K1A-00:!4903.50N/07201.75W-",
     "A-0>S32U6T-0,B-0,C*:`(_fn\"Oj/",
     "A>B:}C>D:}E>F:}G>H:}I>J:",
+    "N0CALL>APRS,TCPIP*,qAC,T2TEXAS:!4903.50N/07201.75W-Test",
+    "A-0>B,qAR,C-0,qAC*,D,qAo:>hi",
+    "A>S32U6T,qAC,qAX,qAU,qAo,qAO,qAS,qAr:`(_fn\"Oj/",
 };
 
 static const char *any_of_lines(void) { return lines[below(sizeof lines / sizeof *lines)]; }
+
+/* the three bytes of a Q element, or now and then of none */
+static void any_name(uint8_t *three) {
+    three[0] = 'q';
+    three[1] = 'A';
+    three[2] = one_in(8) ? (uint8_t)next() : (uint8_t)"CXUoOSrRZI"[below(10)];
+}
+
+/* with some of them put in, each before a comma or a colon */
+static size_t with_names(uint8_t *bytes, size_t size) {
+    while (one_in(3) && size + 4 < MOST) {
+        size_t at = below(size + 1);
+        while (at < size && bytes[at] != ',' && bytes[at] != ':') at++;
+        memmove(bytes + at + 4, bytes + at, size - at);
+        bytes[at] = ',';
+        any_name(bytes + at + 1);
+        size += 4;
+    }
+    return size;
+}
 
 static size_t damaged(uint8_t *bytes, size_t size) {
     for (size_t edits = below(4); edits > 0; edits--) {
@@ -74,7 +97,7 @@ static size_t damaged(uint8_t *bytes, size_t size) {
             memmove(bytes + at, bytes + at + 1, size - at - 1);
             size--;
         } else if (at < size) {
-            static const char telling[] = "*-,:>!=`'@ 012356789AKLPZqhz/.{|~}";
+            static const char telling[] = "*-,:>!=`'@ 012356789ACKLPRZoqhz/.{|~}";
             bytes[at] = one_in(2) ? (uint8_t)next() : (uint8_t)telling[below(sizeof telling - 1)];
         }
     }
@@ -102,7 +125,8 @@ static size_t line_inside(uint8_t *bytes, size_t around) {
 
 static size_t any_line(uint8_t *bytes) {
     if (one_in(8)) return any_bytes(bytes, below(MOST));
-    return damaged(bytes, comment_behind(bytes, line_inside(bytes, one_in(3) ? below(6) : 0)));
+    size_t size = with_names(bytes, line_inside(bytes, one_in(3) ? below(6) : 0));
+    return damaged(bytes, comment_behind(bytes, size));
 }
 
 static size_t any_frame(uint8_t *bytes) {
@@ -173,6 +197,20 @@ static bool is_marked_by(tusselgro_record record, const uint8_t *line) {
         line += ended ? 0 : size + 1;
     }
     return same && ended;
+}
+
+/* The hops of a line that was read, from the first comma behind its '>' to its ':'. */
+static slice hops_of(const uint8_t *line) {
+    while (*line != '>') line++;
+    line += before(line, ',', ':');
+    return (slice){line, before(line, ':', ':')};
+}
+
+/* Neither a kind that is none nor a Q element, which a frame has not. */
+static bool are_addresses(const tusselgro_path *path) {
+    bool all = are_kinds_right(path);
+    for (size_t at = 0; at < path->count; at++) all = all && path->hops[at].kind != TUSSELGRO_Q_CONSTRUCT;
+    return all;
 }
 
 /* none, or one in a position, or one with 'z' in a status */
@@ -262,6 +300,9 @@ static void any_read(void) {
     if (read.refusal != 0) return;
     if (b->kind == TUSSELGRO_POSITION) HOLDS(starts_rightly(bytes + b->comment.at - 19, b));
     HOLDS(frame ? is_unmarked(read.record) : is_marked_by(read.record, bytes));
+    const tusselgro_path *path = &read.record.header.path;
+    HOLDS(frame ? are_addresses(path) : is_path_read(path, hops_of(bytes)));
+    HOLDS(are_kinds_right(&read.record.innermost.path));
     slice text = {bytes + b->comment.at, b->comment.len}, identifier = {bytes + b->identifier.at, b->identifier.len};
     write_lent(tusselgro_write_text, read.record, text, identifier, below(MOST));
     write_lent(tusselgro_write_frame, read.record, text, identifier, below(MOST));
@@ -277,10 +318,6 @@ static tusselgro_record wild_record(void) {
     memset(&record.body.place.west, one_in(2), 1);
     memset(&record.body.messaging, one_in(2), 1);
     memset(&record.body.report.current, one_in(2), 1);
-    for (int at = 0; at < TUSSELGRO_MOST_HOPS; at++) {
-        memset(&record.header.path.hops[at].heard, one_in(2), 1);
-        memset(&record.innermost.path.hops[at].heard, one_in(2), 1);
-    }
     for (size_t place = 0; place < MARKS; place++) memset(mark_of(&record, place), one_in(2), 1);
     return record;
 }
@@ -294,12 +331,25 @@ static tusselgro_time any_time(void) {
     return (tusselgro_time){often_zero(34), often_zero(26), often_zero(62), often_zero(62), form};
 }
 
+/* a hop near a Q element: its name, its kind, or both, and now and then another byte of it */
+static void change_hop(tusselgro_path *path) {
+    tusselgro_hop *hop = &path->hops[below(one_in(2) ? 2 : TUSSELGRO_MOST_HOPS)];
+    if (one_in(2)) {
+        hop->call = (tusselgro_callsign){"", 3, 0, false};
+        any_name(hop->call.text);
+    }
+    if (one_in(8)) hop->call.text[below(TUSSELGRO_MOST_CALLSIGN)] = (uint8_t)next();
+    if (one_in(8)) hop->call.call_len = (uint8_t)below(6);
+    if (one_in(8)) hop->call.ssid_len = (uint8_t)below(3);
+    if (one_in(2)) hop->kind = (uint8_t)(one_in(4) ? next() : TUSSELGRO_Q_CONSTRUCT);
+}
+
 /* a record that was read, with some part of it changed, or none */
 static tusselgro_record near_record(void) {
     uint8_t bytes[MOST + 8];
     tusselgro_record record = tusselgro_read_text(bytes, any_line(bytes)).record;
     tusselgro_place *place = &record.body.place;
-    switch (below(21)) {
+    switch (below(26)) {
         case 0: record.body.kind = (uint8_t)below(7); break;
         case 1: record.body.report.message = (uint8_t)below(20); break;
         case 2: place->blanks = (uint8_t)below(8); break;
@@ -324,14 +374,16 @@ static tusselgro_record near_record(void) {
         case 18: record.innermost = record.header; break;
         case 19: record.innermost.path.count = below(12); break;
         case 20: record.innermost.to.call_len = (uint8_t)(one_in(2) ? below(20) : next()); break;
+        case 21: case 22: case 23: change_hop(&record.header.path); break;
+        case 24: case 25: change_hop(&record.innermost.path); break;
         default: record.header.to.ssid_len = (uint8_t)(one_in(2) ? below(20) : next()); break;
     }
     return record;
 }
 
-static bool fits(tusselgro_callsign c) {
-    return c.call_len + (c.ssid_len > 0 ? 1 + c.ssid_len : 0) <= TUSSELGRO_MOST_CALLSIGN;
-}
+static size_t size_of(tusselgro_callsign c) { return c.call_len + (size_t)(c.ssid_len > 0 ? 1 + c.ssid_len : 0); }
+
+static bool fits(tusselgro_callsign c) { return size_of(c) <= TUSSELGRO_MOST_CALLSIGN; }
 
 /* a text near what a message or a status may have: its length, its bytes, a time that it starts with */
 static slice any_text(uint8_t *bytes) {
@@ -349,8 +401,16 @@ static bool is_inner_right(const tusselgro_record *record) {
     tusselgro_record unmarked = {.innermost = record->innermost};
     for (size_t place = 0; place < MARKS; place++) *mark_of(&unmarked, place) = false;
     if (record->inner == 0) return same_record(&unmarked, &zeros);
-    return record->inner <= TUSSELGRO_MOST_INNER && record->innermost.path.count <= TUSSELGRO_MOST_HOPS &&
+    return record->inner <= TUSSELGRO_MOST_INNER && are_kinds_right(&record->innermost.path) &&
            fits(record->innermost.from) && fits(record->innermost.to);
+}
+
+/* Whether the path was written rightly; in a line it stands behind the source, '>' and the destination, which Mic-E makes of six
+   bytes. */
+static bool has_path(const tusselgro_record *record, bool frame) {
+    const tusselgro_header *h = &record->header;
+    size_t to = record->body.kind == TUSSELGRO_MIC_E ? 6 : size_of(h->to);
+    return frame ? is_path_frame(&h->path, written + 7) : is_path_text(&h->path, written + size_of(h->from) + 1 + to);
 }
 
 /* What is lent with a record: "18 what was handed over with it". */
@@ -377,13 +437,15 @@ static void any_write(void) {
     writer *function = one_in(2) ? tusselgro_write_frame : tusselgro_write_text;
     size_t room = below(MOST);
     tusselgro_answer answer = write_lent(function, record, text, identifier, room);
-    HOLDS((is_right(b) && is_inner_right(&record)) || answer.refusal == 15);
+    bool right = is_right(b) && are_kinds_right(&record.header.path) && is_inner_right(&record);
+    HOLDS(right || answer.refusal == 15);
     if (record.inner != 0) {
         HOLDS(answer.refusal == 14 || answer.refusal == 15);
     } else {
         HOLDS(is_malformed(b, text, identifier) ? answer.refusal == 15 || answer.refusal == 18 : answer.refusal != 18);
     }
     if (answer.refusal == 0) HOLDS(ends_rightly(b, text, identifier, answer.reported));
+    if (answer.refusal == 0) HOLDS(has_path(&record, function == tusselgro_write_frame));
     if (answer.refusal == 0 && b->kind == TUSSELGRO_POSITION)
         HOLDS(starts_rightly(written + answer.reported - text.size - 19, b));
     HOLDS((fits(record.header.from) && fits(record.header.to)) || answer.refusal == 15);

@@ -1,5 +1,5 @@
 /* Lines and frames read: document 01's values, document 02's letters, marks and times, every refusal that a reader can give.
-   messages.c has messages and status lines, inner.c packets inside packets. */
+   hops.c has Q elements, messages.c messages and status lines, inner.c packets inside packets. */
 #include "check.h"
 
 #include <string.h>
@@ -15,6 +15,14 @@ static bool is_call(tusselgro_callsign callsign, const char *call, const char *s
             (callsign.text[call_len] == '-' && memcmp(callsign.text + call_len + 1, ssid, ssid_len) == 0));
 }
 
+/* a digit for each hop: its kind; that of a spare hop is 0 */
+static bool has_kinds(tusselgro_path path, const char *digits) {
+    bool same = path.count == strlen(digits);
+    for (size_t at = 0; at < TUSSELGRO_MOST_HOPS; at++)
+        same = same && path.hops[at].kind == (at < strlen(digits) ? digits[at] - '0' : 0);
+    return same;
+}
+
 /* The first line of the listing: every part of a position. */
 static void check_position(void) {
     tusselgro_read read = LINE("N0CALL-01>APRS,WIDE1-1,WIDE2-2*,K1A:!4903.50N/07201.75W-Test");
@@ -27,8 +35,7 @@ static void check_position(void) {
     HOLDS(!b.place.south && b.place.west);
     HOLDS(b.comment.at == 56 && b.comment.len == 4);
     HOLDS(is_call(h.from, "N0CALL", "01") && is_call(h.to, "APRS", ""));
-    HOLDS(h.path.count == 3 && is_call(h.path.hops[0].call, "WIDE1", "1") && is_call(h.path.hops[2].call, "K1A", ""));
-    HOLDS(h.path.hops[0].heard && h.path.hops[1].heard && !h.path.hops[2].heard);
+    HOLDS(has_kinds(h.path, "110") && is_call(h.path.hops[0].call, "WIDE1", "1") && is_call(h.path.hops[2].call, "K1A", ""));
     b = LINE("A>B:=49  .  N/072  .  W-").record.body;
     HOLDS(b.messaging && b.place.blanks == 4 && b.place.latitude == 294000 && b.place.longitude == -432000);
     read = LINE("A>B:");
@@ -108,7 +115,7 @@ static void check_marks(void) {
     HOLDS(has_marks(read, "11111"));
     HOLDS(is_call(h.from, "N0CALL", "") && is_call(h.to, "APRS", "") && is_call(h.path.hops[0].call, "WIDE1", ""));
     HOLDS(is_call(h.path.hops[1].call, "WIDE2", "") && is_call(h.path.hops[2].call, "K1A", ""));
-    HOLDS(h.path.hops[0].heard && h.path.hops[1].heard && !h.path.hops[2].heard);
+    HOLDS(has_kinds(h.path, "110"));
     HOLDS(has_marks(LINE("A-0>B,C,D:"), "1000"));
     HOLDS(has_marks(LINE("A>B-0,C,D:"), "0100"));
     HOLDS(has_marks(LINE("A>B,C-0,D*:"), "0010"));
@@ -119,11 +126,12 @@ static void check_marks(void) {
     HOLDS(has_marks(LINE("A-00>B-0-0,C-+0,D-01,E-10,F0,0:"), "0000000"));
     HOLDS(has_marks(LINE("A-0>S32U6T-0,B-0:`(_fn\"Oj/"), "101"));
     HOLDS(has_marks(LINE("A>S32U6T-0,B:'(_fn\"Oj/"), "000"));
+    HOLDS(has_marks(LINE("A-0>B,qAC,C-0,qAR,qAC-0,qAC:>x"), "1001010"));
     REFUSED(LINE("A-0>B-0,C-0,D-:"), 3);
     REFUSED(LINE("A-0>-0:"), 3);
     REFUSED(LINE("A-0>B-0,ABCDEFGHIJKLMNO-0:"), 4);
     REFUSED(LINE("A-0>B-0,1-0,2,3,4,5,6,7,8-0,9-0:"), 5);
-    REFUSED(LINE("A-0>B-0,C-0,qAC:"), 6);
+    REFUSED(LINE("A-0>B-0,C-0,qAc:"), 6);
     REFUSED(LINE("A-0>B-0,C-0:!/5L!!<*e7>7P["), 7);
     REFUSED(LINE("A-0>B-0,C-0:!9000.01N/00000.00E-"), 8);
     REFUSED(LINE("A-0>LLLLLL-0,C-0:`(_fn\"Oj/"), 11);
@@ -132,8 +140,7 @@ static void check_marks(void) {
 
 /* P11 and P12. */
 static void check_values(void) {
-    tusselgro_path path = LINE("X>Y,A,B*,C:").record.header.path;
-    HOLDS(path.hops[0].heard && path.hops[1].heard && !path.hops[2].heard);
+    HOLDS(has_kinds(LINE("X>Y,A,B*,C:").record.header.path, "110"));
     HOLDS(LINE("A>B:!9000.00N/00000.00E-").record.body.place.latitude == 540000);
     HOLDS(LINE("A>B:!8960.00N/00000.00E-").record.body.place.latitude == 540000);
     REFUSED(LINE("A>B:!9000.01N/00000.00E-"), 8);
@@ -181,8 +188,8 @@ static void check_frames(void) {
     HOLDS(read.record.body.kind == TUSSELGRO_POSITION && read.record.body.place.latitude == 294350);
     HOLDS(has_letters(read, false, true));
     HOLDS(has_letters(FRAME(TO LAST_FROM PAIR "!0000.00S/00000.00W-"), true, true));
-    HOLDS(is_call(h.from, "N0CALL", "1") && is_call(h.to, "APRS", "") && h.path.count == 1);
-    HOLDS(is_call(h.path.hops[0].call, "N0CALL", "1") && h.path.hops[0].heard && read.record.body.comment.at == 43);
+    HOLDS(is_call(h.from, "N0CALL", "1") && is_call(h.to, "APRS", "") && has_kinds(h.path, "1"));
+    HOLDS(is_call(h.path.hops[0].call, "N0CALL", "1") && read.record.body.comment.at == 43);
     REFUSED(FRAME(MIC_E_TO LAST_FROM PAIR "`(_fn\"Oj/"), 0);
     HOLDS(has_marks(FRAME(TO ZERO_FROM ZERO_HOP LAST_ZERO_HOP PAIR "!4903.50N/07201.75W-"), "0000"));
     HOLDS(has_marks(FRAME(MIC_E_TO ZERO_FROM LAST_ZERO_HOP PAIR "`(_fn\"Oj/"), "000"));
@@ -304,7 +311,8 @@ static void check_time_refusals(void) {
     TIMED("01 000z" POSITION, 17);
     TIMED("+1+1+1z" POSITION, 17);
     REFUSED(LINE("A->B:/xxxxxxx"), 3);
-    REFUSED(LINE("A>B,qAC:/xxxxxxx"), 6);
+    REFUSED(LINE("A>B,qAc:/xxxxxxx"), 6);
+    REFUSED(LINE("A>B,qAC:/xxxxxxx"), 17);
 }
 
 void check_reading(void) {

@@ -1,5 +1,5 @@
 /* Records written: document 01's values, document 02's letters, marks and times, every refusal of a writer, and wild records.
-   messages.c has messages and status lines, inner.c packets inside packets. */
+   hops.c has Q elements, messages.c messages and status lines, inner.c packets inside packets. */
 #include "check.h"
 
 #include <stdio.h>
@@ -242,7 +242,11 @@ static void check_range(void) {
     SPOILT(position_line, r.header.path.count = 9);
     SPOILT(position_line, r.header.path.count = (size_t)-1);
     SPOILT(position_line, r.header.path.count = 2);
-    SPOILT(position_line, r.header.path.hops[7].heard = true);
+    SPOILT(position_line, r.header.path.hops[7].kind = TUSSELGRO_HEARD);
+    SPOILT(position_line, r.header.path.hops[7].kind = TUSSELGRO_Q_CONSTRUCT);
+    SPOILT(position_line, r.header.path.hops[0].kind = TUSSELGRO_Q_CONSTRUCT);
+    SPOILT(position_line, r.header.path.hops[0].kind = 3);
+    SPOILT(position_line, r.header.path.hops[2].kind = 255);
     SPOILT(position_line, r.header.path.hops[7].call.ssid_len = 255; r = marked(r));
     SPOILT(position_line, r.header.from.call_len = 255);
     SPOILT(position_line, r.header.from.ssid_len = 255);

@@ -1,6 +1,6 @@
 // Compares the answers of the port with the oracle's, line by line, and prints tables: by kind of request, by the
-// port's number, by mark, by the place of a dropped zero, by what became of a time, a message or a status, and of a packet
-// inside a packet. Fails on a difference that is on no list, on unequal counts, and on a kind that compared nothing. Of two
+// port's number, by mark, by the place of a Q element and of a dropped zero, by what became of a time, a message or a status, and of
+// a packet inside a packet. Fails on a difference that is on no list, on unequal counts, and on a kind that compared nothing. Of two
 // refusals only the fact counts, but where a time, a message, a status or an inner packet decides; pairs of unequal numbers are
 // told at the end and fail nothing.
 

@@ -1,10 +1,10 @@
-// What `compare` counts beside its verdicts, of requests that it finds no difference in: dropped zeros, times, messages and status lines;
-// and packets inside packets, which it counts there alone.
+// What `compare` counts beside its verdicts, of requests that it finds no difference in: Q elements; dropped zeros, times, messages and
+// status lines; and packets inside packets, which it counts there and among the Q elements alone.
 
 use crate::first_number;
 use crate::judge::{Judgement, Rewritten, Verdict};
 use protocol::third_party::FIFTH;
-use protocol::{from_decimal, words, BAD_TIME, MALFORMED};
+use protocol::{from_decimal, q_elements, words, BAD_TIME, MALFORMED, MOST_HOPS};
 
 const ZERO_AT: [&str; 4] = ["anywhere", "source", "destination", "a hop"];
 const TIMES: [&str; 5] = ["accepted, z", "accepted, /", "accepted, h", "refused: 17, or 15", "of these listed"];
@@ -18,6 +18,19 @@ const SAID: [&str; 8] = [
     "on shim, or outside",
     "refused: 18",
     "of these listed",
+];
+
+/// Inputs and records with a Q element: where; of the outermost path how many there are, and which callsigns beside them are heard; and
+/// below these those with each of the ten names.
+const Q_AT: [&str; 8] = [
+    "anywhere",
+    "the outermost path",
+    "the innermost path",
+    "two or more",
+    "all eight hops",
+    "heard before one",
+    "heard behind one",
+    "heard on both sides",
 ];
 
 /// What was read by number and by the innermost kind, what was refused, and records with a number to be written.
@@ -39,10 +52,11 @@ const INSIDE: [&str; 14] = [
 ];
 const KINDS: [&[u8]; 5] = [b"unknown", b"position", b"mic-e", b"message", b"status"];
 
-/// Columns are reading and writing; of messages and status lines reading, text and frame written again alike, and writing; of packets
-/// inside packets text and frame.
+/// Columns are reading and writing; of Q elements, messages and status lines reading, text and frame written again alike, and writing; of
+/// packets inside packets text and frame.
 #[derive(Default)]
 pub struct Counts {
+    q_elements: [[u64; 3]; Q_AT.len() + q_elements::NAMES.len()],
     zeros: [[u64; 2]; 4],
     times: [[u64; 2]; 5],
     said: [[u64; 3]; 8],
@@ -52,6 +66,31 @@ pub struct Counts {
 /// The value of the word of this name, as `zeros=`, in a request or an answer; such words stand last.
 fn value_of<'a>(line: &[&'a [u8]], name: &[u8]) -> Option<&'a [u8]> {
     line.iter().rev().find_map(|word| word.strip_prefix(name))
+}
+
+/// The hops of a word that lists them; a Q element is its bare name there.
+fn hops_of(word: Option<&[u8]>) -> Vec<&[u8]> {
+    word.map_or(Vec::new(), |word| word.split(|byte| *byte == b',').collect())
+}
+
+/// The rows of `Q_AT` that two paths meet.
+fn q_rows(outermost: &[&[u8]], innermost: &[&[u8]]) -> [bool; Q_AT.len()] {
+    let is_q = |hop: &&[u8]| q_elements::is_name(hop);
+    let is_heard = |hop: &&[u8]| hop.ends_with(b"*");
+    let heard_beside = |q: usize| (outermost[..q].iter().any(is_heard), outermost[q + 1..].iter().any(is_heard));
+    let places: Vec<usize> = (0..outermost.len()).filter(|place| is_q(&outermost[*place])).collect();
+    let beside: Vec<(bool, bool)> = places.iter().map(|place| heard_beside(*place)).collect();
+    let is_inside = innermost.iter().any(is_q);
+    [
+        !places.is_empty() || is_inside,
+        !places.is_empty(),
+        is_inside,
+        places.len() >= 2,
+        places.len() == MOST_HOPS,
+        beside.contains(&(true, false)),
+        beside.contains(&(false, true)),
+        beside.contains(&(true, true)),
+    ]
 }
 
 fn is_listed_time(verdict: &Verdict) -> bool {
@@ -67,6 +106,7 @@ impl Counts {
         };
         let (line, answer) = (words(line), first_number(ours));
         let is_frame = request.starts_with(b"F") || request.starts_with(b"W frame");
+        self.note_q_elements(way, &line, judgement);
         self.note_inside(way, usize::from(is_frame), &line, answer, &judgement.verdict);
         if judgement.verdict == Verdict::Inner {
             return;
@@ -74,6 +114,27 @@ impl Counts {
         self.note_zeros(way, &line);
         self.note_time(way, &line, answer, &judgement.verdict);
         self.note_said(way, &line, answer, judgement);
+    }
+
+    /// Counts an input with Q elements that was read, and how often it was written again alike, or a record to be written that has some.
+    fn note_q_elements(&mut self, way: usize, line: &[&[u8]], judgement: &Judgement) {
+        let outermost = match way {
+            0 => value_of(line, b"hops="),
+            _ => line.get(8).copied(),
+        };
+        let outermost = hops_of(outermost);
+        let innermost = hops_of(value_of(line, b"inner-hops="));
+        let [anywhere, places @ ..] = q_rows(&outermost, &innermost);
+        if !anywhere {
+            return;
+        }
+        let has_name = q_elements::NAMES.map(|name| outermost.iter().chain(&innermost).any(|hop| *hop == name.as_bytes()));
+        let rows = [anywhere].into_iter().chain(places).chain(has_name);
+        let again = judgement.rewritten.iter().filter(|result| **result == Rewritten::Equal).count() as u64;
+        for (row, _) in self.q_elements.iter_mut().zip(rows).filter(|(_, is_met)| *is_met) {
+            row[[0, 2][way]] += 1;
+            row[1] += again;
+        }
     }
 
     /// Counts the places of dropped zeros in an answer that was read, or in a record to be written.
@@ -154,6 +215,8 @@ impl Counts {
     }
 
     pub fn print(&self) {
+        let q_names: Vec<&str> = Q_AT.into_iter().chain(q_elements::NAMES).collect();
+        print_table("Q element", &["reading", "again", "writing"], &q_names, &self.q_elements);
         print_table("dropped zero at", &["reading", "writing"], &ZERO_AT, &self.zeros);
         print_table("time", &["reading", "writing"], &TIMES, &self.times);
         print_table("message or status", &["reading", "again", "writing"], &SAID, &self.said);

@@ -2,7 +2,7 @@
 
 use crate::packets::*;
 use crate::random::Random;
-use crate::records::{Name, Record, LATITUDE_SIDES, LONGITUDE_SIDES};
+use crate::records::{Hop, Name, Record, LATITUDE_SIDES, LONGITUDE_SIDES};
 use crate::Request;
 use protocol::rules::Limit;
 use protocol::{Form, LATITUDE_LIMIT, LONGITUDE_LIMIT};
@@ -115,7 +115,7 @@ pub fn damaged_frame(random: &mut Random) -> Request {
 }
 
 /// SSID `0` half the time, else another, nearly `0`, or none; a star one time in four.
-fn with_zero_or_nearly(random: &mut Random, call: &[u8]) -> Vec<u8> {
+pub fn with_zero_or_nearly(random: &mut Random, call: &[u8]) -> Vec<u8> {
     let ssid = match random.below(16) {
         0..=7 => "-0",
         8..=11 => "",
@@ -171,7 +171,7 @@ pub fn record(random: &mut Random, kind: &'static str) -> Record {
     record.room = *random.pick(&[512, 512, 600, 90, 40]);
     record.from = (call(random), ssid_text(random));
     record.hops = (0..random.between(0, 8))
-        .map(|_| ((call(random), ssid_text(random)), random.one_in(3)))
+        .map(|_| Hop::Callsign((call(random), ssid_text(random)), random.one_in(3)))
         .collect();
     let length = random.between(0, 30);
     record.comment = random.bytes(length);
@@ -219,10 +219,10 @@ fn letters(random: &mut Random, record: &Record) -> Option<[u8; 2]> {
     }
 }
 
-/// Left out, none, all, the destination's alone (which Mic-E leaves blank), those beside an SSID, or any.
-fn zeros(random: &mut Random, record: &Record) -> Option<Vec<bool>> {
+/// Left out, none, all, the destination's alone (which Mic-E leaves blank), those beside an SSID, or any; none of a Q element.
+pub fn zeros(random: &mut Random, record: &Record) -> Option<Vec<bool>> {
     let choice = random.below(8);
-    let zero_at = |(place, (_, ssid)): (usize, &Name)| match choice {
+    let mut zero_at = |place: usize, (_, ssid): &Name| match choice {
         1 => false,
         2 => true,
         3 => place == 1,
@@ -230,13 +230,13 @@ fn zeros(random: &mut Random, record: &Record) -> Option<Vec<bool>> {
         _ => random.one_in(2),
     };
     if choice == 0 {
-        None
-    } else {
-        Some(record.names().into_iter().enumerate().map(zero_at).collect())
+        return None;
     }
+    let places = record.places().into_iter().enumerate();
+    Some(places.map(|(place, name)| name.map_or(false, |name| zero_at(place, name))).collect())
 }
 
-fn ssid_text(random: &mut Random) -> Vec<u8> {
+pub fn ssid_text(random: &mut Random) -> Vec<u8> {
     match random.below(8) {
         0 => random.pick(&[&b"00"[..], b"01", b"+7", b"16", b"X", b"015"]).to_vec(),
         1..=3 => random.between(1, 15).to_string().into_bytes(),

@@ -10,6 +10,9 @@ mod messages_drawn;
 mod messages_whole;
 mod messages_written;
 mod packets;
+mod q_drawn;
+mod q_whole;
+mod q_written;
 mod random;
 mod records;
 mod timed;
@@ -38,7 +41,7 @@ enum Maker {
 
 use Maker::{Drawn, Sampled, Whole};
 
-const KINDS: [(&str, Maker); 92] = [
+const KINDS: [(&str, Maker); 107] = [
     ("text-unknown", Drawn(drawn::text_unknown)),
     ("text-position", Drawn(drawn::text_position)),
     ("text-mic-e", Drawn(drawn::text_mic_e)),
@@ -97,6 +100,14 @@ const KINDS: [(&str, Maker); 92] = [
     ("inner-hops", Whole(inner_whole::inner_hops)),
     ("inner-callsigns", Whole(inner_whole::inner_callsigns)),
     ("inner-lengths", Whole(inner_whole::inner_lengths)),
+    ("text-q", Drawn(q_drawn::text_q)),
+    ("q-paths", Whole(q_whole::q_paths)),
+    ("q-names", Whole(q_whole::q_names)),
+    ("q-ends", Whole(q_whole::q_ends)),
+    ("q-bytes", Whole(q_whole::q_bytes)),
+    ("q-bodies", Whole(q_whole::q_bodies)),
+    ("q-inner-paths", Whole(q_whole::q_inner_paths)),
+    ("q-inner-names", Whole(q_whole::q_inner_names)),
     ("hops", Whole(whole::hops)),
     ("frame-shapes", Whole(whole::frame_shapes)),
     ("callsigns", Whole(whole::callsigns)),
@@ -129,6 +140,13 @@ const KINDS: [(&str, Maker); 92] = [
     ("written-innermost", Whole(inner_written::written_innermost)),
     ("written-inner-orders", Whole(inner_written::written_inner_orders)),
     ("written-inner-callsigns", Whole(inner_written::written_inner_callsigns)),
+    ("written-q", Drawn(q_drawn::written_q)),
+    ("written-q-paths", Whole(q_written::written_q_paths)),
+    ("written-q-names", Whole(q_written::written_q_names)),
+    ("written-q-callsigns", Whole(q_written::written_q_callsigns)),
+    ("written-q-rooms", Whole(q_written::written_q_rooms)),
+    ("written-q-orders", Whole(q_written::written_q_orders)),
+    ("written-q-inner", Whole(q_written::written_q_inner)),
     ("bounds", Drawn(drawn::bounds)),
     ("bounds-limits", Whole(whole::bounds_limits)),
 ];

@@ -1,7 +1,8 @@
-// Headers by document 01's limits and order of refusals; whether a callsign is well formed the crate says of each by itself.
+// Headers by document 01's limits and order of refusals, and document 02's Q elements; whether a callsign or a hop is well formed
+// the crate says of each by itself.
 
-use aprs_parser::Callsign;
-use protocol::{callsigns_of, Form, Mark, ADDRESS, LONGEST_CALLSIGN, MOST_HOPS};
+use aprs_parser::{Callsign, Via};
+use protocol::{callsigns_of, q_elements, Form, Mark, ADDRESS, LONGEST_CALLSIGN, MOST_HOPS};
 
 const NO_PACKET: u32 = 2;
 const MALFORMED_CALLSIGN: u32 = 3;
@@ -19,36 +20,42 @@ fn limit_of_callsign(text: &[u8]) -> Option<Mark> {
 fn limit_of_hop(place: usize, text: &[u8]) -> Option<Mark> {
     if place >= MOST_HOPS {
         Some(Mark::Hops)
-    } else if text.len() == 3 && text.starts_with(b"qA") {
+    } else if q_elements::is_refused(text) {
         Some(Mark::QElement)
     } else {
         limit_of_callsign(text)
     }
 }
 
-/// Source, destination and hops, each with the limit of the port that it breaks.
-fn limits(line: &[u8]) -> Option<impl Iterator<Item = (&[u8], Option<Mark>)>> {
-    let callsigns = callsigns_of(line)?.into_iter().enumerate();
-    Some(callsigns.map(|(place, text)| match place.checked_sub(2) {
-        None => (text, limit_of_callsign(text)),
-        Some(hop) => (text, limit_of_hop(hop, text)),
-    }))
+/// The limit of the port that a text of a line's header breaks: source, destination, hops.
+fn limit_of(place: usize, text: &[u8]) -> Option<Mark> {
+    match place.checked_sub(2) {
+        None => limit_of_callsign(text),
+        Some(hop) => limit_of_hop(hop, text),
+    }
 }
 
 /// The first limit of the port, from the left, that a line's header breaks.
 pub fn mark_of_line(line: &[u8]) -> Option<Mark> {
-    limits(line)?.find_map(|(_, limit)| limit)
+    callsigns_of(line)?.into_iter().enumerate().find_map(|(place, text)| limit_of(place, text))
+}
+
+fn is_well_formed(place: usize, text: &[u8]) -> bool {
+    match place {
+        0 | 1 => Callsign::decode_textual(text).is_some(),
+        _ => Via::decode_textual(text).is_some(),
+    }
 }
 
 fn refusal_of_line(line: &[u8]) -> Option<u32> {
-    let mut callsigns = match limits(line) {
-        Some(callsigns) if line.contains(&b':') => callsigns,
+    let texts = match callsigns_of(line) {
+        Some(texts) if line.contains(&b':') => texts,
         _ => return Some(NO_PACKET),
     };
-    callsigns.find_map(|(text, limit)| match limit {
+    texts.into_iter().enumerate().find_map(|(place, text)| match limit_of(place, text) {
         Some(limit) => limit.number_read(),
-        None if Callsign::decode_textual(text).is_none() => Some(MALFORMED_CALLSIGN),
-        None => None,
+        None if is_well_formed(place, text) => None,
+        None => Some(MALFORMED_CALLSIGN),
     })
 }
 

@@ -1,13 +1,14 @@
 // Kinds of requests drawn at random: packets inside packets, and records with a number of inner packets.
 
-use crate::drawn::{damaged, line_with_zeros, record};
-use crate::messages_drawn::{frame_of, line_of, message, status};
+use crate::drawn::{damaged, record};
+use crate::messages_drawn::{frame_of, good_line, line_of, message, status};
 use crate::packets::{address, call, mic_e_packet, packet, position, timed, unknown, Packet};
+use crate::q_drawn::record_hop;
 use crate::random::Random;
-use crate::records::{name, Name, Record};
+use crate::records::{name, Hop, Name, Record};
 use crate::Request;
 
-fn any_kind(random: &mut Random) -> Packet {
+pub fn any_kind(random: &mut Random) -> Packet {
     match random.below(6) {
         0 => packet(random, unknown),
         1 => packet(random, position),
@@ -18,13 +19,13 @@ fn any_kind(random: &mut Random) -> Packet {
     }
 }
 
-/// A packet with 0 to 6 inside it, mostly 1 to 4. Of the texts inside one in four has SSIDs `0` or nearly so, and one in sixteen is
-/// damaged.
+/// A packet with 0 to 6 inside it, mostly 1 to 4. Of the texts inside one in four has SSIDs `0` or nearly so, one in four Q elements, and
+/// one in sixteen is damaged.
 fn nested(random: &mut Random) -> Packet {
     let depth = *random.pick(&[0, 1, 1, 1, 2, 2, 3, 3, 4, 4, 4, 5, 5, 6]);
     let mut made = any_kind(random);
     for _ in 0..depth {
-        let good = if random.one_in(4) { line_with_zeros(random, &made) } else { made.line() };
+        let good = good_line(random, &made);
         let text = if random.one_in(16) { damaged(random, good) } else { good };
         made = if random.one_in(3) { packet(random, unknown) } else { Packet::simple(&call(random), b"") };
         made.from = address(random);
@@ -49,11 +50,20 @@ fn inner_name(random: &mut Random) -> Name {
     name(&call(random), ssid)
 }
 
+fn inner_hop(random: &mut Random) -> Hop {
+    if random.one_in(4) {
+        record_hop(random)
+    } else {
+        Hop::Callsign(inner_name(random), random.one_in(3))
+    }
+}
+
 /// An innermost header, each part of it left out, blank or not; a Mic-E record seldom has a destination there.
 fn with_innermost(random: &mut Random, record: Record) -> Record {
     let blank = || Some(name(b"", b""));
-    let hops: Vec<(Name, bool)> = (0..random.below(4)).map(|_| (inner_name(random), random.one_in(3))).collect();
-    let zeros = (0..2 + hops.len()).map(|_| random.one_in(2)).collect();
+    let hops: Vec<Hop> = (0..random.below(4)).map(|_| inner_hop(random)).collect();
+    let may_be_zero = [true, true].into_iter().chain(hops.iter().map(|hop| hop.name().is_some()));
+    let zeros = may_be_zero.map(|may_be| may_be && random.one_in(2)).collect();
     let has_destination = random.one_in(8) == (record.kind == "mic-e");
     Record {
         inner_from: if random.one_in(4) { None } else { Some(inner_name(random)) },
@@ -64,7 +74,8 @@ fn with_innermost(random: &mut Random, record: Record) -> Record {
     }
 }
 
-/// Records of each kind with a number, mostly 1 to 4, and an innermost header; a Mic-E record has an outermost destination half the time.
+/// Records of each kind with a number, mostly 1 to 4, and an innermost header; a Mic-E record has an outermost destination half the time,
+/// and one position in four has a symbol out of range.
 pub fn written_inner(random: &mut Random) -> Request {
     let kind = *random.pick(&["unknown", "position", "mic-e", "message", "status"]);
     let mut record = record(random, kind);
@@ -80,6 +91,9 @@ pub fn written_inner(random: &mut Random) -> Request {
     }
     if kind == "mic-e" && random.one_in(2) {
         record.to = inner_name(random);
+    }
+    if kind == "position" && random.one_in(4) {
+        record.table = random.between(128, 255);
     }
     Request::Line(record.request())
 }

@@ -10,7 +10,7 @@ const DEEPEST: usize = 6;
 const FRAME_BODY: usize = 16;
 
 /// Innermost bodies of every kind and their destinations: accepted ones, and below them those of each number.
-const BODIES: [(&[u8], &[u8]); 31] = [
+pub const BODIES: [(&[u8], &[u8]); 31] = [
     (b"B", b""),
     (b"B", b"x"),
     (b"B", POSITION),
@@ -45,10 +45,16 @@ const BODIES: [(&[u8], &[u8]); 31] = [
 ];
 
 /// Headers without their colon: source, destination and path; `TO` is where the destination goes.
-const HEADERS: [&str; 4] = ["A>TO", "N0CALL-0*>TO,WIDE1-1,K1A-0*,X", "é-00>TO,,*,q", "A-0>TO,1,2,3,4,5-0,6,7*,8"];
+const HEADERS: [&str; 5] = [
+    "A>TO",
+    "N0CALL-0*>TO,WIDE1-1,K1A-0*,X",
+    "é-00>TO,,*,q",
+    "A-0>TO,1,2,3,4,5-0,6,7*,8",
+    "A>TO,X,qAC,Y-0*,qAo,Z",
+];
 
 /// Starts of a packet that do not read, for each number of a header, and with two faults in one callsign; and some that do.
-const ODD_HEADERS: [&[u8]; 33] = [
+const ODD_HEADERS: [&[u8]; 37] = [
     b"",
     b"A",
     b">",
@@ -81,6 +87,10 @@ const ODD_HEADERS: [&[u8]; 33] = [
     b">:",
     b"*>*,*:",
     b"A>B,qAC*:",
+    b"A>B,qAC-0:",
+    b"A>B,qAc:",
+    b"A>B,,,,,,,,qAR:",
+    b"A>B,,,,,,,,,qAR:",
     b"A>B>C,}:",
 ];
 
@@ -95,7 +105,7 @@ fn text_of(starts: &[Vec<u8>], body: &[u8]) -> Vec<u8> {
 }
 
 /// A packet with this text inside it.
-fn around(text: &[u8]) -> Packet {
+pub fn around(text: &[u8]) -> Packet {
     Packet::simple(b"S32U6T", &[b"}", text].concat())
 }
 

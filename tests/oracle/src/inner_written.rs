@@ -1,7 +1,7 @@
 // Kinds of requests W with a number of inner packets and an innermost header, given whole.
 
 use crate::messages_written::{Change, CHANGES, MESSAGE_CHANGES, STATUS_CHANGES};
-use crate::records::{name, Name, Record};
+use crate::records::{hop, name, Hop, Name, Record};
 use crate::whole::{give_written, good_and_refused, names_of_odd_callsigns, Give};
 
 const ALL: [&str; 5] = ["unknown", "position", "mic-e", "message", "status"];
@@ -12,7 +12,7 @@ fn relayed(kind: &'static str, number: usize) -> Record {
         inner: Some(number),
         inner_from: Some(name(b"WU2Z", b"9")),
         inner_to: if kind == "mic-e" { None } else { Some(name(b"APRS", b"")) },
-        inner_hops: Some(vec![(name(b"TCPIP", b""), false), (name(b"N0CALL", b""), true)]),
+        inner_hops: Some(vec![hop(b"TCPIP", b"", false), Hop::Q("qAR"), hop(b"N0CALL", b"", true)]),
         ..Record::good(kind)
     }
 }
@@ -29,16 +29,18 @@ pub fn written_numbers(give: Give) {
 }
 
 /// One part of the innermost header at a time, by hand: with a number it is in range, without one it is not; marks alone are.
-const PARTS: [Change; 13] = [
+const PARTS: [Change; 15] = [
     |record| record.inner_from = Some(name(b"C", b"")),
     |record| record.inner_from = Some(name(b"", b"5")),
     |record| record.inner_from = Some(name(b"", b"")),
     |record| record.inner_to = Some(name(b"D", b"")),
     |record| record.inner_to = Some(name(b"", b"5")),
     |record| record.inner_to = Some(name(b"", b"")),
-    |record| record.inner_hops = Some(vec![(name(b"", b""), false)]),
-    |record| record.inner_hops = Some(vec![(name(b"", b""), true)]),
-    |record| record.inner_hops = Some(vec![(name(b"X", b"1"), true); 8]),
+    |record| record.inner_hops = Some(vec![hop(b"", b"", false)]),
+    |record| record.inner_hops = Some(vec![hop(b"", b"", true)]),
+    |record| record.inner_hops = Some(vec![hop(b"X", b"1", true); 8]),
+    |record| record.inner_hops = Some(vec![Hop::Q("qAC")]),
+    |record| record.inner_hops = Some(vec![Hop::Q("qAI"); 8]),
     |record| record.inner_hops = Some(Vec::new()),
     |record| record.inner_zeros = Some(vec![true; 2]),
     |record| record.to = name(b"B", b""),
@@ -87,7 +89,7 @@ pub fn written_inner_orders(give: Give) {
 
 /// Odd calls and SSIDs in each place of both headers of a record with a number.
 pub fn written_inner_callsigns(give: Give) {
-    let hops = |odd: &Name| vec![(name(b"HOP", b""), true), (odd.clone(), false)];
+    let hops = |odd: &Name| vec![hop(b"HOP", b"", true), Hop::Callsign(odd.clone(), false)];
     for odd in names_of_odd_callsigns() {
         for kind in ALL {
             let good = relayed(kind, 1 + odd.0.len() % 4);

@@ -7,6 +7,8 @@
 use protocol::rules::{self, Limit, Words};
 use protocol::{from_decimal, from_hex, words, Form, Mark, BAD_TIME, MALFORMED};
 
+/// The number of three bytes that start `qA` and are no name of a Q element.
+const NO_Q_ELEMENT: u32 = 6;
 const WRITTEN_FIELDS: [&[u8]; 2] = [b"text=", b"frame="];
 /// The words behind the written fields: two by rule, three that are the Rust's, and five of an inner packet.
 const BEHIND: [&str; 10] = [
@@ -185,8 +187,8 @@ fn judge_inner(request: &[u8], oracle: &[&[u8]], ours: &[u8]) -> Verdict {
     }
 }
 
-/// What is wrong with a number beside a refusal of the Rust: a time that is missing or bad decides it, or a malformed message or status,
-/// and nothing else is 17 or 18.
+/// What is wrong with a number beside a refusal of the Rust, where the header meets every limit: a time that is missing or bad decides it,
+/// or a malformed message or status, and nothing else is 17 or 18; nor is anything 6.
 fn fault_of_number(request: &[u8], rust: &[u8], ours: u32) -> Option<&'static str> {
     let (input, form) = input_of(request)?;
     let decided = rules::decided_by_body(&input, form, refusal(rust, is_of_reading)?);
@@ -194,6 +196,7 @@ fn fault_of_number(request: &[u8], rust: &[u8], ours: u32) -> Option<&'static st
         Some(number) if number == ours => None,
         Some(MALFORMED) => Some("the number of a malformed message or status"),
         Some(_) => Some("the number, where a time decides it"),
+        None if ours == NO_Q_ELEMENT => Some("6, where every hop is a callsign or a name of the ten"),
         None if ours == BAD_TIME => Some("17, where no time decides"),
         None if ours == MALFORMED => Some("18, where neither message nor status is malformed"),
         None => None,

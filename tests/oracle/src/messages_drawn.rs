@@ -2,6 +2,7 @@
 
 use crate::drawn::{damaged, line_with_zeros, record, time_word};
 use crate::packets::{good_time, packet, Packet};
+use crate::q_drawn::line_with_q_elements;
 use crate::random::Random;
 use crate::Request;
 
@@ -92,9 +93,18 @@ pub fn status(random: &mut Random) -> Vec<u8> {
     body
 }
 
-/// One line in four has SSIDs `0` or nearly so; one in eight is damaged.
+/// One line in four has SSIDs `0` or nearly so, and one in four Q elements.
+pub fn good_line(random: &mut Random, made: &Packet) -> Vec<u8> {
+    match random.below(4) {
+        0 => line_with_zeros(random, made),
+        1 => line_with_q_elements(random, made),
+        _ => made.line(),
+    }
+}
+
+/// One line in eight is damaged.
 pub fn line_of(random: &mut Random, made: &Packet) -> Request {
-    let good = if random.one_in(4) { line_with_zeros(random, made) } else { made.line() };
+    let good = good_line(random, made);
     Request::Text(if random.one_in(8) { damaged(random, good) } else { good })
 }
 

@@ -1,6 +1,6 @@
 // Kinds of requests W with messages and status lines, given whole, and with the parts that they alone have in records of other kinds.
 
-use crate::records::{name, Record};
+use crate::records::{hop, name, Record};
 use crate::timed::{numbers_of_times, time, BAD_TIMES, GOOD_TIMES};
 use crate::whole::{give_callsigns, give_letters, give_limits, give_rooms, give_written, give_zeros, good_and_refused, Give};
 use protocol::LONGEST;
@@ -95,7 +95,7 @@ pub const CHANGES: [Change; 17] = [
     |record| record.from = name(b"ABCDEFGHIJKLMNO", b"1"),
     |record| record.comment = vec![b't'; LONGEST],
     |record| record.from = name(b"SEVENTH", b""),
-    |record| record.hops[1].0 = name(b"K1A", b"16"),
+    |record| record.hops[1] = hop(b"K1A", b"16", false),
     |record| record.room = 1,
     |record| record.zeros = Some(vec![true; 4]),
 ];

@@ -22,7 +22,7 @@ impl Address {
         }
     }
 
-    fn text(&self) -> Vec<u8> {
+    pub fn text(&self) -> Vec<u8> {
         let mut text = self.call.clone();
         if self.ssid > 0 {
             text.extend_from_slice(format!("-{}", self.ssid).as_bytes());

@@ -3,6 +3,7 @@
 
 mod mark;
 pub mod messages;
+pub mod q_elements;
 pub mod rules;
 pub mod third_party;
 

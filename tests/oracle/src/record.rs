@@ -51,11 +51,12 @@ fn push_hops(out: &mut Vec<u8>, hops: &[Via]) {
         if place > 0 {
             out.push(b',');
         }
-        if let Some((callsign, heard)) = hop.callsign() {
-            push_callsign(out, callsign);
-            if heard {
-                out.push(b'*');
+        match hop {
+            Via::Callsign(callsign, heard) => {
+                push_callsign(out, callsign);
+                out.extend_from_slice(if *heard { b"*" } else { b"" });
             }
+            Via::QConstruct(element) => out.extend_from_slice(element.as_textual().as_bytes()),
         }
     }
 }

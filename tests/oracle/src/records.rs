@@ -4,6 +4,14 @@ use protocol::{push_hex, Form};
 
 pub type Name = (Vec<u8>, Vec<u8>);
 
+#[derive(Clone)]
+pub enum Hop {
+    /// A callsign, and whether it is heard.
+    Callsign(Name, bool),
+    /// One of the ten names.
+    Q(&'static str),
+}
+
 pub const MESSAGES: [&str; 16] = [
     "M0", "M1", "M2", "M3", "M4", "M5", "M6", "C0", "C1", "C2", "C3", "C4", "C5", "C6", "emergency", "unknown",
 ];
@@ -21,7 +29,7 @@ pub struct Record {
     pub flag: usize,
     pub from: Name,
     pub to: Name,
-    pub hops: Vec<(Name, bool)>,
+    pub hops: Vec<Hop>,
     pub latitude: i64,
     pub longitude: i64,
     pub blanks: usize,
@@ -42,12 +50,33 @@ pub struct Record {
     pub inner: Option<usize>,
     pub inner_from: Option<Name>,
     pub inner_to: Option<Name>,
-    pub inner_hops: Option<Vec<(Name, bool)>>,
+    pub inner_hops: Option<Vec<Hop>>,
     pub inner_zeros: Option<Vec<bool>>,
 }
 
 pub fn name(call: &[u8], ssid: &[u8]) -> Name {
     (call.to_vec(), ssid.to_vec())
+}
+
+pub fn hop(call: &[u8], ssid: &[u8], heard: bool) -> Hop {
+    Hop::Callsign(name(call, ssid), heard)
+}
+
+impl Hop {
+    /// None of a Q element.
+    pub fn name(&self) -> Option<&Name> {
+        match self {
+            Hop::Callsign(name, _) => Some(name),
+            Hop::Q(_) => None,
+        }
+    }
+
+    fn word(&self) -> String {
+        match self {
+            Hop::Callsign(name, heard) => name_word(name) + if *heard { "*" } else { "" },
+            Hop::Q(name) => name.to_string(),
+        }
+    }
 }
 
 impl Record {
@@ -60,7 +89,7 @@ impl Record {
             flag: 0,
             from: name(b"N0CALL", b"1"),
             to: name(b"", b""),
-            hops: vec![(name(b"WIDE1", b"1"), true), (name(b"K1A", b""), false)],
+            hops: vec![hop(b"WIDE1", b"1", true), hop(b"K1A", b"", false)],
             latitude: 0,
             longitude: 0,
             blanks: 0,
@@ -105,10 +134,10 @@ impl Record {
         matches!(self.kind, "position" | "mic-e")
     }
 
-    /// Source, destination, hops.
-    pub fn names(&self) -> Vec<&Name> {
-        let hops = self.hops.iter().map(|(name, _)| name);
-        [&self.from, &self.to].into_iter().chain(hops).collect()
+    /// Source, destination, hops; none for a Q element.
+    pub fn places(&self) -> Vec<Option<&Name>> {
+        let hops = self.hops.iter().map(Hop::name);
+        [Some(&self.from), Some(&self.to)].into_iter().chain(hops).collect()
     }
 
     pub fn request(&self) -> String {
@@ -172,13 +201,9 @@ fn name_word((call, ssid): &Name) -> String {
     format!("{}/{}", hex(call), hex(ssid))
 }
 
-fn hops_word(hops: &[(Name, bool)]) -> String {
+fn hops_word(hops: &[Hop]) -> String {
     if hops.is_empty() {
         return "-".to_string();
     }
-    let words: Vec<String> = hops
-        .iter()
-        .map(|(name, heard)| name_word(name) + if *heard { "*" } else { "" })
-        .collect();
-    words.join(",")
+    hops.iter().map(Hop::word).collect::<Vec<_>>().join(",")
 }

@@ -1,10 +1,11 @@
 // A request W, word by word: the record that is to be written, and the comment, or text and identifier, handed over with it.
 
 use aprs_parser::mic_e::Message;
+use aprs_parser::QConstruct;
 use crate::fields::MESSAGES;
 use protocol::messages::ADDRESSEE_LENGTH;
 use protocol::rules::Limit;
-use protocol::{from_decimal, from_hex, rules, Form, LONGEST_CALLSIGN, MOST_HOPS};
+use protocol::{from_decimal, from_hex, q_elements, rules, Form, LONGEST_CALLSIGN, MOST_HOPS};
 
 const MOST_ROOM: usize = 600;
 
@@ -13,9 +14,19 @@ pub struct Name {
     pub ssid: Vec<u8>,
 }
 
-pub struct Hop {
-    pub name: Name,
-    pub heard: bool,
+pub enum Hop {
+    Callsign { name: Name, heard: bool },
+    Q(QConstruct),
+}
+
+impl Hop {
+    /// None of a Q element.
+    fn name(&self) -> Option<&Name> {
+        match self {
+            Hop::Callsign { name, .. } => Some(name),
+            Hop::Q(_) => None,
+        }
+    }
 }
 
 #[derive(Clone, Copy, PartialEq, Eq)]
@@ -51,9 +62,14 @@ pub struct Header {
 }
 
 impl Header {
-    /// Source, destination, hops.
+    /// Source, destination, hops; none for a Q element.
+    fn places(&self) -> impl Iterator<Item = Option<&Name>> {
+        [Some(&self.from), Some(&self.to)].into_iter().chain(self.hops.iter().map(Hop::name))
+    }
+
+    /// The callsigns: source, destination, hops.
     pub fn names(&self) -> impl Iterator<Item = &Name> {
-        [&self.from, &self.to].into_iter().chain(self.hops.iter().map(|hop| &hop.name))
+        self.places().flatten()
     }
 }
 
@@ -96,20 +112,23 @@ fn name(word: &[u8]) -> Option<Name> {
     Some(Name { call, ssid })
 }
 
+/// One of the ten names, bare, or a callsign, with a star if heard.
+fn hop(word: &[u8]) -> Option<Hop> {
+    if q_elements::is_name(word) {
+        return QConstruct::decode_textual(word).map(Hop::Q);
+    }
+    let unstarred = word.strip_suffix(b"*");
+    Some(Hop::Callsign {
+        name: name(unstarred.unwrap_or(word))?,
+        heard: unstarred.is_some(),
+    })
+}
+
 fn hops(word: &[u8]) -> Option<Vec<Hop>> {
     if word == b"-" {
         return Some(Vec::new());
     }
-    let hops: Option<Vec<Hop>> = word
-        .split(|byte| *byte == b',')
-        .map(|hop| {
-            let unstarred = hop.strip_suffix(b"*");
-            Some(Hop {
-                name: name(unstarred.unwrap_or(hop))?,
-                heard: unstarred.is_some(),
-            })
-        })
-        .collect();
+    let hops: Option<Vec<Hop>> = word.split(|byte| *byte == b',').map(hop).collect();
     hops.filter(|hops| hops.len() <= MOST_HOPS)
 }
 
@@ -143,10 +162,11 @@ fn letters(value: Option<&[u8]>, kind: Kind, latitude: i64, longitude: i64) -> O
     }
 }
 
-/// True of a 0 or 1 for each callsign, or where they are left out. No more is asked of them: "Writers ignore it" (document 02, R-2).
+/// True of a 0 or 1 for each callsign and a 0 for each Q element, or where they are left out. No more is asked of them: "Writers ignore
+/// it" (document 02, R-2).
 fn are_zeros(value: Option<&[u8]>, header: &Header) -> bool {
-    let is_digit = |digit: &u8| matches!(digit, b'0' | b'1');
-    value.map_or(true, |value| value.len() == header.names().count() && value.iter().all(is_digit))
+    let is_digit = |(digit, name): (&u8, Option<&Name>)| *digit == b'0' || *digit == b'1' && name.is_some();
+    value.map_or(true, |value| value.len() == header.places().count() && value.iter().zip(header.places()).all(is_digit))
 }
 
 /// Six digits of any value and `z`, `/` or `h`; left out, or a dash, there is no time.

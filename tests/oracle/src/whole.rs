@@ -3,7 +3,7 @@
 use std::ops::Range;
 
 use crate::packets::*;
-use crate::records::{name, Name, Record, LATITUDE_SIDES, LONGITUDE_SIDES};
+use crate::records::{hop, name, Hop, Name, Record, LATITUDE_SIDES, LONGITUDE_SIDES};
 use crate::Request;
 use protocol::{Form, LATITUDE_LIMIT, LONGEST, LONGITUDE_LIMIT, MOST_HOPS};
 
@@ -356,7 +356,7 @@ pub fn odd_callsigns() -> Vec<Vec<u8>> {
         "", "A", "a", "0", "A-0", "A-00", "A-01", "A-1", "A-015", "A-15", "A-16", "A-255", "A-256", "A-+7", "A-+",
         "A-+15", "A-+16", "A-++7", "A-+0", "A--", "A--0", "A--1", "A-1-2", "A-0-0", "A-0-", "-", "-1", "-0", "A-",
         "A-*", "A*", "A**", "*", "**", "-*", "A-0*", "A-00*", "A-1*", "A*-1", "*-1", "qAC", "qAC*", "qA*", "qAx",
-        "qA", "QAC", "qAC-1", "A-000000000015", "A-99999999999999", "A-00000000000015", "ABCDEF", "ABCDEFG",
+        "qAc", "qA", "QAC", "qAC-0", "qAC-1", "A-000000000015", "A-99999999999999", "A-00000000000015", "ABCDEF", "ABCDEFG",
         "abcdef-7", "ABCDEFGHIJKLMNO", "ABCDEFGHIJKLMNOP", "ABCDEFGHIJKLMNOPQ", "ABCDEFGHIJKLMNOP*",
         "ABCDEFGHIJKLMNOPQ*", "ABCDEFGHIJKLMN-0", "ABCDEFGHIJKLMNO-0", "ABCDEFGHIJKLMN-0*", "ABCDEFGHIJKLMNO-0*",
         "A-1234567890123", "A-12345678901234", "A-123456789012345", "A B", " ", "A ", "A.B", "A_", "A>", "A-1 ",
@@ -575,7 +575,7 @@ pub fn written_letters(give: Give) {
 }
 
 fn give_every_set_of_zeros(give: Give, record: &Record) {
-    let places = record.names().len();
+    let places = record.places().len();
     for set in 0..1usize << places {
         let zeros = (0..places).map(|place| set >> place & 1 == 1).collect();
         give_written(give, &Record { zeros: Some(zeros), ..record.clone() });
@@ -598,7 +598,7 @@ pub fn good_and_refused(kind: &'static str) -> Vec<Record> {
         |record| record.from = name(b"ABCDEFGHIJKLMNOP", b""),
         |record| record.to = name(b"", b""),
         |record| record.to = name(b"APRS", b"1"),
-        |record| record.hops[1].0 = name(b"", b""),
+        |record| record.hops[1] = hop(b"", b"", false),
     ];
     let changed = |change: &fn(&mut Record)| {
         let mut record = Record::good(kind);
@@ -614,7 +614,7 @@ pub fn give_zeros(give: Give, kind: &'static str) {
         give_every_set_of_zeros(give, &record);
     }
     for hops in 0..=MOST_HOPS {
-        let hops = vec![(name(b"HOP", b""), false); hops];
+        let hops = vec![hop(b"HOP", b"", false); hops];
         let zeros = Some(vec![true; 2 + hops.len()]);
         give_written(give, &Record { hops, zeros, ..Record::good(kind) });
     }
@@ -647,10 +647,9 @@ pub fn give_callsigns(give: Give, kinds: &[&'static str]) {
                 give_written(give, &Record { to: odd.clone(), ..Record::good(kind) });
             }
             for stars in 0..8 {
-                let mut record = Record::good(kind);
-                record.hops = (0..3).map(|place| (name(b"HOP", b""), stars >> place & 1 == 1)).collect();
-                record.hops[1].0 = odd.clone();
-                give_written(give, &record);
+                let heard = |place: usize| stars >> place & 1 == 1;
+                let hops = vec![hop(b"HOP", b"", heard(0)), Hop::Callsign(odd.clone(), heard(1)), hop(b"HOP", b"", heard(2))];
+                give_written(give, &Record { hops, ..Record::good(kind) });
             }
         }
     }

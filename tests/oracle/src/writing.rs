@@ -5,7 +5,7 @@ use aprs_parser::{AprsCst, AprsData, AprsMicE, AprsPacket, AprsPosition, Callsig
 use crate::fields::PRECISIONS;
 use crate::pieces::{self, latitude, longitude, timestamp};
 use crate::record::{mark_of_record, write, Written};
-use crate::request::{parse, Header, Kind, Name, Request};
+use crate::request::{parse, Header, Hop, Kind, Name, Request};
 use crate::Style;
 use protocol::rules::Limit;
 use protocol::third_party::MOST_INNER;
@@ -162,10 +162,17 @@ fn data(request: &Request) -> AprsData {
     }
 }
 
+fn via(hop: &Hop) -> Via {
+    match hop {
+        Hop::Callsign { name, heard } => Via::Callsign(callsign(name), *heard),
+        Hop::Q(element) => Via::QConstruct(*element),
+    }
+}
+
 fn packet(request: &Request) -> AprsPacket {
     AprsPacket {
         from: callsign(&request.outermost.from),
-        via: request.outermost.hops.iter().map(|hop| Via::Callsign(callsign(&hop.name), hop.heard)).collect(),
+        via: request.outermost.hops.iter().map(via).collect(),
         data: data(request),
     }
 }

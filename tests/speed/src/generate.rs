@@ -27,7 +27,7 @@ const KINDS: [Kind; 17] = [
     ("bad hop", "3", lines::bad_hop, 2_000),
     ("long callsign", "4", lines::long_callsign, 300),
     ("ninth hop", "5", lines::ninth_hop, 500),
-    ("Q element", "6", lines::q_element, 1_500),
+    ("Q element", "P", lines::q_element, 1_500),
     ("not carried", "7", lines::not_carried, 1_500),
     ("bad latitude", "8", lines::bad_latitude, 4_000),
     ("bad longitude", "9", lines::bad_longitude, 3_000),

@@ -36,6 +36,9 @@ find-requires c κs = search needs
 cut-requires : tie.Need-cut-requires Inv-loop μ-loop
 cut-requires c κs = search needs
 
+add-hop-word : tie.Need-add-hop-word Inv-loop μ-loop
+add-hop-word c = omega arith
+
 hop-word-requires : tie.Need-hop-word-requires Inv-loop μ-loop
 hop-word-requires c κs = search needs
 
@@ -44,15 +47,6 @@ no-header-requires c κs = search needs
 
 returns-2 : tie.Need-returns-2 Inv-loop μ-loop
 returns-2 c = search needs
-
-add-marked : tie.Need-add-marked Inv-loop μ-loop
-add-marked c = omega arith
-
-marked-requires : tie.Need-marked-requires Inv-loop μ-loop
-marked-requires c κs = search needs
-
-find-requires-2 : tie.Need-find-requires-2 Inv-loop μ-loop
-find-requires-2 c κs = search needs
 
 mul-hops : tie.Need-mul-hops Inv-loop μ-loop
 mul-hops c = omega arith
@@ -101,12 +95,10 @@ path-word-spec =
     loop-holds
     find-requires
     cut-requires
+    add-hop-word
     hop-word-requires
     no-header-requires
     returns-2
-    add-marked
-    marked-requires
-    find-requires-2
     mul-hops
     array-set-from-hops
     add-i

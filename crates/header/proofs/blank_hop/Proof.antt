@@ -1,4 +1,5 @@
 -- The blank hop. Assumes nothing.
+use Rattle.header.specs.Hop.{heardAs, callHop}
 use Rattle.header.specs.Header.{blankHop}
 use borrow.Author.Needs.{needs}
 use Rattle.header.proofs.blank_hop.Statement.{statement}
@@ -8,7 +9,7 @@ blank-requires : tie.Need-blank-requires
 blank-requires c κs = search needs
 
 returns : tie.Need-returns
-unfolding blankHop
+unfolding blankHop callHop heardAs
 returns c = rw (c .blank .ensures)
 
 pub blank-hop-spec : {M : Type 1} → statement M

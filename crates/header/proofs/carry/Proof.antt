@@ -6,10 +6,10 @@ use Rattle.header.proofs.carry.Statement.{statement}
 use Rattle.header.proofs.carry.Tie as tie
 
 abbrev Inv-loop : tie.InvT-loop
-Inv-loop n out₀ stars₀ i₀ out stars i = Carrying out₀ n out stars i
+Inv-loop n out₀ stars₀ heard₀ i₀ out stars heard i = Carrying out₀ n out stars heard i
 
 abbrev μ-loop : tie.MeasureT-loop
-μ-loop n out₀ stars₀ i₀ out stars i = i
+μ-loop n out₀ stars₀ heard₀ i₀ out stars heard i = i
 
 loop-holds : tie.Need-loop-holds Inv-loop μ-loop
 loop-holds c = search carrying-start
@@ -17,20 +17,23 @@ loop-holds c = search carrying-start
 sub-i : tie.Need-sub-i Inv-loop μ-loop
 sub-i c = omega arith
 
+mul-kind : tie.Need-mul-kind Inv-loop μ-loop
+mul-kind c = search needs
+
+element-copy-out-kind : tie.Need-element-copy-out-kind Inv-loop μ-loop
+element-copy-out-kind c = search needs
+
 mul-stars : tie.Need-mul-stars Inv-loop μ-loop
 mul-stars c = search twice-fits
-
-mul-stars-2 : tie.Need-mul-stars-2 Inv-loop μ-loop
-mul-stars-2 c = search needs
-
-element-copy-out-stars : tie.Need-element-copy-out-stars Inv-loop μ-loop
-element-copy-out-stars c = search needs
 
 cast-stars : tie.Need-cast-stars Inv-loop μ-loop
 cast-stars c = search needs
 
 add-stars : tie.Need-add-stars Inv-loop μ-loop
 add-stars c = search star-fits
+
+carried-kind-requires : tie.Need-carried-kind-requires Inv-loop μ-loop
+carried-kind-requires c κs = search needs
 
 mul-out : tie.Need-mul-out Inv-loop μ-loop
 mul-out c = search needs
@@ -55,11 +58,12 @@ carry-spec =
     μ-loop
     loop-holds
     sub-i
+    mul-kind
+    element-copy-out-kind
     mul-stars
-    mul-stars-2
-    element-copy-out-stars
     cast-stars
     add-stars
+    carried-kind-requires
     mul-out
     way-write-given-out
     loop-less

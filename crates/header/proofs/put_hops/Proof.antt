@@ -14,8 +14,8 @@ Inv-loop n scratch₀ hops last done₀ i₀ t12 scratch done i = Putting hopPie
 abbrev μ-loop : tie.MeasureT-loop
 μ-loop n scratch₀ hops last done₀ i₀ t12 scratch done i = n - i
 
-heard-up-to-requires : tie.Need-heard-up-to-requires Inv-loop μ-loop
-heard-up-to-requires c κs = search needs
+up-to-requires : tie.Need-up-to-requires Inv-loop μ-loop
+up-to-requires c κs = search needs
 
 loop-holds : tie.Need-loop-holds Inv-loop μ-loop
 loop-holds c = search putting-start
@@ -35,8 +35,8 @@ slice-aggregate-put-bytes c = search needs
 put-bytes-requires : tie.Need-put-bytes-requires Inv-loop μ-loop
 put-bytes-requires c κs = omega arith
 
-put-call-requires : tie.Need-put-call-requires Inv-loop μ-loop
-put-call-requires c κs = place-behind _ _ _ _ _ _ _ (c .before .before .before .put-bytes .ensures) (omega arith)
+put-hop-requires : tie.Need-put-hop-requires Inv-loop μ-loop
+put-hop-requires c κs = place-behind _ _ _ _ _ _ _ (c .before .before .before .put-bytes .ensures) (omega arith)
 
 loop-less : tie.Need-loop-less Inv-loop μ-loop
 loop-less c = omega arith
@@ -57,14 +57,14 @@ put-hops-spec =
     (tie.spec
     Inv-loop
     μ-loop
-    heard-up-to-requires
+    up-to-requires
     loop-holds
     mul-h
     array-copy-out-h
     add-i
     slice-aggregate-put-bytes
     put-bytes-requires
-    put-call-requires
+    put-hop-requires
     loop-less
     loop-again
     same-length

@@ -81,6 +81,9 @@ address-call-requires c κs = search needs
 heard-requires : tie.Need-heard-requires Inv-loop μ-loop Inv-hops μ-hops
 heard-requires c κs = search needs
 
+cast-t31 : tie.Need-cast-t31 Inv-loop μ-loop Inv-hops μ-hops
+cast-t31 c = search needs
+
 mul-hops : tie.Need-mul-hops Inv-loop μ-loop Inv-hops μ-hops
 mul-hops c = omega arith
 
@@ -149,6 +152,7 @@ walk-spec =
     shared-slice-read-seventh
     address-call-requires
     heard-requires
+    cast-t31
     mul-hops
     array-set-from-hops
     add-count
