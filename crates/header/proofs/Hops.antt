@@ -15,13 +15,13 @@ use Rattle.laws.proofs.Among.{among-holds}
 use Rattle.laws.proofs.Tests.{and-first, and-second}
 use Rattle.callsign.specs.declared.Callsign.{Callsign}
 use Rattle.callsign.specs.Utf8.{after, characters, utf8}
-use Rattle.callsign.specs.Text.{joined}
+use Rattle.callsign.specs.Text.{joined, readText}
 use Rattle.callsign.proofs.Ranges.{utf8-none, zero-none}
 use Rattle.callsign.proofs.Made.{made-written, made-range}
 use Rattle.header.specs.declared.Hop.{Hop}
 use Rattle.header.specs.Hop.{qNames, isQName, notHeard, wasHeard, qElement, heardAs, callHop, qHop, isHeard, isQElement, isCall, callsOf, heardIf, anyHeard}
 use Rattle.header.specs.declared.HopRead.{HopRead}
-use Rattle.header.specs.Text.{startsQ, hopRefused, hopNamed, readHop}
+use Rattle.header.specs.Text.{startsQ, hopRefused, hopNamed, hopOf, readHop}
 use Rattle.header.specs.Range.{isSomeHop, hopInRange}
 
 -- ---- numbers
@@ -179,6 +179,10 @@ module _ (u : Bool) (t : List ℕ) (e : u ≡ startsQ t) where
       → r ≡ cond (isQName (smallQ ∷ capitalA ∷ getD t 2 0 ∷ [])) (hopNamed (smallQ ∷ capitalA ∷ getD t 2 0 ∷ [])) (hopRefused 6) → r ≡ readHop t
   unfolding readHop
   hop-by-third r s q = q ∙ ap (λ (k : List ℕ). cond (isQName k) (hopNamed k) (hopRefused 6)) (sym (starts-as t (sym e ∙ s))) ∙ rw (← e, s)
+
+  pub hop-by-call : (r : HopRead) → u ≡ false → r ≡ hopOf (readText t) → r ≡ readHop t
+  unfolding readHop
+  hop-by-call r s q = q ∙ rw (← e, s)
 
 -- the hop of a name is in range
 pub name-range : (t : List ℕ) → isQName t ≡ true → hopInRange (qHop t) ≡ true

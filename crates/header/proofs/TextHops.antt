@@ -61,6 +61,17 @@ unfolding textHops
 no-parts zero = refl
 no-parts (suc k) = refl
 
+-- ---- a part whose hop is set at n, of either sort
+
+pub record Taken (part : List ℕ) (hops : List Hop) (n : ℕ) (hops′ : List Hop) : Type 0 where
+  pub read : HopRead
+  pub is : read ≡ readHop part
+  pub fine : read .refusal ≡ 0
+  pub there : hops′ ≡ set hops n (read .hop)
+
+pub taken-as : (part : List ℕ) (hops : List Hop) (n : ℕ) (hops′ : List Hop) (h : HopRead) → h ≡ readHop part → h .refusal ≡ 0 → hops′ ≡ set hops n (h .hop) → Taken part hops n hops′
+taken-as part hops n hops′ h q z e = record { read = h; is = q; fine = z; there = e }
+
 -- ---- the loop: n hops are done, and the parts of t are left
 
 pub record Reading (s t : List ℕ) (hops : List Hop) (n : ℕ) : Type 0 where
@@ -107,24 +118,31 @@ module _ (s t : List ℕ) (hops : List Hop) (n : ℕ) (g : Reading s t hops n) w
     unfolding hopThen
     goes fs p z = going-more _ _ hops n (g .going) room (h .hop) (textHops (8 - (n + 1)) fs) (step fs p ∙ rw (eq-eqb (h .refusal) 0 z))
 
-    pub hop-last : h .refusal ≡ 0 → e ≡ length t → Read s (set hops n (h .hop)) (n + 1)
-    hop-last z l =
-        let p : fields t ≡ take e t ∷ [] = fields-one t (sym f ∙ l) ∙ rw (l, take-length) in
-        record { going = rw (← no-parts (8 - (n + 1))) (goes [] p z) }
+  -- ---- a part is taken, and the parts behind it are left
 
+  module _ (e : ℕ) (m : n ≡ 8 → ⊥) (f : e ≡ indexOf comma t) where
     pub hop-fits : (e ≡ length t → ⊥) → length s < 2 ^ 64 → Fits w64 (e + 1)
     hop-fits l b = let w = g .within in let x = found-next comma t e f l in record { fits = omega arith }
 
     pub hop-less : (e ≡ length t → ⊥) → length (take (length t - (e + 1)) (drop (e + 1) t)) < length t
     hop-less l = let x = found-next comma t e f l in rw (part-to-end t (e + 1), length-drop) (omega arith)
 
-    pub hop-more : h .refusal ≡ 0 → (e ≡ length t → ⊥) → Reading s (take (length t - (e + 1)) (drop (e + 1) t)) (set hops n (h .hop)) (n + 1)
-    hop-more z l =
-        let w = g .within in
-        let x = hop-less l in
-        let y : indexOf comma t < length t = omega (arith, index-le comma t) in
-        let p : fields t ≡ take e t ∷ fields (take (length t - (e + 1)) (drop (e + 1) t)) = fields-two t y ∙ rw (part-to-end t (e + 1), ← f, add-one) in
-        record { going = goes _ p z; within = omega arith }
+    module _ (hops′ : List Hop) (k : Taken (take e t) hops n hops′) where
+      taken : (fs : List (List ℕ)) → fields t ≡ take e t ∷ fs → Going (textHops 8 (fields s)) (textHops (8 - (n + 1)) fs) hops′ (n + 1)
+      taken fs p = rw (k .there) (goes e (k .read) m f (k .is) fs p (k .fine))
+
+      pub hop-last : e ≡ length t → Read s hops′ (n + 1)
+      hop-last l =
+          let p : fields t ≡ take e t ∷ [] = fields-one t (sym f ∙ l) ∙ rw (l, take-length) in
+          record { going = rw (← no-parts (8 - (n + 1))) (taken [] p) }
+
+      pub hop-more : (e ≡ length t → ⊥) → Reading s (take (length t - (e + 1)) (drop (e + 1) t)) hops′ (n + 1)
+      hop-more l =
+          let w = g .within in
+          let x = hop-less l in
+          let y : indexOf comma t < length t = omega (arith, index-le comma t) in
+          let p : fields t ≡ take e t ∷ fields (take (length t - (e + 1)) (drop (e + 1) t)) = fields-two t y ∙ rw (part-to-end t (e + 1), ← f, add-one) in
+          record { going = taken _ p; within = omega arith }
 
 pub hops-read : (s : List ℕ) (hops : List Hop) (n : ℕ) (r : PathRead) → Read s hops n → r ≡ starredRead hops n → r ≡ textRead (textHops 8 (fields s))
 hops-read s hops n r g q = q ∙ going-carried _ _ hops n (g .going) refl

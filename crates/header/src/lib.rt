@@ -9,10 +9,11 @@ ghost use Rattle.laws.specs.Bytes.{capitalA, smallQ};
 ghost use Rattle.laws.specs.Lists.{every};
 ghost use Rattle.buffer.specs.Wrote.{ends, wrote};
 ghost use Rattle.callsign.specs.Packed.{writeAddress};
+ghost use Rattle.callsign.specs.Text.{readText};
 ghost use Rattle.callsign.specs.Range.{inRange, textOf};
 ghost use Rattle.header.specs.Hop.{isQName, isCall, qHop};
 ghost use Rattle.header.specs.Header.{these, blankHop, pathOf, blankHeader, headerRefused, headerAccepted};
-ghost use Rattle.header.specs.Text.{fields, startsQ, hopRefused, hopNamed, readHop, textHops, readRoute, readBefore, readHeaderText, readTextHeader, headerText};
+ghost use Rattle.header.specs.Text.{fields, startsQ, hopRefused, hopNamed, hopOf, textHops, readRoute, readBefore, readHeaderText, readTextHeader, headerText};
 ghost use Rattle.header.specs.Frame.{startsWithPair, frameHops, withPair, readSource, readFrameHeader, headerFrame};
 ghost use Rattle.header.specs.Range.{isBlank, isBlankHeader, textRefusal, frameRefusal};
 ghost use Rattle.header.specs.Private.{pathRefused, frameRead, textRead, starredRead, carriedKind, isTidyHop, isTidy, building, plain, callPiece, addressPiece, hopPiece, hopAddressPiece, withPiece, withPieces, isSought, upTo, endPieces, hopPieces, textPieces, endAddressPieces, hopAddressPieces, framePieces};
@@ -210,12 +211,10 @@ fn read_q(c: u8) -> HopRead
     HopRead { hop, refusal: 6 }
 }
 
-fn read_hop(t: &[u8]) -> HopRead
-    ensures { λ r. ⌜ r ≡ readHop (now (t .entry)) ⌝ }
+// Reads a hop that does not start so, by its callsign.
+fn read_call(t: &[u8]) -> HopRead
+    ensures { λ r. ⌜ r ≡ hopOf (readText (now (t .entry))) ⌝ }
 {
-    if starts_q(t) {
-        return read_q(t[2]);
-    }
     let c = callsign::read_text(t);
     let call = c.call;
     let hop = Hop {
@@ -266,7 +265,8 @@ fn carry(hops: [Hop; 8], n: usize) -> PathRead
     }
 }
 
-// The hops of a text, with commas between them.
+// The hops of a text, with commas between them. Q elements and callsigns are set in a branch each: where one function answers either,
+// the compiler puts every hop together byte by byte.
 fn read_hops(s: &[u8]) -> PathRead
     ensures { λ r. ⌜ r ≡ textRead (textHops 8 (fields (now (s .entry)))) ⌝ }
 {
@@ -279,12 +279,22 @@ fn read_hops(s: &[u8]) -> PathRead
             return path_refused(5);
         }
         let e = laws::find(t, b',');
-        let h = read_hop(&t[..e]);
-        if h.refusal != 0 {
-            return path_refused(h.refusal);
+        let part = &t[..e];
+        if starts_q(part) {
+            let q = read_q(part[2]);
+            if q.refusal != 0 {
+                return path_refused(q.refusal);
+            }
+            let hop = q.hop;
+            hops[n] = hop;
+        } else {
+            let c = read_call(part);
+            if c.refusal != 0 {
+                return path_refused(c.refusal);
+            }
+            let hop = c.hop;
+            hops[n] = hop;
         }
-        let hop = h.hop;
-        hops[n] = hop;
         n += 1;
         if e == t.len() {
             return carry(hops, n);
