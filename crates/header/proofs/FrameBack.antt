@@ -8,7 +8,7 @@ use Prim.Native.Nat.{ℕ, zero, suc, _+_, _*_, _≤_}
 use native.Mathlib.Nat.{le-of-suc-le-suc}
 use native.Mathlib.Omega.{arith}
 use borrow.Author.Tests.{le-ltb}
-use lib.ListN.{length, take, drop, length-append, length-map, length-take}
+use lib.ListN.{length, take, drop, length-append, length-map}
 use lib.Seq.{take-at, drop-at, drop-drop}
 use Rattle.callsign.specs.declared.Callsign.{Callsign}
 use Rattle.callsign.specs.declared.AddressWritten.{AddressWritten}
@@ -25,8 +25,7 @@ use Rattle.header.specs.Hop.{callHop, isHeard, callsOf}
 use Rattle.header.specs.Header.{mostBytes, these, before, pathOf, hopsOf, headerAccepted, unlessRefused, withHops}
 use Rattle.header.specs.Frame.{pair, startsWithPair, addressHop, addressThen, frameHops, withPair, readSource, readFrameHeader, isNone, hopAddresses, addresses, firstRefusal, addressBytes, headerFrame}
 use Rattle.header.specs.Range.{headerInRange, frameRefusal}
-use Rattle.header.proofs.Hops.{calls-few}
-use Rattle.header.proofs.InRange.{route-count}
+use Rattle.header.proofs.InRange.{route-calls}
 use Rattle.header.proofs.Frames.{destination-read}
 use Rattle.header.proofs.FrameWritten.{first-none, hops-length}
 
@@ -97,12 +96,6 @@ module _ (h : Header) (body : List ℕ) (e : headerInRange h ≡ true) (z : firs
   b-seven : length (b .bytes) ≡ 7
   b-seven = address-seven (h .from) Source (isNone hops) (others .0)
 
-  few : length hops ≤ 8
-  unfolding hopsOf
-  few =
-      let m = route-count h e in
-      omega (arith, calls-few (take (h .path .count) (h .path .hops)), length-take (h .path .count) (h .path .hops))
-
   spelled : headerFrame h ++ body ≡ a .bytes ++ (b .bytes ++ rest)
   unfolding headerFrame addressBytes addresses
   spelled = simp append-assoc
@@ -132,7 +125,7 @@ module _ (h : Header) (body : List ℕ) (e : headerInRange h ≡ true) (z : firs
         take-at (b .bytes) rest 7 b-seven,
         address-reads-back (h .from) Source (isNone hops) (others .0),
         hops-there,
-        all-hops hops (pair ++ body) few (others .1),
+        all-hops hops (pair ++ body) (route-calls h e) (others .1),
       )
       (pair-back (inAddress (h .from)) (inAddress (h .to)) (map inFrame hops) (headerFrame h ++ body) body p ∙ rw n)
 

@@ -9,7 +9,7 @@ use lib.Seq.{take-at, drop-at}
 use Rattle.laws.specs.Lists.{padTo}
 use Rattle.laws.proofs.Lists.{pad-set}
 use Rattle.header.specs.declared.Hop.{Hop}
-use Rattle.header.specs.Header.{Hops, refused, these, before, blankHop, pathOf}
+use Rattle.header.specs.Header.{Hops, refused, these, before, blankHop, pathOf, hopsOf}
 use Rattle.header.specs.Text.{carried}
 use Rattle.header.specs.Private.{frameRead, textRead, starredRead}
 
@@ -36,6 +36,11 @@ length-carried (h ∷ l) = ap suc (length-carried l)
 pub padded-front : (l : List Hop) → take (length l) (padTo 8 blankHop l) ≡ l
 unfolding padTo
 padded-front l = take-at l (replicate (8 - length l) blankHop) (length l) refl
+
+-- the hops that count of a path made of hops
+pub path-hops : (l : List Hop) → hopsOf (pathOf l) ≡ l
+unfolding hopsOf pathOf
+path-hops l = padded-front l
 
 padded-carried : (l : List Hop) → carried (take (length l) (padTo 8 blankHop l)) ++ drop (length l) (padTo 8 blankHop l) ≡ padTo 8 blankHop (carried l)
 unfolding padTo

@@ -6,7 +6,7 @@ use Prim.Native.Nat.{ℕ, _≤_, min}
 use native.Mathlib.Omega.{arith}
 use lib.Dec.{leb}
 use borrow.Author.Tests.{eq-eqb, leb-true, not-true, not-false}
-use lib.ListN.{length, take, drop}
+use lib.ListN.{length, take, drop, length-take}
 use Rattle.laws.specs.Lists.{every}
 use Rattle.laws.proofs.Lists.{part-length}
 use Rattle.laws.proofs.Tests.{and-first, and-second}
@@ -16,10 +16,11 @@ use Rattle.callsign.proofs.Ranges.{from-range, found-in-range, text-in-use}
 use Rattle.header.specs.declared.Hop.{Hop}
 use Rattle.header.specs.declared.Path.{Path}
 use Rattle.header.specs.declared.Header.{Header}
-use Rattle.header.specs.Hop.{isQName, wasHeard, qElement, isQElement}
+use Rattle.header.specs.Hop.{isQName, wasHeard, qElement, isQElement, callsOf}
 use Rattle.header.specs.Header.{hopsOf}
 use Rattle.header.specs.Range.{isSomeHop, hopInRange, isBlank, pathInRange, headerInRange}
 use Rattle.header.specs.Private.{isTidyHop, isTidy}
+use Rattle.header.proofs.Hops.{calls-few}
 
 -- ---- a hop
 
@@ -124,6 +125,13 @@ module _ (h : Header) (e : headerInRange h ≡ true) where
 
   pub route-count : h .path .count ≤ 8
   route-count = tidy-count (h .path) path-tidy
+
+  -- so its callsigns are no more either
+  pub route-calls : length (callsOf (hopsOf (h .path))) ≤ 8
+  unfolding hopsOf
+  route-calls =
+      let m = route-count in
+      omega (arith, calls-few (take (h .path .count) (h .path .hops)), length-take (h .path .count) (h .path .hops))
 
 module _ (h : Header) where
   pub untidy-out : isTidy (h .path) ≡ false → headerInRange h ≡ false

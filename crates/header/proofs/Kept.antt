@@ -28,7 +28,7 @@ use Rattle.header.specs.Text.{onFirst, fields, firstOf, othersOf, starts
 use Rattle.header.proofs.Hops.{call-heard, heard-is-call, if-heard, if-twice}
 use Rattle.header.proofs.Typed.{lowest, others}
 use Rattle.header.proofs.Stars.{eachText}
-use Rattle.header.proofs.Going.{padded-front}
+use Rattle.header.proofs.Going.{path-hops}
 use Rattle.header.proofs.TextHops.{fields-some}
 
 -- ---- a header as it was typed
@@ -58,10 +58,6 @@ unfolding starredBy starsOf carried eachText
 stars-back [] = refl
 stars-back (h ∷ l) =
     rw (lowest (isHeard h) (starsOf l), others (isHeard h) (starsOf l), if-twice (isHeard h || anyHeard l) h, same-heard h, stars-back l) (unfold heardIf in refl)
-
-hops-back : (l : List Hop) → hopsOf (pathOf l) ≡ l
-unfolding hopsOf pathOf
-hops-back l = padded-front l
 
 -- ---- the parts between commas
 
@@ -146,8 +142,8 @@ module _ (body : ℕ) (from : Callsign) (source : Bool) (f : List ℕ) (p : with
         source = source;
         destination = destination;
         place = refl;
-        text = rw (hops-back (carried l), stars-back l, p, q, s);
-        hops = record { text = t; typed = l; read = r; path = hops-back (carried l) };
+        text = rw (path-hops (carried l), stars-back l, p, q, s);
+        hops = record { text = t; typed = l; read = r; path = path-hops (carried l) };
       }
 
   route-kept : (t : List ℕ) → readRoute from t body .refusal ≡ 0 → Route (f ++ greater ∷ t) body (readRoute from t body)

@@ -27,7 +27,7 @@ use Rattle.header.specs.Hop.{isQName, callHop, qHop, isHeard, isQElement
 use Rattle.header.specs.declared.Header.{Header}
 use Rattle.header.specs.Header.{Hops, refused, these, before, hopsOf}
 use Rattle.header.specs.Text.{onFirst, fields, othersOf, startsQ, hopRefused, hopNamed, hopOf, readHop, hopThen, textHops, carried, hopsText}
-use Rattle.header.proofs.Hops.{call-heard, call-is-call, if-twice}
+use Rattle.header.proofs.Hops.{call-heard, call-is-call, if-twice, hop-by-call}
 use Rattle.header.proofs.Stars.{starredLast, eachText, written-stars, carried-starred, carried-twice}
 use Rattle.header.proofs.TextHops.{fields-one, fields-two, fields-some, no-parts}
 use Rattle.header.proofs.Kept.{hop-typed, PathTyped}
@@ -53,17 +53,13 @@ module _ (c : Callsign) (b : Bool) where
   unfolding readsAlike callHop
   apart e = or-neither (startsQ (withStar (textOf c) b)) (endsInStar (textOf c)) (not-true (startsQ (withStar (textOf c) b) || endsInStar (textOf c)) (rw (call-is-call c b, spelled-call) at e))
 
-no-q-read : (t : List ℕ) → startsQ t ≡ false → readHop t ≡ hopOf (readText t)
-unfolding readHop
-no-q-read t e = rw e
-
 call-again : (t : List ℕ) (b : Bool) → readText t .refusal ≡ 0 → readsAlike (callHop (readText t .call) b) ≡ true
     → readHop (spelled (callHop (readText t .call) b)) ≡ record { refusal = 0; hop = unmarkedHop (callHop (readText t .call) b) }
 unfolding hopOf callAccepted unmarkedHop
 call-again t b z e =
     let c = readText t .call in
     let a = apart c b e in
-    ap readHop (spelled-call c b) ∙ no-q-read (withStar (textOf c) b) (a .0) ∙ ap hopOf (text-reads-back t z (a .1) b) ∙ unfold callHop in refl
+    ap readHop (spelled-call c b) ∙ sym (hop-by-call false (withStar (textOf c) b) (sym (a .0)) _ refl refl) ∙ ap hopOf (text-reads-back t z (a .1) b) ∙ unfold callHop in refl
 
 name-again : (t : List ℕ) (b : Bool) → startsQ t ≡ true → isQName t ≡ true → readHop (spelled (heardIf b (qHop t))) ≡ record { refusal = 0; hop = unmarkedHop (heardIf b (qHop t)) }
 unfolding spelled heardIf qHop isHeard isQElement withStar readHop hopNamed unmarkedHop

@@ -3,10 +3,8 @@
 use mathlib.Core.Path.{_≡_, refl}
 use mathlib.Core.Bool.{Bool, true, false, cond, _&&_}
 use mathlib.Core.List.{List, [], _∷_}
-use Prim.Native.Nat.{_≤_}
-use native.Mathlib.Omega.{arith}
 use lib.Dec.{leb}
-use lib.ListN.{length, take, drop, length-take}
+use lib.ListN.{drop}
 use Rattle.laws.specs.Lists.{every}
 use Rattle.laws.proofs.Tests.{and-first, and-second}
 use Rattle.laws.proofs.Each.{every-first, every-rest}
@@ -16,9 +14,8 @@ use Rattle.header.specs.Hop.{isQElement, callsOf}
 use Rattle.header.specs.Header.{pathOf, hopsOf, headerOf}
 use Rattle.header.specs.Frame.{addresses, headerFrame}
 use Rattle.header.specs.Range.{hopInRange, isBlank, pathInRange, headerInRange, frameRefusal}
-use Rattle.header.proofs.Hops.{calls-few}
-use Rattle.header.proofs.Going.{padded-front}
-use Rattle.header.proofs.InRange.{from-fine, to-fine, path-fine, route-count}
+use Rattle.header.proofs.Going.{path-hops}
+use Rattle.header.proofs.InRange.{from-fine, to-fine, path-fine, route-calls}
 use Rattle.header.proofs.Answers.{header-range}
 
 unfoldable pub withoutQ : Header → Header
@@ -49,21 +46,13 @@ every-call p (h ∷ l) e = go (isQElement h) (every-first p h l e) (every-call p
 module _ (h : Header) where
   same-addresses : addresses (withoutQ h) ≡ addresses h
   unfolding addresses withoutQ headerOf
-  same-addresses =
-      let back : hopsOf (pathOf (callsOf (hopsOf (h .path)))) ≡ callsOf (hopsOf (h .path)) = unfold hopsOf pathOf in padded-front (callsOf (take (h .path .count) (h .path .hops))) in
-      rw (back, calls-twice (hopsOf (h .path)))
+  same-addresses = rw (path-hops (callsOf (hopsOf (h .path))), calls-twice (hopsOf (h .path)))
 
   pub same-frame : headerFrame (withoutQ h) ≡ headerFrame h
   unfolding headerFrame
   same-frame = rw same-addresses
 
   module _ (e : headerInRange h ≡ true) where
-    few : length (callsOf (hopsOf (h .path))) ≤ 8
-    unfolding hopsOf
-    few =
-        let m = route-count h e in
-        omega (arith, calls-few (take (h .path .count) (h .path .hops)), length-take (h .path .count) (h .path .hops))
-
     hops-fine : every hopInRange (hopsOf (h .path)) ≡ true
     unfolding pathInRange
     hops-fine =
@@ -72,7 +61,7 @@ module _ (h : Header) where
 
     pub without-q-range : headerInRange (withoutQ h) ≡ true
     unfolding withoutQ
-    without-q-range = header-range (h .from) (h .to) (callsOf (hopsOf (h .path))) (from-fine h e) (to-fine h e) few (every-call hopInRange (hopsOf (h .path)) hops-fine)
+    without-q-range = header-range (h .from) (h .to) (callsOf (hopsOf (h .path))) (from-fine h e) (to-fine h e) (route-calls h e) (every-call hopInRange (hopsOf (h .path)) hops-fine)
 
     pub same-refusal : frameRefusal (withoutQ h) ≡ frameRefusal h
     unfolding frameRefusal
