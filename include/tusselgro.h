@@ -50,7 +50,8 @@ enum {
     TUSSELGRO_NO_ROOM = 16,
     TUSSELGRO_TIME = 17,
     TUSSELGRO_MALFORMED = 18,
-    TUSSELGRO_TOO_MANY_INNER = 19
+    TUSSELGRO_TOO_MANY_INNER = 19,
+    TUSSELGRO_SYMBOL_TABLE = 20
 };
 
 /* What a refusal means. The text is never freed. */
@@ -78,6 +79,7 @@ static inline const char *tusselgro_meaning(uint8_t refusal) {
         "a message or status is malformed: no ':' after nine addressee bytes; text too long or not allowed; "
         "identifier not of 1 to 5 bytes",
         "a fifth inner packet; four are read, each in a body that starts '}'",
+        "strictly read, a symbol table byte that is not '/', '\\', a digit or a capital letter",
     };
     return refusal < sizeof meanings / sizeof meanings[0] ? meanings[refusal] : "no such refusal";
 }
@@ -339,6 +341,27 @@ tusselgro_read tusselgro_read_text(const uint8_t *line, size_t line_len);
 /* Reads an AX.25 frame, from the destination's address to the last byte of the body, without flags and checksum.
    Refusals: 1, 2, 3, 5, 7 to 12 and 17 to 19; those of a body in the same order; 4 and 6 of an inner packet alone. */
 tusselgro_read tusselgro_read_frame(const uint8_t *frame, size_t frame_len);
+
+/*
+ * The same two, strictly, for proof sheets. What is accepted gives the record that the usual entry gives, all of it.
+ * What the usual entry refuses is refused here too, and so are minutes of 60 or more and a byte that names no symbol
+ * table:
+ *
+ * 8 and 9 are also for minutes of 60 or more in a position's latitude and longitude. 8960.00N, usually read as 90
+ * degrees, is 8. Blank and discarded digits count as 0: 006 .  N is 8, and 00  .  N is read; with three blanks
+ * 0006x.xxE is 9, and with four 00099.99E is read.
+ *
+ * 11 is also for minutes of 60 or more in a Mic-E destination. Those in the information are not judged.
+ *
+ * 20 is for the table byte of a position or a Mic-E report that is not '/', '\', a digit or a capital letter. It comes
+ * last of all, so after 9 and after 12. The code byte may be any.
+ *
+ * A latitude is done before its longitude begins, a destination before its information. So what is usually 9 may be 8
+ * here, and what is usually 12 may be 11; any other refusal is the same. Times, messages, status lines and the Unknown
+ * kind have no strict rule. The body of an inner packet is judged as an outer one.
+ */
+tusselgro_read tusselgro_read_text_strictly(const uint8_t *line, size_t line_len);
+tusselgro_read tusselgro_read_frame_strictly(const uint8_t *frame, size_t frame_len);
 
 /*
  * Writes a record as a line of text, without a line end. comment is what stands at the end of a position or a Mic-E

@@ -1,12 +1,14 @@
 // Sets the callsigns, times and positions of a capture as a table, callsigns as they were typed, with the page's box of
 // each position in half hundredths of a minute; in place of a position, whom a message is for, and what it or a status
 // says. Of a packet with others inside it, that of the innermost, whose sender is named. The capture has a line a
-// packet; it is the file that the first argument names. A line that is refused is told on standard error, and the status
-// is then 1; it is 2 where no table was set.
+// packet; it is the file that the last argument names. With --strict before it the lines are read strictly. One that is
+// refused is told on standard error, and the status is then 1; it is 2 where no table was set.
 
 use std::error::Error;
 use std::process::ExitCode;
-use tusselgro::{AprsData, AprsPacket, Callsign, Latitude, Longitude, Precision, Timestamp, Via};
+use tusselgro::{
+    AprsData, AprsPacket, Callsign, Latitude, Longitude, Precision, Refusal, Timestamp, Via,
+};
 
 fn place(data: &AprsData<'_>) -> Option<(Latitude, Longitude, Precision)> {
     match data {
@@ -76,15 +78,29 @@ fn lines(capture: &[u8]) -> impl Iterator<Item = &[u8]> {
         .map(|line| line.strip_suffix(b"\r").unwrap_or(line))
 }
 
+type Decoder<'a> = fn(&'a [u8]) -> Result<AprsPacket<'a>, Refusal>;
+
+/// What reads a line, and the name of the capture.
+fn asked<'a>() -> Result<(Decoder<'a>, String), &'static str> {
+    let words: Vec<_> = std::env::args().skip(1).collect();
+    match &words[..] {
+        [name] => Ok((AprsPacket::decode_textual, name.clone())),
+        [strict, name] if strict == "--strict" => {
+            Ok((AprsPacket::decode_textual_strictly, name.clone()))
+        }
+        _ => Err("usage: table [--strict] CAPTURE"),
+    }
+}
+
 fn table() -> Result<ExitCode, Box<dyn Error>> {
-    let name = std::env::args().nth(1).ok_or("usage: table CAPTURE")?;
+    let (decode, name) = asked()?;
     let capture = std::fs::read(&name).map_err(|error| format!("{name}: {error}"))?;
     let mut status = ExitCode::SUCCESS;
     println!(
         "from       to         heard inner      time    latitude longitude   degrees            page box"
     );
     for (number, line) in (1..).zip(lines(&capture)) {
-        match AprsPacket::decode_textual(line) {
+        match decode(line) {
             Ok(packet) => println!("{}", row(&packet)),
             Err(refusal) => {
                 eprintln!("{name}, line {number}: refusal {refusal}");

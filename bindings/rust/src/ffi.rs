@@ -456,6 +456,10 @@ extern "C" {
     pub fn tusselgro_read_text(line: *const u8, line_len: usize) -> Read;
     /// Reads an AX.25 frame.
     pub fn tusselgro_read_frame(frame: *const u8, frame_len: usize) -> Read;
+    /// Reads a line of text strictly.
+    pub fn tusselgro_read_text_strictly(line: *const u8, line_len: usize) -> Read;
+    /// Reads an AX.25 frame strictly.
+    pub fn tusselgro_read_frame_strictly(frame: *const u8, frame_len: usize) -> Read;
     /// Writes a record as a line of text.
     pub fn tusselgro_write_text(
         record: Record,

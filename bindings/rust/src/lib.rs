@@ -25,6 +25,8 @@ mod record;
 mod refusal;
 mod status;
 #[cfg(test)]
+mod strict;
+#[cfg(test)]
 mod tests;
 mod timestamp;
 mod via;

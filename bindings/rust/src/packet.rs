@@ -162,6 +162,41 @@ impl<'a> AprsPacket<'a> {
         read(ffi::tusselgro_read_frame, frame)
     }
 
+    /// Reads a line of text strictly, for proof sheets. What it accepts is the packet that
+    /// [`decode_textual`](Self::decode_textual) gives.
+    ///
+    /// It also refuses minutes of 60 or more: in a position with 8 or 9, in a Mic-E destination with 11. Blank and
+    /// discarded digits count as 0. Last of all it refuses, with 20, the symbol table of either that is not `/`, `\`, a
+    /// digit or a capital letter. A packet inside is judged as an outer one. Times, messages, status lines and what is
+    /// unknown have no strict rule.
+    ///
+    /// A latitude is done before its longitude begins, a destination before its information: what is usually 9 may be 8
+    /// here, and what is usually 12 may be 11. Any other refusal is the same.
+    ///
+    /// ```
+    /// use tusselgro::{AprsPacket, Refusal};
+    ///
+    /// let line = b"N0CALL>APRS:!4903.50N/07201.75W-";
+    /// assert_eq!(AprsPacket::decode_textual_strictly(line), AprsPacket::decode_textual(line));
+    ///
+    /// let minutes = b"N0CALL>APRS:!8960.00N/07201.75W-";
+    /// assert!(AprsPacket::decode_textual(minutes).is_ok());
+    /// assert_eq!(AprsPacket::decode_textual_strictly(minutes), Err(Refusal::Latitude));
+    ///
+    /// let table = b"N0CALL>APRS:!4903.50Na07201.75W-";
+    /// assert_eq!(AprsPacket::decode_textual_strictly(table), Err(Refusal::SymbolTable));
+    /// # Ok::<(), Refusal>(())
+    /// ```
+    pub fn decode_textual_strictly(line: &'a [u8]) -> Result<Self, Refusal> {
+        read(ffi::tusselgro_read_text_strictly, line)
+    }
+
+    /// Reads an AX.25 frame strictly, by the same rules. What it accepts is the packet that
+    /// [`decode_ax25`](Self::decode_ax25) gives.
+    pub fn decode_ax25_strictly(frame: &'a [u8]) -> Result<Self, Refusal> {
+        read(ffi::tusselgro_read_frame_strictly, frame)
+    }
+
     /// Appends the packet as a line of text, without a line end; at a refusal nothing. The last heard callsign of the
     /// hops gets the star, which says that those before it were heard too. One with others inside it is refused, with 14.
     pub fn encode_textual(&self, out: &mut Vec<u8>) -> Result<(), Refusal> {

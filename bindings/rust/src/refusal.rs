@@ -23,7 +23,8 @@ macro_rules! refusals {
         #[non_exhaustive]
         pub enum Refusal {
             $(
-                #[doc = concat!(stringify!($number), ": ", $words)]
+                // As code, where a backslash is itself.
+                #[doc = concat!(stringify!($number), ": `", $words, "`")]
                 $name,
             )*
             /// 16: output buffer too short
@@ -88,6 +89,7 @@ refusals! {
     18 Malformed "a message or status is malformed: no ':' after nine addressee bytes; text too long or not allowed; \
         identifier not of 1 to 5 bytes"
     19 TooManyInner "a fifth inner packet; four are read, each in a body that starts '}'"
+    20 SymbolTable "strictly read, a symbol table byte that is not '/', '\\', a digit or a capital letter"
 }
 
 impl Refusal {
@@ -132,12 +134,12 @@ mod tests {
     fn each_means_what_the_source_says() {
         let mut lines = SOURCE.lines();
         assert_eq!(lines.next(), Some("0\tno refusal"));
-        for number in 1..=19 {
+        for number in 1..=20 {
             let meaning = Refusal::of(number, 7).map_or("", Refusal::meaning);
             assert_eq!(lines.next(), Some(&*format!("{number}\t{meaning}")));
         }
         assert_eq!(lines.next(), None);
-        assert_eq!(Refusal::of(20, 0), Some(Refusal::Other(20)));
+        assert_eq!(Refusal::of(21, 0), Some(Refusal::Other(21)));
     }
 
     #[test]
@@ -148,8 +150,8 @@ mod tests {
             "16: output buffer too short; the bytes needed are returned: 40"
         );
         assert_eq!(
-            Refusal::Other(20).to_string(),
-            "20: a refusal without a name"
+            Refusal::Other(21).to_string(),
+            "21: a refusal without a name"
         );
     }
 }

@@ -679,6 +679,21 @@ fn a_packet_may_go_to_another_thread() {
     assert_eq!(may(read(LINE)), read(LINE));
 }
 
+type Found<'a> = Result<AprsPacket<'a>, Refusal>;
+
+/// What is usually read is strictly the same, or refused with a number of document 02's R-8; what is usually refused is
+/// refused.
+fn is_judged_strictly(usually: &Found<'_>, strictly: &Found<'_>) -> bool {
+    match (usually, strictly) {
+        (Ok(usual), Ok(strict)) => usual == strict,
+        (Ok(_), Err(strict)) => matches!(strict.number(), 8 | 9 | 11 | 20),
+        (Err(usual), Err(strict)) => {
+            usual == strict || matches!((usual.number(), strict.number()), (9, 8) | (12, 11))
+        }
+        (Err(_), Ok(_)) => false,
+    }
+}
+
 /// Lines of this file's own, spoilt: each is refused, or comes back from a slice as from a vector.
 #[test]
 fn spoilt_lines_do_no_harm() {
@@ -688,7 +703,7 @@ fn spoilt_lines_do_no_harm() {
         (state >> 8) as usize % below
     };
     let (mut accepted, mut refused, mut mistimed, mut malformed) = (0, 0, 0, 0);
-    let (mut inside, mut from_feed, mut misnamed) = (0, 0, 0);
+    let (mut inside, mut from_feed, mut misnamed, mut stopped) = (0, 0, 0, 0);
     for _ in 0..20_000 {
         let mut line = [LINE, MIC_E, TIMED, MESSAGE, STATUS, INNER, FEED][random(7)].to_vec();
         for _ in 0..1 + random(3) {
@@ -697,7 +712,11 @@ fn spoilt_lines_do_no_harm() {
         }
         line.truncate(1 + random(2 * line.len()));
         let mut room = [0; MOST_BYTES];
-        match AprsPacket::decode_textual(&line) {
+        let usually = AprsPacket::decode_textual(&line);
+        let strictly = AprsPacket::decode_textual_strictly(&line);
+        assert!(is_judged_strictly(&usually, &strictly), "{line:?}");
+        stopped += usize::from(usually.is_ok() && strictly.is_err());
+        match usually {
             Ok(packet) => {
                 let slice = packet
                     .encode_textual_to_slice(&mut room)
@@ -719,6 +738,6 @@ fn spoilt_lines_do_no_harm() {
     }
     assert!(accepted > 1_000 && refused > 1_000, "{accepted} {refused}");
     assert!(mistimed > 100 && malformed > 100, "{mistimed} {malformed}");
-    assert!(inside > 100, "{inside}");
+    assert!(inside > 100 && stopped > 100, "{inside} {stopped}");
     assert!(from_feed > 100 && misnamed > 10, "{from_feed} {misnamed}");
 }

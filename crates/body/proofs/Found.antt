@@ -22,7 +22,7 @@ use Rattle.time.specs.Time.{noTime, isNoTime, timeBytes, readTime, timeNumber, 
 use Rattle.time.proofs.Theorems.{read-in-range, no-time-in-range}
 use Rattle.lonlat.specs.Angle.{mostLatitude, mostLongitude, widthOf}
 use Rattle.position.specs.Reach.{inReach}
-use Rattle.position.specs.Position.{fixedBytes, readPosition, placeInRange, lettersAgree, symbolsInRange, positionFits}
+use Rattle.position.specs.Position.{fixedBytes, usually, readPosition, placeInRange, lettersAgree, symbolsInRange, positionFits}
 use Rattle.position.proofs.Lengths.{position-long}
 use Rattle.position.proofs.Theorems.{read-position-answered}
 use Rattle.mic_e.specs.declared.Destination.{Destination}
@@ -44,7 +44,8 @@ use Rattle.body.specs.declared.Kind.the-variants.{Position, MicE, Messag
 use Rattle.body.specs.declared.Opening.{Opening}
 use Rattle.body.specs.declared.Opening.the-variants.{Positioned, Mic, Addressed, Stated, Other}
 use Rattle.body.specs.declared.BodyRead.{BodyRead}
-use Rattle.body.specs.Body.{noSpan, noReport, bodyWith, blankBody, bodyAccepted, bodyRefused, openingOf, spanFrom, positionBody, positionFrom, timeRefused, timeBehind, timeAt, behindTime, positionedFrom, reportBody, micEBody, identifierSpan, messageBody, statusBody, bodyAfter, readBody}
+use Rattle.body.specs.Body.{noSpan, noReport, bodyWith, blankBody, bodyAccepted, bodyRefused, openingOf, spanFrom, positionBody, positionFrom, timeRefused, timeBehind, timeAt, behindTime, positionedFrom, reportBody, micEBody, identifierSpan, messageBody, statusBody, bodyAfter, readBodyBy, readBody}
+use Rattle.body.proofs.Strict.{by-mode}
 use Rattle.body.specs.Range.{isNoLetter, isNoPlace, isNoReport, isPlaceAlone, isReportAlone, isBare, isShort, motionInRange, unknownInRange, positionInRange, micEInRange, messageInRange, statusInRange, inRangeAs, bodyInRange, exceptedAs, isExcepted}
 
 no-report : isNoReport noReport ≡ true
@@ -110,7 +111,7 @@ module _ (s : List ℕ) (at : ℕ) (start : at ≤ length s) where
   -- ---- a position, with a time in range or none
 
   module _ (messaging : Bool) (t : Time) (fits : timeInRange t ≡ true) where
-    position-found : Found (length s) (positionFrom s at messaging t)
+    position-found : Found (length s) (positionFrom usually s at messaging t)
     unfolding positionFrom positionBody bodyInRange inRangeAs isExcepted exceptedAs positionInRange isPlaceAlone positionFits
     position-found = go (eqb (readPosition (drop at s) .refusal) 0) refl
       where
@@ -129,7 +130,7 @@ module _ (s : List ℕ) (at : ℕ) (start : at ≤ length s) where
               agree = a .agree;
               latitude-whole = a .latitude-whole;
               longitude-whole = λ k. a .longitude-whole;
-              within = comment-within fixedBytes (position-long (drop at s) z);
+              within = comment-within fixedBytes (position-long usually (drop at s) z);
               identifier-within = nowhere (length s);
               nine = blank-nine;
             }
@@ -138,18 +139,18 @@ module _ (s : List ℕ) (at : ℕ) (start : at ≤ length s) where
 -- ---- a time before it
 
 module _ (s : List ℕ) (at : ℕ) (messaging : Bool) where
-  behind-found : (x : TimeRead) → readTime (take timeBytes (drop at s)) ≡ x → at + timeBytes ≤ length s → Found (length s) (behindTime (timeBehind x (at + timeBytes)) s messaging)
+  behind-found : (x : TimeRead) → readTime (take timeBytes (drop at s)) ≡ x → at + timeBytes ≤ length s → Found (length s) (behindTime usually (timeBehind x (at + timeBytes)) s messaging)
   unfolding timeBehind behindTime timeNumber
   behind-found (time.Read t) e h = position-found s (at + timeBytes) h messaging t (read-in-range (take timeBytes (drop at s)) t e)
   behind-found time.Refused e h = blank-found _ (length s)
 
-  positioned-found : (timed : Bool) → at ≤ length s → Found (length s) (positionedFrom s at messaging timed)
+  positioned-found : (timed : Bool) → at ≤ length s → Found (length s) (positionedFrom usually s at messaging timed)
   unfolding positionedFrom timeAt behindTime
   positioned-found false start = position-found s at start messaging noTime no-time-in-range
   positioned-found true start = go (ltb (length s - at) timeBytes) refl
     where
       go : (b : Bool) → ltb (length s - at) timeBytes ≡ b
-          → Found (length s) (behindTime (cond b (timeRefused 10) (timeBehind (readTime (take timeBytes (drop at s))) (at + timeBytes))) s messaging)
+          → Found (length s) (behindTime usually (cond b (timeRefused 10) (timeBehind (readTime (take timeBytes (drop at s))) (at + timeBytes))) s messaging)
       go true e = blank-found _ (length s)
       go false e = behind-found (readTime (take timeBytes (drop at s))) refl (omega (arith, ltb-false (length s - at) timeBytes e))
 
@@ -157,7 +158,7 @@ module _ (s : List ℕ) (at : ℕ) (start : at ≤ length s) where
   -- ---- a Mic-E report
 
   module _ (current : Bool) (call : List ℕ) (d : Destination) (q : readDestination call ≡ destination.Read d) where
-    report-found : (x : InformationRead) → readInformation (drop at s) (d .hundred) (d .west) ≡ x → Found (length s) (reportBody d x current (spanFrom s (at + 8)))
+    report-found : (x : InformationRead) → readInformation (drop at s) (d .hundred) (d .west) ≡ x → Found (length s) (reportBody usually d x current (spanFrom s (at + 8)))
     unfolding reportBody bodyInRange inRangeAs isExcepted exceptedAs micEInRange isReportAlone noTime isNoTime lettersAgree placeInRange inReach motionInRange isShort
     report-found (information.Read i) e =
         let a = read-destination-found call d q in
@@ -187,7 +188,7 @@ module _ (s : List ℕ) (at : ℕ) (start : at ≤ length s) where
         }
     report-found information.Refused e = blank-found _ (length s)
 
-  mic-e-found : (current : Bool) (call : List ℕ) (x : DestinationRead) → readDestination call ≡ x → Found (length s) (micEBody x (drop at s) current (spanFrom s (at + 8)))
+  mic-e-found : (current : Bool) (call : List ℕ) (x : DestinationRead) → readDestination call ≡ x → Found (length s) (micEBody usually x (drop at s) current (spanFrom s (at + 8)))
   unfolding micEBody
   mic-e-found current call (destination.Read d) e = report-found current call d e (readInformation (drop at s) (d .hundred) (d .west)) refl
   mic-e-found current call destination.Refused e = blank-found _ (length s)
@@ -243,7 +244,7 @@ module _ (s : List ℕ) (at : ℕ) (start : at ≤ length s) where
 
   -- ---- any body
 
-  after-found : (o : Opening) (to : Callsign) → Found (length s) (bodyAfter o to s at)
+  after-found : (o : Opening) (to : Callsign) → Found (length s) (bodyAfter usually o to s at)
   unfolding bodyAfter
   after-found (Positioned messaging timed) to = positioned-found s at messaging timed start
   after-found (Mic current) to = mic-e-found current (callPart to) (readDestination (callPart to)) refl
@@ -251,10 +252,14 @@ module _ (s : List ℕ) (at : ℕ) (start : at ≤ length s) where
   after-found Stated to = status-found (readStatus (drop at s)) refl
   after-found Other to = blank-found _ (length s)
 
-pub body-found : (to : Callsign) (s : List ℕ) (from : ℕ) → Found (length s) (readBody to s from)
-unfolding readBody
-body-found to s from = go (ltb from (length s)) refl
+usually-found : (to : Callsign) (s : List ℕ) (from : ℕ) → Found (length s) (readBody to s from)
+unfolding readBodyBy
+usually-found to s from = go (ltb from (length s)) refl
   where
-    go : (t : Bool) → ltb from (length s) ≡ t → Found (length s) (cond t (bodyAfter (openingOf (getD s from 0)) to s (from + 1)) (bodyAccepted blankBody))
+    go : (t : Bool) → ltb from (length s) ≡ t → Found (length s) (cond t (bodyAfter usually (openingOf (getD s from 0)) to s (from + 1)) (bodyAccepted blankBody))
     go true e = after-found s (from + 1) (omega (arith, ltb-true from (length s) e)) (openingOf (getD s from 0)) to
     go false e = blank-found _ (length s)
+
+-- however it is read
+pub body-found : (strict : Bool) (to : Callsign) (s : List ℕ) (from : ℕ) → Found (length s) (readBodyBy strict to s from)
+body-found strict to s from = by-mode to s from (Found (length s)) (λ n. blank-found n (length s)) (usually-found to s from) strict

@@ -5,6 +5,7 @@ pub mod Answered
 pub mod Writing
 pub mod TextWriting
 pub mod Built
+pub mod Strict
 pub mod Found
 pub mod Times
 pub mod ReadsBack

@@ -20,7 +20,7 @@ use Rattle.time.specs.Time.{noTime, isNoTime, isTime, timeBytes, timeText, time
 use Rattle.time.proofs.Tests.{no-letter, time-present}
 use Rattle.time.proofs.Theorems.{time-reads-back, no-time-is, no-time-no-bytes, a-time-seven-bytes}
 use Rattle.position.specs.declared.Place.{Place}
-use Rattle.position.specs.Position.{placeInRange, lettersAgree, symbolsInRange, positionFits, positionRefusal, positionText}
+use Rattle.position.specs.Position.{usually, placeInRange, lettersAgree, symbolsInRange, positionFits, positionRefusal, positionText}
 use Rattle.position.proofs.Lengths.{position-length}
 use Rattle.position.proofs.Theorems.{cutPlace, position-reads-cut}
 use Rattle.mic_e.specs.declared.Message.{Message}
@@ -32,7 +32,7 @@ use Rattle.body.specs.declared.Kind.the-variants.{Position}
 use Rattle.body.specs.declared.Opening.the-variants.{Positioned}
 use Rattle.body.specs.declared.Report.{Report}
 use Rattle.body.specs.declared.Body.{Body}
-use Rattle.body.specs.Body.{noSpan, noReport, bodyAccepted, openingOf, spanFrom, positionBody, positionFrom, timeBehind, timeAt, behindTime, positionedFrom, bodyAfter, readBody}
+use Rattle.body.specs.Body.{noSpan, noReport, bodyAccepted, openingOf, spanFrom, positionBody, positionFrom, timeBehind, timeAt, behindTime, positionedFrom, bodyAfter, readBodyBy, readBody}
 use Rattle.body.specs.Range.{isNoReport, isNoAddressee, isPlaceAlone, positionInRange, inRangeAs, bodyInRange}
 use Rattle.body.specs.Written.{positionType, positionBytes, bytesAs, bodyBytes}
 use Rattle.body.proofs.ReadsBack.{backWith}
@@ -78,7 +78,7 @@ opens-timed false = refl
 
 module _ (p : Place) (near : placeInRange p ≡ true) (comment s : List ℕ) (at : ℕ) (rest : drop at s ≡ positionText p ++ comment) (sized : length s ≡ at + 19 + length comment)
     (messaging : Bool) (t : Time) where
-  place-back : positionFrom s at messaging t
+  place-back : positionFrom usually s at messaging t
       ≡ bodyAccepted (positioned (cutPlace p) messaging t noReport (at + 19) (length comment))
   unfolding positionFrom positionBody spanFrom
   place-back =
@@ -140,7 +140,7 @@ module _ (b : Body) (to : Callsign) (e : positionInRange b ≡ true) (before com
   back = positioned (cutPlace (b .place)) (b .messaging) (b .time) noReport (length before + (20 + length its-time)) (length comment)
 
   untimed-back : isNoTime (b .time) ≡ true → readBody to input (length before) ≡ bodyAccepted back
-  unfolding readBody bodyAfter positionedFrom timeAt behindTime positionType
+  unfolding readBodyBy bodyAfter positionedFrom timeAt behindTime positionType
   untimed-back n =
       let none : its-time ≡ [] = no-time-no-bytes (b .time) n in
       let short : length its-time ≡ 0 = ap length none in
@@ -156,7 +156,7 @@ module _ (b : Body) (to : Callsign) (e : positionInRange b ≡ true) (before com
       )
 
   timed-back : isTime (b .time) ≡ true → readBody to input (length before) ≡ bodyAccepted back
-  unfolding readBody bodyAfter positionedFrom timeAt timeBehind behindTime positionType
+  unfolding readBodyBy bodyAfter positionedFrom timeAt timeBehind behindTime positionType
   timed-back i =
       let seven : length its-time ≡ timeBytes = a-time-seven-bytes (b .time) i in
       let at : length before + 1 + timeBytes + 19 ≡ length before + (20 + length its-time) = omega (arith, seven) in

@@ -22,7 +22,7 @@ use Rattle.time.specs.declared.TimeRead.the-variants as time
 use Rattle.time.specs.Time.{noTime, isPresent, timeBytes, readTime, timeNumber, timeText}
 use Rattle.time.proofs.Theorems.{present-seven-bytes}
 use Rattle.position.specs.declared.PositionRead.{PositionRead}
-use Rattle.position.specs.Position.{readPosition}
+use Rattle.position.specs.Position.{isOver, isOffTable, readPositionBy}
 use Rattle.position.proofs.Lengths.{position-long}
 use Rattle.mic_e.specs.declared.Destination.{Destination}
 use Rattle.mic_e.specs.declared.DestinationRead.{DestinationRead}
@@ -47,7 +47,7 @@ use Rattle.body.specs.declared.Opening.the-variants.{Positioned, Mic, Ad
 use Rattle.body.specs.declared.Body.{Body}
 use Rattle.body.specs.declared.BodyRead.{BodyRead}
 use Rattle.body.specs.declared.TimeAt.{TimeAt}
-use Rattle.body.specs.Body.{noSpan, noReport, bodyWith, blankBody, bodyAccepted, bodyRefused, openingOf, spanFrom, positionBody, positionFrom, timeFound, timeRefused, timeBehind, timeAt, behindTime, positionedFrom, reportBody, micEBody, identifierSpan, messageBody, statusBody, bodyAfter, readBody}
+use Rattle.body.specs.Body.{noSpan, noReport, bodyWith, blankBody, bodyAccepted, bodyRefused, openingOf, spanFrom, positionBody, positionFrom, timeFound, timeRefused, timeBehind, timeAt, behindTime, positionedFrom, reportBody, micEBody, identifierSpan, messageBody, statusBody, bodyAfter, readBodyBy}
 
 -- ---- the time of a position, if it is to have one
 
@@ -92,8 +92,8 @@ behind-within s at true h z = go (ltb (length s - at) timeBytes) refl (readTime 
     go false e time.Refused z = omega arith
 
 -- x is what was found of the time
-module _ (s : List ℕ) (at : ℕ) (messaging timed : Bool) (x : TimeAt) (q : x ≡ timeAt s at timed) where
-  pub time-unfit : (r : BodyRead) → (x .refusal ≡ 0 → ⊥) → r ≡ bodyRefused (x .refusal) → r ≡ positionedFrom s at messaging timed
+module _ (strict : Bool) (s : List ℕ) (at : ℕ) (messaging timed : Bool) (x : TimeAt) (q : x ≡ timeAt s at timed) where
+  pub time-unfit : (r : BodyRead) → (x .refusal ≡ 0 → ⊥) → r ≡ bodyRefused (x .refusal) → r ≡ positionedFrom strict s at messaging timed
   unfolding positionedFrom behindTime
   time-unfit r z w = w ∙ rw (← q, ne-eqb (x .refusal) 0 z)
 
@@ -101,22 +101,22 @@ module _ (s : List ℕ) (at : ℕ) (messaging timed : Bool) (x : TimeAt) (q : x 
     pub start-within : at ≤ length s → x .behind ≤ length s
     start-within h = rw q (behind-within s at timed h (ap (λ (v : TimeAt). v .refusal) (sym q) ∙ y))
 
-    behind-is : positionedFrom s at messaging timed ≡ positionFrom s (x .behind) messaging (x .time)
+    behind-is : positionedFrom strict s at messaging timed ≡ positionFrom strict s (x .behind) messaging (x .time)
     unfolding positionedFrom behindTime
     behind-is = rw (← q, eq-eqb (x .refusal) 0 y)
 
     -- p is the place that stands behind it
-    module _ (p : PositionRead) (o : p ≡ readPosition (take (length s - x .behind) (drop (x .behind) s))) where
-      position-is : p ≡ readPosition (drop (x .behind) s)
-      position-is = o ∙ ap readPosition (part-to-end s (x .behind))
+    module _ (p : PositionRead) (o : p ≡ readPositionBy strict (take (length s - x .behind) (drop (x .behind) s))) where
+      position-is : p ≡ readPositionBy strict (drop (x .behind) s)
+      position-is = o ∙ ap (readPositionBy strict) (part-to-end s (x .behind))
 
       pub position-fits : at ≤ length s → p .refusal ≡ 0 → x .behind + 19 ≤ length s
-      position-fits h z = omega (arith, start-within h, length-drop (x .behind) s, position-long (drop (x .behind) s) (ap (λ (v : PositionRead). v .refusal) (sym position-is) ∙ z))
+      position-fits h z = omega (arith, start-within h, length-drop (x .behind) s, position-long strict (drop (x .behind) s) (ap (λ (v : PositionRead). v .refusal) (sym position-is) ∙ z))
 
       pub end-fits : at ≤ length s → p .refusal ≡ 0 → length s < 2 ^ 64 → Fits w64 (x .behind + 19)
       end-fits h z m = record { fits = omega (arith, position-fits h z) }
 
-      pub position-refused : (r : BodyRead) → (p .refusal ≡ 0 → ⊥) → r ≡ bodyRefused (p .refusal) → r ≡ positionedFrom s at messaging timed
+      pub position-refused : (r : BodyRead) → (p .refusal ≡ 0 → ⊥) → r ≡ bodyRefused (p .refusal) → r ≡ positionedFrom strict s at messaging timed
       unfolding positionFrom positionBody
       position-refused r z w = w ∙ sym (behind-is ∙ rw (← position-is, ne-eqb (p .refusal) 0 z))
 
@@ -131,7 +131,7 @@ module _ (s : List ℕ) (at : ℕ) (messaging timed : Bool) (x : TimeAt) (q : x 
             identifier = record { at = 0; len = 0 };
             addressee = replicate addresseeBytes 0;
           })
-          → r ≡ positionedFrom s at messaging timed
+          → r ≡ positionedFrom strict s at messaging timed
       unfolding positionFrom positionBody spanFrom noSpan noAddressee padTo
       position-read r m z e w = w ∙ sym (behind-is ∙ rw (← position-is, eq-eqb (p .refusal) 0 z, e))
 
@@ -144,36 +144,47 @@ module _ (d : Destination) (s : List ℕ) (at : ℕ) (x : InformationRead) (q : 
   pub information-fits : (i : Information) → x ≡ information.Read i → at ≤ length s → at + 8 ≤ length s
   information-fits i z h = omega (arith, length-drop at s, information-long (drop at s) (d .hundred) (d .west) i (sym information-is ∙ z))
 
-  module _ (current : Bool) (r : BodyRead) where
-    pub information-refused : (comment : Span) → x ≡ information.Refused → r ≡ bodyRefused 12 → r ≡ reportBody d (readInformation (drop at s) (d .hundred) (d .west)) current comment
+  module _ (strict current : Bool) (r : BodyRead) where
+    pub information-refused : (comment : Span) → x ≡ information.Refused → r ≡ bodyRefused 12 → r ≡ reportBody strict d (readInformation (drop at s) (d .hundred) (d .west)) current comment
     unfolding reportBody informationNumber
     information-refused comment z w = rw (← information-is, z) w
 
-    pub information-read : (i : Information) (t : Time) → x ≡ information.Read i → t ≡ noTime
-        → r ≡ bodyAccepted (record {
-          kind = MicE;
-          place = record { latitude = d .latitude; longitude = i .longitude; blanks = d .blanks; table = i .table; code = i .code; south = d .south; west = d .west };
-          time = t;
-          messaging = false;
-          report = record { message = d .message; speed = i .speed; course = i .course; current = current };
-          comment = record { at = at + 8; len = length s - (at + 8) };
-          identifier = record { at = 0; len = 0 };
-          addressee = replicate addresseeBytes 0;
-        })
-        → r ≡ reportBody d (readInformation (drop at s) (d .hundred) (d .west)) current (spanFrom s (at + 8))
-    unfolding reportBody spanFrom noSpan noAddressee padTo
-    information-read i t z e w = w ∙ rw (← information-is, z, e)
+    -- o is the test of the table byte
+    module _ (i : Information) (z : x ≡ information.Read i) (o : Bool) (j : o ≡ isOffTable strict (i .table)) where
+      pub information-off-table : (comment : Span) → o ≡ true → r ≡ bodyRefused 20 → r ≡ reportBody strict d (readInformation (drop at s) (d .hundred) (d .west)) current comment
+      unfolding reportBody
+      information-off-table comment y w = w ∙ rw (← information-is, z, ← j, y)
 
-module _ (to : Callsign) (info : List ℕ) (current : Bool) (comment : Span) (x : DestinationRead) (r : BodyRead) (q : x ≡ readDestination (callPart to)) where
-  pub destination-refused : x ≡ destination.Refused → r ≡ bodyRefused 11 → r ≡ micEBody (readDestination (callPart to)) info current comment
+      pub information-read : (t : Time) → o ≡ false → t ≡ noTime
+          → r ≡ bodyAccepted (record {
+            kind = MicE;
+            place = record { latitude = d .latitude; longitude = i .longitude; blanks = d .blanks; table = i .table; code = i .code; south = d .south; west = d .west };
+            time = t;
+            messaging = false;
+            report = record { message = d .message; speed = i .speed; course = i .course; current = current };
+            comment = record { at = at + 8; len = length s - (at + 8) };
+            identifier = record { at = 0; len = 0 };
+            addressee = replicate addresseeBytes 0;
+          })
+          → r ≡ reportBody strict d (readInformation (drop at s) (d .hundred) (d .west)) current (spanFrom s (at + 8))
+      unfolding reportBody spanFrom noSpan noAddressee padTo
+      information-read t y e w = w ∙ rw (← information-is, z, ← j, y, e)
+
+module _ (strict : Bool) (to : Callsign) (info : List ℕ) (current : Bool) (comment : Span) (x : DestinationRead) (r : BodyRead) (q : x ≡ readDestination (callPart to)) where
+  pub destination-refused : x ≡ destination.Refused → r ≡ bodyRefused 11 → r ≡ micEBody strict (readDestination (callPart to)) info current comment
   unfolding micEBody destinationNumber
   destination-refused z w = rw (← q, z) w
 
-  pub destination-read : (d : Destination) → x ≡ destination.Read d
-      → r ≡ reportBody d (readInformation info (d .hundred) (d .west)) current comment
-      → r ≡ micEBody (readDestination (callPart to)) info current comment
-  unfolding micEBody
-  destination-read d z w = rw (← q, z) w
+  -- o is the test of its minutes
+  module _ (d : Destination) (z : x ≡ destination.Read d) (o : Bool) (j : o ≡ isOver strict (d .sixty)) where
+    pub destination-over : o ≡ true → r ≡ bodyRefused 11 → r ≡ micEBody strict (readDestination (callPart to)) info current comment
+    unfolding micEBody destinationNumber
+    destination-over y w = rw (← q, z, ← j, y) w
+
+    pub destination-read : o ≡ false → r ≡ reportBody strict d (readInformation info (d .hundred) (d .west)) current comment
+        → r ≡ micEBody strict (readDestination (callPart to)) info current comment
+    unfolding micEBody
+    destination-read y w = rw (← q, z, ← j, y) w
 
 -- ---- a message
 
@@ -250,34 +261,34 @@ module _ (s : List ℕ) (at : ℕ) (x : StatusRead) (q : x ≡ readStatus (take 
 
 -- ---- the body by its first byte
 
-pub body-empty : (to : Callsign) (s : List ℕ) (from : ℕ) (b : Body) (r : BodyRead) → length s ≤ from → b ≡ blankBody → r ≡ bodyAccepted b → r ≡ readBody to s from
-unfolding readBody
-body-empty to s from b r h e w = rw (le-ltb from (length s) h, ← e) w
+pub body-empty : (strict : Bool) (to : Callsign) (s : List ℕ) (from : ℕ) (b : Body) (r : BodyRead) → length s ≤ from → b ≡ blankBody → r ≡ bodyAccepted b → r ≡ readBodyBy strict to s from
+unfolding readBodyBy
+body-empty strict to s from b r h e w = rw (le-ltb from (length s) h, ← e) w
 
-module _ (to : Callsign) (s : List ℕ) (from : ℕ) (o : Opening) (r : BodyRead) (h : from < length s) (q : o ≡ openingOf (getD s from 0)) where
-  opens : (k : Opening) → o ≡ k → readBody to s from ≡ bodyAfter k to s (from + 1)
-  unfolding readBody
+module _ (strict : Bool) (to : Callsign) (s : List ℕ) (from : ℕ) (o : Opening) (r : BodyRead) (h : from < length s) (q : o ≡ openingOf (getD s from 0)) where
+  opens : (k : Opening) → o ≡ k → readBodyBy strict to s from ≡ bodyAfter strict k to s (from + 1)
+  unfolding readBodyBy
   opens k e = rw (lt-ltb from (length s) h, ← q, e)
 
-  pub body-other : (b : Body) → o ≡ Other → b ≡ blankBody → r ≡ bodyAccepted b → r ≡ readBody to s from
+  pub body-other : (b : Body) → o ≡ Other → b ≡ blankBody → r ≡ bodyAccepted b → r ≡ readBodyBy strict to s from
   unfolding bodyAfter
   body-other b e f w = w ∙ ap bodyAccepted f ∙ sym (opens Other e)
 
-  pub body-position : (messaging timed : Bool) → o ≡ Positioned messaging timed → r ≡ positionedFrom s (from + 1) messaging timed → r ≡ readBody to s from
+  pub body-position : (messaging timed : Bool) → o ≡ Positioned messaging timed → r ≡ positionedFrom strict s (from + 1) messaging timed → r ≡ readBodyBy strict to s from
   unfolding bodyAfter
   body-position messaging timed e w = w ∙ sym (opens (Positioned messaging timed) e)
 
-  pub body-message : o ≡ Addressed → r ≡ messageBody (readMessage (drop (from + 1) s)) (from + 1) → r ≡ readBody to s from
+  pub body-message : o ≡ Addressed → r ≡ messageBody (readMessage (drop (from + 1) s)) (from + 1) → r ≡ readBodyBy strict to s from
   unfolding bodyAfter
   body-message e w = w ∙ sym (opens Addressed e)
 
-  pub body-status : o ≡ Stated → r ≡ statusBody (readStatus (drop (from + 1) s)) s (from + 1) → r ≡ readBody to s from
+  pub body-status : o ≡ Stated → r ≡ statusBody (readStatus (drop (from + 1) s)) s (from + 1) → r ≡ readBodyBy strict to s from
   unfolding bodyAfter
   body-status e w = w ∙ sym (opens Stated e)
 
   pub body-mic-e : (current : Bool) → o ≡ Mic current
-      → r ≡ micEBody (readDestination (callPart to)) (drop (from + 1) s) current (spanFrom s (from + 1 + 8))
-      → r ≡ readBody to s from
+      → r ≡ micEBody strict (readDestination (callPart to)) (drop (from + 1) s) current (spanFrom s (from + 1 + 8))
+      → r ≡ readBodyBy strict to s from
   unfolding bodyAfter
   body-mic-e current e w = w ∙ sym (opens (Mic current) e)
 

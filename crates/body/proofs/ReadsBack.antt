@@ -31,7 +31,7 @@ use Rattle.body.specs.declared.Kind.{Kind}
 use Rattle.body.specs.declared.Kind.the-variants.{MicE}
 use Rattle.body.specs.declared.Opening.the-variants.{Mic}
 use Rattle.body.specs.declared.Body.{Body}
-use Rattle.body.specs.Body.{noSpan, bodyAccepted, openingOf, spanFrom, reportBody, micEBody, bodyAfter, readBody}
+use Rattle.body.specs.Body.{noSpan, bodyAccepted, openingOf, spanFrom, reportBody, micEBody, bodyAfter, readBodyBy, readBody}
 use Rattle.body.specs.Range.{inRangeAs, bodyInRange}
 use Rattle.body.specs.Written.{micECall, toAs, writtenTo, informationOf, micEBytes, bytesAs, bodyBytes}
 use Rattle.body.proofs.Judged.{Reported, mic-e-held}
@@ -116,7 +116,7 @@ module _ (b : Body) (to : Callsign) (h : Reported b to) (width : natAbs (b .plac
         identifier = noSpan;
         addressee = noAddressee;
       })
-  unfolding readBody bodyAfter micEBody reportBody destinationFor informationOf asWritten
+  unfolding readBodyBy bodyAfter micEBody reportBody destinationFor informationOf asWritten
   report-back =
       rw (
         lt-ltb (length before) (length input) (omega (arith, sized)),

@@ -28,7 +28,7 @@ use Rattle.body.specs.declared.Opening.the-variants.{Addressed, Stated}
 use Rattle.body.specs.declared.Span.{Span}
 use Rattle.body.specs.declared.Body.{Body}
 use Rattle.body.specs.declared.BodyRead.{BodyRead}
-use Rattle.body.specs.Body.{noSpan, bodyWith, bodyAccepted, bodyRefused, openingOf, spanFrom, identifierSpan, messageBody, statusBody, bodyAfter, readBody}
+use Rattle.body.specs.Body.{noSpan, bodyWith, bodyAccepted, bodyRefused, openingOf, spanFrom, identifierSpan, messageBody, statusBody, bodyAfter, readBodyBy, readBody}
 use Rattle.body.specs.Written.{messageBytes, statusBytes, bytesAs, bodyBytes, tailAs, tailBytes, refusalAs, bodyRefusal}
 
 -- ---- the type byte leads to the reader
@@ -43,11 +43,11 @@ opens-status = refl
 
 module _ (to : Callsign) (s : List ℕ) (from : ℕ) (h : from < length s) where
   colon-reads : getD s from 0 ≡ colon → readBody to s from ≡ messageBody (readMessage (drop (from + 1) s)) (from + 1)
-  unfolding readBody bodyAfter
+  unfolding readBodyBy bodyAfter
   colon-reads e = rw (lt-ltb from (length s) h, e, opens-message)
 
   greater-reads : getD s from 0 ≡ greater → readBody to s from ≡ statusBody (readStatus (drop (from + 1) s)) s (from + 1)
-  unfolding readBody bodyAfter
+  unfolding readBodyBy bodyAfter
   greater-reads e = rw (lt-ltb from (length s) h, e, opens-status)
 
 -- ---- as written, behind other bytes

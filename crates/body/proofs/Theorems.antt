@@ -19,7 +19,7 @@ use Rattle.lonlat.specs.Angle.{mostLatitude, mostLongitude, widthOf}
 use Rattle.lonlat.proofs.Theorems.{cut-whole}
 use Rattle.time.specs.Time.{noTime, isNoTime, isTime, isPresent, timeBytes, timeText}
 use Rattle.time.proofs.Theorems.{no-time-no-bytes, a-time-seven-bytes}
-use Rattle.position.specs.Position.{asWritten}
+use Rattle.position.specs.Position.{usually, asWritten}
 use Rattle.position.specs.Page.{boxOf}
 use Rattle.position.proofs.InnerEdge.{InnerEdge}
 use Rattle.position.proofs.Theorems.{latitude-is-inner-edge, longitude-is-inner-edge, zero-is-north, zero-is-east, latitude-letter-kept, longitude-letter-kept, letters-kept}
@@ -30,7 +30,7 @@ use Rattle.body.specs.declared.Kind.{Kind}
 use Rattle.body.specs.declared.Kind.the-variants.{Position, MicE, Message, Status}
 use Rattle.body.specs.declared.Body.{Body}
 use Rattle.body.specs.declared.BodyWritten.{BodyWritten}
-use Rattle.body.specs.Body.{noSpan, noReport, bodyWith, blankBody, bodyAccepted, bodyRefused, identifierSpan, readBody}
+use Rattle.body.specs.Body.{noSpan, noReport, bodyWith, blankBody, bodyAccepted, bodyRefused, identifierSpan, readBodyBy, readBody}
 use Rattle.body.specs.Range.{isNoLetter, isNoPlace, isNoReport, isBare, unknownInRange, statusInRange, inRangeAs, bodyInRange, isExcepted}
 use Rattle.body.specs.Written.{writtenTo, statusBytes, bytesAs, bodyBytes, tailAs, tailBytes, refusalAs, bodyRefusal, unwritten, writtenAs, writtenOr, writeBody}
 use Rattle.body.proofs.Answered.{or-first, or-within, nothing-within, or-len, or-tail, or-written, nothing-before, nothing-behind, not-unwritten}
@@ -42,32 +42,32 @@ use Rattle.body.proofs.ReadsBack.{comesBack, held, body-back, comment-b
 use Rattle.body.proofs.TextBack.{TextOr18, spanned, message-front-long, message-back, status-back, message-short, status-short, text-shown-back, identifier-shown-back, message-tail, message-read-or-18, status-read-or-18}
 use Rattle.body.proofs.PositionBack.{cutBack, its-length, cut-back, behind-comment}
 
--- ---- what is read, accepted or not
+-- ---- what is read, accepted or not, as usually or strictly
 
-module _ (to : Callsign) (s : List ℕ) (from : ℕ) where
+module _ (strict : Bool) (to : Callsign) (s : List ℕ) (from : ℕ) where
   -- "A refused decode returns the blank record"
-  pub read-refused-blank : (readBody to s from .refusal ≡ 0 → ⊥) → readBody to s from ≡ bodyRefused (readBody to s from .refusal)
-  read-refused-blank = body-found to s from .blank
+  pub read-refused-blank : (readBodyBy strict to s from .refusal ≡ 0 → ⊥) → readBodyBy strict to s from ≡ bodyRefused (readBodyBy strict to s from .refusal)
+  read-refused-blank = body-found strict to s from .blank
 
   -- a comment or a text is a place in the input, and so is an identifier
-  pub read-comment-within : readBody to s from .body .comment .at + readBody to s from .body .comment .len ≤ length s
-  read-comment-within = body-found to s from .within
+  pub read-comment-within : readBodyBy strict to s from .body .comment .at + readBodyBy strict to s from .body .comment .len ≤ length s
+  read-comment-within = body-found strict to s from .within
 
-  pub read-identifier-within : readBody to s from .body .identifier .at + readBody to s from .body .identifier .len ≤ length s
-  read-identifier-within = body-found to s from .identifier-within
+  pub read-identifier-within : readBodyBy strict to s from .body .identifier .at + readBodyBy strict to s from .body .identifier .len ≤ length s
+  read-identifier-within = body-found strict to s from .identifier-within
 
-  module _ (kept : Callsign) (no-call : readBody to s from .body .kind ≡ MicE → isBlankCall kept ≡ true) where
+  module _ (kept : Callsign) (no-call : readBodyBy strict to s from .body .kind ≡ MicE → isBlankCall kept ≡ true) where
     -- beside any destination, a Mic-E body beside none, it is in range but for a Mic-E angle of 180 degrees and a position symbol
     -- byte of 128 or more
-    pub read-range : bodyInRange (readBody to s from .body) kept ≡ not (isExcepted (readBody to s from .body))
-    read-range = body-found to s from .range kept no-call
+    pub read-range : bodyInRange (readBodyBy strict to s from .body) kept ≡ not (isExcepted (readBodyBy strict to s from .body))
+    read-range = body-found strict to s from .range kept no-call
 
     -- so it is written but for those two, 15, an Unknown kind, 14, and what is handed over with a message or a status, 18
     pub read-unwritten : (text identifier : List ℕ)
-        → writeBody (readBody to s from .body) kept text identifier .refusal ≡ cond (isExcepted (readBody to s from .body)) 15 (bodyRefusal (readBody to s from .body) text identifier)
+        → writeBody (readBodyBy strict to s from .body) kept text identifier .refusal ≡ cond (isExcepted (readBodyBy strict to s from .body)) 15 (bodyRefusal (readBodyBy strict to s from .body) text identifier)
     unfolding writeBody
     read-unwritten text identifier =
-        let b = readBody to s from .body in
+        let b = readBodyBy strict to s from .body in
         rw read-range (or-first (isExcepted b) (bodyRefusal b text identifier) (writtenTo b kept) (bodyBytes b) (tailBytes b identifier))
 
 -- ---- the time of what was read (document 02, R-3)
@@ -92,11 +92,11 @@ pub record InnerEdges (b : Body) : Type 0 where
   pub longitude-whole : (b .kind ≡ MicE → ⊥) → natAbs (b .place .longitude .0) % widthOf (b .place .blanks) ≡ 0
   pub without-blanks : b .place .blanks ≡ 0 → natAbs (b .place .longitude .0) % widthOf (b .place .blanks) ≡ 0
 
-pub read-inner-edges : (to : Callsign) (s : List ℕ) (from : ℕ) → InnerEdges (readBody to s from .body)
+pub read-inner-edges : (strict : Bool) (to : Callsign) (s : List ℕ) (from : ℕ) → InnerEdges (readBodyBy strict to s from .body)
 unfolding widthOf
-read-inner-edges to s from =
-    let f = body-found to s from in
-    let place = readBody to s from .body .place in
+read-inner-edges strict to s from =
+    let f = body-found strict to s from in
+    let place = readBodyBy strict to s from .body .place in
     record {
       latitude = latitude-is-inner-edge place (f .near) (f .agree) (f .latitude-whole);
       longitude = longitude-is-inner-edge place (f .near) (f .agree);
@@ -106,8 +106,8 @@ read-inner-edges to s from =
 
 -- of the blank body too, which an empty body reads as
 pub blank-inner-edges : InnerEdges blankBody
-unfolding readBody
-blank-inner-edges = read-inner-edges blankCall [] 0
+unfolding readBodyBy
+blank-inner-edges = read-inner-edges usually blankCall [] 0
 
 -- the blank body is in range, beside any destination
 pub blank-range : (to : Callsign) → bodyInRange blankBody to ≡ true

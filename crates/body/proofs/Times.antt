@@ -16,7 +16,7 @@ use Rattle.time.specs.declared.TimeRead.the-variants as time
 use Rattle.time.specs.Time.{noTime, isPresent, timeBytes, readTime, timeNumber, timeText}
 use Rattle.time.proofs.Theorems.{time-is-kept}
 use Rattle.position.specs.declared.PositionRead.{PositionRead}
-use Rattle.position.specs.Position.{fixedBytes, readPosition}
+use Rattle.position.specs.Position.{fixedBytes, usually, readPosition}
 use Rattle.mic_e.specs.declared.Destination.{Destination}
 use Rattle.mic_e.specs.declared.DestinationRead.{DestinationRead}
 use Rattle.mic_e.specs.declared.DestinationRead.the-variants as destination
@@ -35,7 +35,7 @@ use Rattle.body.specs.declared.Span.{Span}
 use Rattle.body.specs.declared.Opening.{Opening}
 use Rattle.body.specs.declared.Opening.the-variants.{Positioned, Mic, Addressed, Stated, Other}
 use Rattle.body.specs.declared.BodyRead.{BodyRead}
-use Rattle.body.specs.Body.{noSpan, noReport, bodyWith, blankBody, bodyAccepted, bodyRefused, openingOf, spanFrom, positionBody, positionFrom, timeRefused, timeBehind, timeAt, behindTime, positionedFrom, reportBody, micEBody, identifierSpan, messageBody, statusBody, bodyAfter, readBody}
+use Rattle.body.specs.Body.{noSpan, noReport, bodyWith, blankBody, bodyAccepted, bodyRefused, openingOf, spanFrom, positionBody, positionFrom, timeRefused, timeBehind, timeAt, behindTime, positionedFrom, reportBody, micEBody, identifierSpan, messageBody, statusBody, bodyAfter, readBodyBy, readBody}
 
 -- behind the type byte stand the bytes from the place `at` on
 module _ (s : List ℕ) (at : ℕ) where
@@ -55,26 +55,26 @@ module _ (s : List ℕ) (at : ℕ) where
       go true = h
       go false = blank-time (p .refusal)
 
-  behind-time : (messaging : Bool) (x : TimeRead) → readTime (take timeBytes (drop at s)) ≡ x → TimeOf (behindTime (timeBehind x (at + timeBytes)) s messaging)
+  behind-time : (messaging : Bool) (x : TimeRead) → readTime (take timeBytes (drop at s)) ≡ x → TimeOf (behindTime usually (timeBehind x (at + timeBytes)) s messaging)
   unfolding timeBehind behindTime positionFrom timeNumber
   behind-time messaging (time.Read t) e = position-time (readPosition (drop (at + timeBytes) s)) messaging t (spanFrom s (at + timeBytes + fixedBytes)) (inr e)
   behind-time messaging time.Refused e = blank-time 17
 
-  positioned-time : (messaging timed : Bool) → TimeOf (positionedFrom s at messaging timed)
+  positioned-time : (messaging timed : Bool) → TimeOf (positionedFrom usually s at messaging timed)
   unfolding positionedFrom timeAt behindTime positionFrom
   positioned-time messaging false = position-time (readPosition (drop at s)) messaging noTime (spanFrom s (at + fixedBytes)) (inl refl)
   positioned-time messaging true = go (ltb (length s - at) timeBytes)
     where
-      go : (b : Bool) → TimeOf (behindTime (cond b (timeRefused 10) (timeBehind (readTime (take timeBytes (drop at s))) (at + timeBytes))) s messaging)
+      go : (b : Bool) → TimeOf (behindTime usually (cond b (timeRefused 10) (timeBehind (readTime (take timeBytes (drop at s))) (at + timeBytes))) s messaging)
       go true = blank-time 10
       go false = behind-time messaging (readTime (take timeBytes (drop at s))) refl
 
-  report-time : (d : Destination) (x : InformationRead) (current : Bool) (comment : Span) → TimeOf (reportBody d x current comment)
+  report-time : (d : Destination) (x : InformationRead) (current : Bool) (comment : Span) → TimeOf (reportBody usually d x current comment)
   unfolding reportBody informationNumber
   report-time d (information.Read i) current comment = inl refl
   report-time d information.Refused current comment = blank-time 12
 
-  mic-e-time : (x : DestinationRead) (info : List ℕ) (current : Bool) (comment : Span) → TimeOf (micEBody x info current comment)
+  mic-e-time : (x : DestinationRead) (info : List ℕ) (current : Bool) (comment : Span) → TimeOf (micEBody usually x info current comment)
   unfolding micEBody destinationNumber
   mic-e-time (destination.Read d) info current comment = report-time d (readInformation info (d .hundred) (d .west)) current comment
   mic-e-time destination.Refused info current comment = blank-time 11
@@ -93,7 +93,7 @@ module _ (s : List ℕ) (at : ℕ) where
   status-time (status.Read t) e = read-status-time-of (drop at s) t e
   status-time status.Refused e = blank-time 18
 
-  after-time : (o : Opening) (to : Callsign) → TimeOf (bodyAfter o to s at)
+  after-time : (o : Opening) (to : Callsign) → TimeOf (bodyAfter usually o to s at)
   unfolding bodyAfter
   after-time (Positioned messaging timed) to = positioned-time messaging timed
   after-time (Mic current) to = mic-e-time (readDestination (callPart to)) (drop at s) current (spanFrom s (at + 8))
@@ -107,10 +107,10 @@ absent = refl
 
 module _ (to : Callsign) (s : List ℕ) (from : ℕ) where
   pub read-time : TimeOf s (from + 1) (readBody to s from)
-  unfolding readBody
+  unfolding readBodyBy
   read-time = go (ltb from (length s))
     where
-      go : (b : Bool) → TimeOf s (from + 1) (cond b (bodyAfter (openingOf (getD s from 0)) to s (from + 1)) (bodyAccepted blankBody))
+      go : (b : Bool) → TimeOf s (from + 1) (cond b (bodyAfter usually (openingOf (getD s from 0)) to s (from + 1)) (bodyAccepted blankBody))
       go true = after-time s (from + 1) (openingOf (getD s from 0)) to
       go false = blank-time s (from + 1) 0
 

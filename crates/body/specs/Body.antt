@@ -1,5 +1,5 @@
--- The body of a packet, by its first byte (document 01, 'Modules in port order', 5, and 'Numbers a refusal carries'; document 02, R-3
--- and R-5). It stands in the input from a place on, since its comment or text is a place in the whole input.
+-- The body of a packet, by its first byte (document 01, 'Modules in port order', 5, and 'Numbers a refusal carries'; document 02, R-3,
+-- R-5 and, for the strict reader, R-8). It stands in the input from a place on, since its comment or text is a place in the whole input.
 -- Assumes nothing.
 use Prim.Native.Nat.{ℕ, _+_, _-_}
 use mathlib.Core.Bool.{Bool, true, false, cond, _||_}
@@ -14,7 +14,7 @@ use Rattle.time.specs.declared.TimeRead.{TimeRead}
 use Rattle.time.specs.declared.TimeRead.the-variants as time
 use Rattle.time.specs.Time.{noTime, timeBytes, readTime, timeNumber, timeText}
 use Rattle.position.specs.declared.PositionRead.{PositionRead}
-use Rattle.position.specs.Position.{noPlace, fixedBytes, readPosition}
+use Rattle.position.specs.Position.{noPlace, fixedBytes, usually, isOver, isOffTable, tableNumber, readPositionBy}
 use Rattle.mic_e.specs.declared.Destination.{Destination}
 use Rattle.mic_e.specs.declared.DestinationRead.{DestinationRead}
 use Rattle.mic_e.specs.declared.DestinationRead.the-variants as destination
@@ -114,8 +114,8 @@ positionBody p messaging time comment =
     (bodyRefused (p .refusal))
 
 -- a position from a place on, its 19 bytes and its comment
-unfoldable pub positionFrom : List ℕ → ℕ → Bool → Time → BodyRead
-positionFrom s at messaging time = positionBody (readPosition (drop at s)) messaging time (spanFrom s (at + fixedBytes))
+unfoldable pub positionFrom : Bool → List ℕ → ℕ → Bool → Time → BodyRead
+positionFrom strict s at messaging time = positionBody (readPositionBy strict (drop at s)) messaging time (spanFrom s (at + fixedBytes))
 
 -- a time, or none where none is asked for, and the place behind it
 abbrev pub timeFound : Time → ℕ → TimeAt
@@ -138,17 +138,19 @@ timeAt s at timed =
     (timeFound noTime at)
 
 -- "and 7, 10, 8, 9 follow": the position behind a time that was found
-unfoldable pub behindTime : TimeAt → List ℕ → Bool → BodyRead
-behindTime x s messaging = cond (eqb (x .refusal) 0) (positionFrom s (x .behind) messaging (x .time)) (bodyRefused (x .refusal))
+unfoldable pub behindTime : Bool → TimeAt → List ℕ → Bool → BodyRead
+behindTime strict x s messaging = cond (eqb (x .refusal) 0) (positionFrom strict s (x .behind) messaging (x .time)) (bodyRefused (x .refusal))
 
 -- a position from a place on, with a time before it or without one
-unfoldable pub positionedFrom : List ℕ → ℕ → Bool → Bool → BodyRead
-positionedFrom s at messaging timed = behindTime (timeAt s at timed) s messaging
+unfoldable pub positionedFrom : Bool → List ℕ → ℕ → Bool → Bool → BodyRead
+positionedFrom strict s at messaging timed = behindTime strict (timeAt s at timed) s messaging
 
--- a Mic-E report, of a destination and of information that was read; its letters are those that the destination says
-unfoldable pub reportBody : Destination → InformationRead → Bool → Span → BodyRead
-reportBody d (information.Read i) current comment =
-    bodyAccepted (record {
+-- a Mic-E report, of a destination and of information that was read; its letters are those that the destination says; strictly "the
+-- table byte gives 20, last of all"
+unfoldable pub reportBody : Bool → Destination → InformationRead → Bool → Span → BodyRead
+reportBody strict d (information.Read i) current comment =
+    cond (isOffTable strict (i .table)) (bodyRefused tableNumber)
+    (bodyAccepted (record {
       kind = MicE;
       place = record { latitude = d .latitude; longitude = i .longitude; blanks = d .blanks; table = i .table; code = i .code; south = d .south; west = d .west };
       time = noTime;
@@ -157,13 +159,15 @@ reportBody d (information.Read i) current comment =
       comment = comment;
       identifier = noSpan;
       addressee = noAddressee;
-    })
-reportBody d information.Refused current comment = bodyRefused (informationNumber information.Refused)
+    }))
+reportBody strict d information.Refused current comment = bodyRefused (informationNumber information.Refused)
 
--- "Mic-E: 11, then 12"
-unfoldable pub micEBody : DestinationRead → List ℕ → Bool → Span → BodyRead
-micEBody (destination.Read d) info current comment = reportBody d (readInformation info (d .hundred) (d .west)) current comment
-micEBody destination.Refused info current comment = bodyRefused (destinationNumber destination.Refused)
+-- "Mic-E: 11, then 12"; strictly 11 is given for the destination's minutes too, not for those of the information
+unfoldable pub micEBody : Bool → DestinationRead → List ℕ → Bool → Span → BodyRead
+micEBody strict (destination.Read d) info current comment =
+    cond (isOver strict (d .sixty)) (bodyRefused (destinationNumber destination.Refused))
+    (reportBody strict d (readInformation info (d .hundred) (d .west)) current comment)
+micEBody strict destination.Refused info current comment = bodyRefused (destinationNumber destination.Refused)
 
 -- "the identifier's place and length, 0 and 0 where there is none": it stands past the `{` that ends the text
 unfoldable pub identifierSpan : ℕ → ℕ → Span
@@ -183,17 +187,21 @@ statusBody (status.Read t) s at = bodyAccepted (bodyWith Status (spanFrom s (at 
 statusBody status.Refused s at = bodyRefused (statusNumber status.Refused)
 
 -- what the first byte makes of the input from the place behind it on: a position, timed or not, a report and its 8 bytes, a message or
--- a status; of a Mic-E destination "6 call characters, SSID ignored"
-unfoldable pub bodyAfter : Opening → Callsign → List ℕ → ℕ → BodyRead
-bodyAfter (Positioned messaging timed) to s at = positionedFrom s at messaging timed
-bodyAfter (Mic current) to s at = micEBody (readDestination (callPart to)) (drop at s) current (spanFrom s (at + 8))
-bodyAfter Addressed to s at = messageBody (readMessage (drop at s)) at
-bodyAfter Stated to s at = statusBody (readStatus (drop at s)) s at
-bodyAfter Other to s at = bodyAccepted blankBody
+-- a status; of a Mic-E destination "6 call characters, SSID ignored"; only positions and reports have a strict rule
+unfoldable pub bodyAfter : Bool → Opening → Callsign → List ℕ → ℕ → BodyRead
+bodyAfter strict (Positioned messaging timed) to s at = positionedFrom strict s at messaging timed
+bodyAfter strict (Mic current) to s at = micEBody strict (readDestination (callPart to)) (drop at s) current (spanFrom s (at + 8))
+bodyAfter strict Addressed to s at = messageBody (readMessage (drop at s)) at
+bodyAfter strict Stated to s at = statusBody (readStatus (drop at s)) s at
+bodyAfter strict Other to s at = bodyAccepted blankBody
 
 -- "An empty body is Unknown."
-unfoldable pub readBody : Callsign → List ℕ → ℕ → BodyRead
-readBody to s from =
+unfoldable pub readBodyBy : Bool → Callsign → List ℕ → ℕ → BodyRead
+readBodyBy strict to s from =
     cond (ltb from (length s))
-    (bodyAfter (openingOf (getD s from 0)) to s (from + 1))
+    (bodyAfter strict (openingOf (getD s from 0)) to s (from + 1))
     (bodyAccepted blankBody)
+
+-- as usually
+abbrev pub readBody : Callsign → List ℕ → ℕ → BodyRead
+readBody to s from = readBodyBy usually to s from

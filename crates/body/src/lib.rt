@@ -11,7 +11,7 @@ ghost use Rattle.mic_e.specs.Destination.{readDestination, destinationBytes};
 ghost use Rattle.mic_e.specs.Information.{readInformation, informationOut};
 ghost use Rattle.message.specs.Message.{readMessage, identifierText, messageRefusal};
 ghost use Rattle.message.specs.Status.{readStatus, statusTextRefusal};
-ghost use Rattle.body.specs.Body.{noReport, bodyWith, blankBody, bodyAccepted, bodyRefused, openingOf, spanFrom, timeFound, timeRefused, timeAt, positionedFrom, reportBody, micEBody, identifierSpan, messageBody, statusBody, readBody};
+ghost use Rattle.body.specs.Body.{noReport, bodyWith, blankBody, bodyAccepted, bodyRefused, openingOf, spanFrom, timeFound, timeRefused, timeAt, positionedFrom, reportBody, micEBody, identifierSpan, messageBody, statusBody, readBodyBy};
 ghost use Rattle.body.specs.Range.{isNoLetter, isNoPlace, isNoReport, isPlaceAlone, isReportAlone, isBare, unknownInRange, positionInRange, micEInRange, messageInRange, statusInRange};
 ghost use Rattle.body.specs.Written.{micECall, informationOf, positionType, positionBytes, micEBytes, messageBytes, statusBytes, unwritten, writtenAs, writtenOr, writeBody};
 use callsign::Callsign;
@@ -223,16 +223,16 @@ fn time_at(s: &[u8], at: usize, timed: bool) -> TimeAt
 }
 
 // A position whose bytes behind the type byte start at the place `at`: its time, if it has one, and then its place.
-fn read_position(s: &[u8], at: usize, messaging: bool, timed: bool) -> BodyRead
+fn read_position(s: &[u8], at: usize, messaging: bool, timed: bool, strict: bool) -> BodyRead
     requires { ⌜ at ≤ length (now s) ⌝ }
-    ensures { λ r. ⌜ r ≡ positionedFrom (now (s .entry)) at messaging timed ⌝ }
+    ensures { λ r. ⌜ r ≡ positionedFrom strict (now (s .entry)) at messaging timed ⌝ }
 {
     let found = time_at(s, at, timed);
     if found.refusal != 0 {
         return refused(found.refusal);
     }
     let start = found.behind;
-    let p = position::read_position(&s[start..]);
+    let p = position::read_position(&s[start..], strict);
     if p.refusal != 0 {
         return refused(p.refusal);
     }
@@ -270,14 +270,17 @@ fn destination_of(to: Callsign) -> DestinationRead
 }
 
 // A Mic-E report whose destination was read, and whose information starts at the place `at`.
-fn read_report(d: Destination, s: &[u8], at: usize, current: bool) -> BodyRead
+fn read_report(d: Destination, s: &[u8], at: usize, current: bool, strict: bool) -> BodyRead
     requires { ⌜ at ≤ length (now s) ⌝ }
-    ensures { λ r. ⌜ r ≡ reportBody d (readInformation (drop at (now (s .entry))) (d .hundred) (d .west)) current (spanFrom (now (s .entry)) (at + 8)) ⌝ }
+    ensures { λ r. ⌜ r ≡ reportBody strict d (readInformation (drop at (now (s .entry))) (d .hundred) (d .west)) current (spanFrom (now (s .entry)) (at + 8)) ⌝ }
 {
     let read = mic_e::read_information(&s[at..], d.hundred, d.west);
     match read {
         InformationRead::Refused => refused(12),
         InformationRead::Read(i) => {
+            if position::is_off_table(strict, i.table) {
+                return refused(20);
+            }
             let latitude = d.latitude;
             let longitude = i.longitude;
             let place = Place {
@@ -320,14 +323,19 @@ fn read_report(d: Destination, s: &[u8], at: usize, current: bool) -> BodyRead
 }
 
 // A Mic-E report: its destination, and then its information from the place `at` on.
-fn read_mic_e(to: Callsign, s: &[u8], at: usize, current: bool) -> BodyRead
+fn read_mic_e(to: Callsign, s: &[u8], at: usize, current: bool, strict: bool) -> BodyRead
     requires { ⌜ at ≤ length (now s) ⌝ }
-    ensures { λ r. ⌜ r ≡ micEBody (readDestination (callPart to)) (drop at (now (s .entry))) current (spanFrom (now (s .entry)) (at + 8)) ⌝ }
+    ensures { λ r. ⌜ r ≡ micEBody strict (readDestination (callPart to)) (drop at (now (s .entry))) current (spanFrom (now (s .entry)) (at + 8)) ⌝ }
 {
     let read = destination_of(to);
     match read {
         DestinationRead::Refused => refused(11),
-        DestinationRead::Read(d) => read_report(d, s, at, current),
+        DestinationRead::Read(d) => {
+            if position::is_over(strict, d.sixty) {
+                return refused(11);
+            }
+            read_report(d, s, at, current, strict)
+        }
     }
 }
 
@@ -393,17 +401,20 @@ fn read_status(s: &[u8], at: usize) -> BodyRead
 }
 
 // Reads the body of a packet to that destination, which stands in s from the place `from` to the end. Where nothing stands
-// there, it is of Unknown kind.
-pub fn read(to: Callsign, s: &[u8], from: usize) -> BodyRead
-    ensures { λ r. ⌜ r ≡ readBody to (now (s .entry)) from ⌝ }
+// there, it is of Unknown kind. Strictly minutes of 60 or more are 8, 9 or, in a Mic-E destination, 11, and a byte that names no symbol
+// table is 20, last of all.
+pub fn read(to: Callsign, s: &[u8], from: usize, strict: bool) -> BodyRead
+    ensures { λ r. ⌜ r ≡ readBodyBy strict to (now (s .entry)) from ⌝ }
 {
     if s.len() <= from {
         return accepted(blank());
     }
     let opening = opening_of(s[from]);
     match opening {
-        Opening::Positioned { messaging, timed } => read_position(s, from + 1, messaging, timed),
-        Opening::Mic(current) => read_mic_e(to, s, from + 1, current),
+        Opening::Positioned { messaging, timed } => {
+            read_position(s, from + 1, messaging, timed, strict)
+        }
+        Opening::Mic(current) => read_mic_e(to, s, from + 1, current, strict),
         Opening::Addressed => read_message(s, from + 1),
         Opening::Stated => read_status(s, from + 1),
         Opening::Other => accepted(blank()),

@@ -10,6 +10,7 @@ use Rattle.mic_e.specs.Message.{messageNumber, messageAt}
 use Rattle.body.specs.declared.Kind.{Kind}
 use Rattle.body.specs.declared.Report.{Report}
 use Rattle.body.specs.declared.Body.{Body}
+use Rattle.position.specs.Position.{usually}
 use Rattle.packet.specs.declared.Outer.{Outer}
 use Rattle.packet.specs.declared.PacketRead.{PacketRead}
 use Rattle.packet.specs.Packet.{mostInner, holdsPacket, readText, readFrame}
@@ -82,22 +83,22 @@ record-meant r body e = rw e
 
 -- ---- a packet by itself, and what it holds
 
-module _ (s : List ℕ) (framed : Bool) (o : Outer) (e : o ≡ outerWithin mostBytes framed s) (r : CRead) where
-  held-in-c : (p : PacketRead) → p ≡ packetFrom mostInner o s → r ≡ readInC p → r ≡ readInC (cond framed (readFrame s) (readText s))
-  held-in-c p q w = w ∙ ap (λ (x : PacketRead). readInC x) (either-from s framed o p e q)
+module _ (s : List ℕ) (framed : Bool) (o : Outer) (e : o ≡ outerWithin usually mostBytes framed s) (r : CRead) where
+  held-in-c : (p : PacketRead) → p ≡ packetFrom usually mostInner o s → r ≡ readInC p → r ≡ readInC (cond framed (readFrame s) (readText s))
+  held-in-c p q w = w ∙ ap (λ (x : PacketRead). readInC x) (either-from usually s framed o p e q)
 
   alone-in-c : (u : Bool) → u ≡ holdsPacket s (o .at) → u ≡ false → r ≡ readInC (aloneOf o) → r ≡ readInC (cond framed (readFrame s) (readText s))
-  alone-in-c u q n w = held-in-c (aloneOf o) (from-alone mostInner o s u q (aloneOf o) n refl) w
+  alone-in-c u q n w = held-in-c (aloneOf o) (from-alone usually mostInner o s u q (aloneOf o) n refl) w
 
-module _ (s : List ℕ) (o : Outer) (e : o ≡ outerWithin mostBytes false s) (r : CRead) where
-  pub held-text-in-c : (p : PacketRead) → p ≡ packetFrom mostInner o s → r ≡ readInC p → r ≡ readInC (readText s)
+module _ (s : List ℕ) (o : Outer) (e : o ≡ outerWithin usually mostBytes false s) (r : CRead) where
+  pub held-text-in-c : (p : PacketRead) → p ≡ packetFrom usually mostInner o s → r ≡ readInC p → r ≡ readInC (readText s)
   held-text-in-c = held-in-c s false o e r
 
   pub alone-text-in-c : (u : Bool) → u ≡ holdsPacket s (o .at) → u ≡ false → r ≡ readInC (aloneOf o) → r ≡ readInC (readText s)
   alone-text-in-c = alone-in-c s false o e r
 
-module _ (s : List ℕ) (o : Outer) (e : o ≡ outerWithin mostBytes true s) (r : CRead) where
-  pub held-frame-in-c : (p : PacketRead) → p ≡ packetFrom mostInner o s → r ≡ readInC p → r ≡ readInC (readFrame s)
+module _ (s : List ℕ) (o : Outer) (e : o ≡ outerWithin usually mostBytes true s) (r : CRead) where
+  pub held-frame-in-c : (p : PacketRead) → p ≡ packetFrom usually mostInner o s → r ≡ readInC p → r ≡ readInC (readFrame s)
   held-frame-in-c = held-in-c s true o e r
 
   pub alone-frame-in-c : (u : Bool) → u ≡ holdsPacket s (o .at) → u ≡ false → r ≡ readInC (aloneOf o) → r ≡ readInC (readFrame s)

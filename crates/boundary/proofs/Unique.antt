@@ -16,7 +16,7 @@ use Rattle.position.specs.declared.PageBox.{PageBox}
 use Rattle.position.specs.Bounds.{boundsOf}
 use Rattle.position.specs.Page.{boxOf}
 use Rattle.fields.specs.Lists.{listed, motionRefusal, motionFields, longitudeFields}
-use Rattle.packet.specs.Packet.{readText, readFrame}
+use Rattle.packet.specs.Packet.{readText, readFrame, strictText, strictFrame}
 use Rattle.packet.specs.Written.{textBytes, frameBytes}
 use Rattle.boundary.specs.declared.CRecord.{CRecord}
 use Rattle.boundary.specs.declared.CRead.{CRead}
@@ -28,6 +28,12 @@ module _ (s : List ℕ) (r r′ : CRead) where
 
   pub unique-tusselgro-read-frame : r ≡ readInC (readFrame s) → r′ ≡ readInC (readFrame s) → r ≡ r′
   unique-tusselgro-read-frame = one-value r r′ (readInC (readFrame s))
+
+  pub unique-tusselgro-read-text-strictly : r ≡ readInC (strictText s) → r′ ≡ readInC (strictText s) → r ≡ r′
+  unique-tusselgro-read-text-strictly = one-value r r′ (readInC (strictText s))
+
+  pub unique-tusselgro-read-frame-strictly : r ≡ readInC (strictFrame s) → r′ ≡ readInC (strictFrame s) → r ≡ r′
+  unique-tusselgro-read-frame-strictly = one-value r r′ (readInC (strictFrame s))
 
 module _ (out : List ℕ) (a a′ : Answer) (o o′ : List ℕ) where
   module _ (r : CRecord) (comment identifier : List ℕ) where

@@ -8,7 +8,7 @@ ghost use Rattle.lonlat.specs.Longitude.{longitudeRefusal};
 ghost use Rattle.position.specs.Bounds.{boundsOf};
 ghost use Rattle.position.specs.Page.{boxOf};
 ghost use Rattle.fields.specs.Lists.{listed, motionRefusal, motionFields, longitudeFields};
-ghost use Rattle.packet.specs.Packet.{readText, readFrame};
+ghost use Rattle.packet.specs.Packet.{readText, readFrame, strictText, strictFrame};
 ghost use Rattle.packet.specs.Outer.{aloneOf};
 ghost use Rattle.packet.specs.Written.{textBytes, frameBytes};
 ghost use Rattle.boundary.specs.Numbers.{kindNumber, kindAt};
@@ -238,16 +238,16 @@ fn record_meant(r: CRecord) -> Record
     }
 }
 
-// ---- packets: one with none inside goes to C as it was read by itself, so that its record is not handed on once more
+// ---- packets: one with none inside, read as usually, goes to C as it was read by itself, so that its record is not handed on once more
 
 // Reads a line of text: the record, or the number of its first fault and zeros.
 #[no_mangle]
 pub extern "C" fn tusselgro_read_text(line: &[u8]) -> CRead
     ensures { λ r. ⌜ r ≡ readInC (readText (now (line .entry))) ⌝ }
 {
-    let o = packet::read_outer(line, false, packet::MOST);
+    let o = packet::read_outer(line, false, packet::MOST, false);
     if packet::holds_packet(line, o.at) {
-        return read_in_c(packet::read_inside(o, line));
+        return read_in_c(packet::read_inside(o, line, false));
     }
     outer_in_c(o)
 }
@@ -257,11 +257,28 @@ pub extern "C" fn tusselgro_read_text(line: &[u8]) -> CRead
 pub extern "C" fn tusselgro_read_frame(frame: &[u8]) -> CRead
     ensures { λ r. ⌜ r ≡ readInC (readFrame (now (frame .entry))) ⌝ }
 {
-    let o = packet::read_outer(frame, true, packet::MOST);
+    let o = packet::read_outer(frame, true, packet::MOST, false);
     if packet::holds_packet(frame, o.at) {
-        return read_in_c(packet::read_inside(o, frame));
+        return read_in_c(packet::read_inside(o, frame, false));
     }
     outer_in_c(o)
+}
+
+// Reads a line of text strictly: minutes of 60 or more are 8, 9 or, in a Mic-E destination, 11, and a byte that names no symbol table is
+// 20, last of all. What is accepted is the record of tusselgro_read_text.
+#[no_mangle]
+pub extern "C" fn tusselgro_read_text_strictly(line: &[u8]) -> CRead
+    ensures { λ r. ⌜ r ≡ readInC (strictText (now (line .entry))) ⌝ }
+{
+    read_in_c(packet::read_text_strictly(line))
+}
+
+// Reads an AX.25 frame strictly: as tusselgro_read_text_strictly.
+#[no_mangle]
+pub extern "C" fn tusselgro_read_frame_strictly(frame: &[u8]) -> CRead
+    ensures { λ r. ⌜ r ≡ readInC (strictFrame (now (frame .entry))) ⌝ }
+{
+    read_in_c(packet::read_frame_strictly(frame))
 }
 
 // Writes a record with its comment, or its text and identifier, as a line of text; refused with 15, 14, 18, 1 or 16. Where the record

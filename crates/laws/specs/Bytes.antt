@@ -108,6 +108,9 @@ capitalY = 0x59
 abbrev pub capitalZ : ℕ
 capitalZ = 0x5a
 
+abbrev pub backslash : ℕ
+backslash = 0x5c
+
 abbrev pub backquote : ℕ
 backquote = 0x60
 

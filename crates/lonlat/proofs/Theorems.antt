@@ -1,6 +1,6 @@
 -- What is read is in range and on the side that was read, what is written reads back, and document 01's P12.
 -- Assumes nothing.
-use mathlib.Core.Path.{_≡_, refl, ap, _∙_}
+use mathlib.Core.Path.{_≡_, refl, sym, ap, _∙_}
 use mathlib.Core.Bool.{Bool, true, false, cond, _&&_}
 use mathlib.Core.List.{List, [], _∷_}
 use Prim.Native.Nat.{ℕ, _-_, _%_, _≤_}
@@ -73,6 +73,16 @@ angle-found most minus width t z sixty w e =
     same : Of (signedOf minus (valueOf t)) (isSixty t) ≡ Of z sixty → signedOf minus (valueOf t) ≡ z
     same q = cc
 
+-- what is told of the minutes is what its digits say
+told-by-digits : {A : Type 0} (most : ℕ) (minus : Bool) (t : List ℕ) (with : AngleRead → A) (sixty : Bool) (r : A) → (with Bad ≡ r → ⊥) → ((z : ℤ) (y : Bool) → with (Of z y) ≡ r → y ≡ sixty)
+    → with (angleIn most minus t) ≡ r → sixty ≡ leb 60 (minutesOf t)
+unfolding angleIn isSixty
+told-by-digits most minus t with sixty r bad same = go (fits most t)
+  where
+    go : (f : Bool) → with (cond f (Of (signedOf minus (valueOf t)) (leb 60 (minutesOf t))) Bad) ≡ r → sixty ≡ leb 60 (minutesOf t)
+    go true e = sym (same (signedOf minus (valueOf t)) (leb 60 (minutesOf t)) e)
+    go false e = absurd (bad e)
+
 pub record LatitudeFound (latitude : Latitude) (blanks : ℕ) (south : Bool) : Type 0 where
   pub angle : AngleFound mostLatitude south (widthOf blanks) (latitude .0)
   pub few : blanks ≤ 5
@@ -119,6 +129,16 @@ module _ (latitude : Latitude) (blanks : ℕ) (south sixty : Bool) where
   pub latitude-side-is-the-angle's : (s : List ℕ) → readLatitude s ≡ lat.Read latitude blanks south sixty → (latitude .0 ≡ pos 0 → ⊥) → south ≡ isMinus (latitude .0)
   latitude-side-is-the-angle's s e = on-one south (latitude .0) (read-latitude-found s e .angle .side)
 
+  -- minutes of 60 or more are told, blanks as 0 (document 02, R-8: "the two digits with blanks and discarded places as 0")
+  pub latitude-minutes-are-the-digits' : (s : List ℕ) → readLatitude s ≡ lat.Read latitude blanks south sixty → sixty ≡ leb 60 (minutesOf (countedDigits (latitudePlaces s)))
+  unfolding readLatitude latitudeIn latitudeWith
+  latitude-minutes-are-the-digits' s e =
+      let t = latitudePlaces s in
+      let minus = eqb (getD s 7 0) capitalS in
+      let g = passed (eqb (length s) 8 && eqb (getD s 4 0) point) _ lat.Refused _ no-latitude e in
+      let k = passed (isNorthOrSouth (getD s 7 0) && restBlank t && leb (blanksIn t) 5) _ lat.Refused _ no-latitude (g .1) in
+      told-by-digits mostLatitude minus (countedDigits t) (latitudeWith (blanksIn t) minus) sixty (lat.Read latitude blanks south sixty) no-latitude (λ z y q. cc) (k .1)
+
 module _ (longitude : Longitude) (west sixty : Bool) where
   no-longitude : lon.Refused ≡ lon.Read longitude west sixty → ⊥
   no-longitude q = let k : _≡_ {A = ℕ} 0 1 = cc in omega arith
@@ -160,6 +180,16 @@ module _ (longitude : Longitude) (west sixty : Bool) where
 
   pub longitude-side-is-the-angle's : (s : List ℕ) (blanks : ℕ) → readLongitude s blanks ≡ lon.Read longitude west sixty → (longitude .0 ≡ pos 0 → ⊥) → west ≡ isMinus (longitude .0)
   longitude-side-is-the-angle's s blanks e = on-one west (longitude .0) (read-longitude-found s blanks e .side)
+
+  -- the same of a longitude, its last digits as 0
+  pub longitude-minutes-are-the-digits' : (s : List ℕ) (blanks : ℕ) → readLongitude s blanks ≡ lon.Read longitude west sixty → sixty ≡ leb 60 (minutesOf (lastAs digit0 blanks (longitudePlaces s)))
+  unfolding readLongitude longitudeIn longitudeWith
+  longitude-minutes-are-the-digits' s blanks e =
+      let minus = eqb (getD s 8 0) capitalW in
+      let g = guard (ltb 5 blanks) lon.OutOfRange _ _ past-five e in
+      let k = passed (eqb (length s) 9 && eqb (getD s 5 0) point) _ lon.Refused _ no-longitude (g .1) in
+      told-by-digits mostLongitude minus (lastAs digit0 blanks (longitudePlaces s)) (longitudeWith minus) sixty (lon.Read longitude west sixty) no-longitude (λ z y q. cc)
+      (passed (isEastOrWest (getD s 8 0)) _ lon.Refused _ no-longitude (k .1) .1)
 
 -- up to five blanks are never out of range
 pub longitude-few : (s : List ℕ) (blanks : ℕ) → blanks ≤ 5 → readLongitude s blanks ≡ lon.OutOfRange → ⊥

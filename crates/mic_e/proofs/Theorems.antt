@@ -8,19 +8,20 @@ use Prim.Native.Nat.{ℕ, _/_, _%_, _≤_, _<_}
 use native.Mathlib.Omega.{arith}
 use borrow.Author.Tests.{ne-eqb, le-ltb, lt-leb, ltb-false}
 use lib.IntN.{ℤ, pos, natAbs}
-use lib.Dec.{eqb, ltb}
+use lib.Dec.{eqb, leb, ltb}
 use lib.ListN.{length, getD, drop}
 use Rattle.laws.specs.Bytes.{capitalN, capitalS}
 use Rattle.laws.proofs.Tests.{guard, passed, picked}
 use Rattle.lonlat.specs.Angle.{mostLatitude, mostLongitude, widthOf}
 use Rattle.numbers.specs.Sign.{isMinus, isOn}
-use Rattle.lonlat.specs.Latitude.{latitudeRefusal, readLatitude}
+use Rattle.lonlat.specs.Digits.{minutesOf}
+use Rattle.lonlat.specs.Latitude.{latitudeRefusal, countedDigits, latitudePlaces, readLatitude}
 use Rattle.lonlat.specs.declared.LatitudeRead.{LatitudeRead}
 use Rattle.lonlat.specs.declared.LatitudeRead.the-variants.{Read as Latitude-read, Refused as Latitude-refused}
 use Rattle.lonlat.specs.declared.Latitude.{Latitude}
 use Rattle.lonlat.specs.declared.Longitude.{Longitude}
 use Rattle.numbers.proofs.Sign.{rejoined, size-signed, on-signed, on-one}
-use Rattle.lonlat.proofs.Theorems.{LatitudeFound, read-latitude-found, latitude-side-is-the-letter's}
+use Rattle.lonlat.proofs.Theorems.{LatitudeFound, read-latitude-found, latitude-side-is-the-letter's, latitude-minutes-are-the-digits'}
 use Rattle.mic_e.specs.Character.{isFlagged}
 use Rattle.mic_e.specs.Motion.{mostSpeed, mostCourse, readMotion, motionField}
 use Rattle.mic_e.specs.Longitude.{readLongitude, longitudeOut, hundredOf, hundredFor, longitudeField}
@@ -179,15 +180,16 @@ no-destination : (d : Destination) → Destination-refused ≡ Destination-read 
 no-destination d e = let z : _≡_ {A = ℕ} 0 1 = cc in omega arith
 
 -- what holds of whatever lonlat read in the text holds of the destination's own
-sited : (P : Latitude → ℕ → Bool → Type 0) (call : List ℕ) (d : Destination) (r : LatitudeRead)
-    → ((l : Latitude) (b : ℕ) (south sixty : Bool) → r ≡ Latitude-read l b south sixty → P l b south)
-    → destinationWith call r ≡ Destination-read d → P (d .latitude) (d .blanks) (d .south)
+sited : (P : Latitude → ℕ → Bool → Bool → Type 0) (call : List ℕ) (d : Destination) (r : LatitudeRead)
+    → ((l : Latitude) (b : ℕ) (south sixty : Bool) → r ≡ Latitude-read l b south sixty → P l b south sixty)
+    → destinationWith call r ≡ Destination-read d → P (d .latitude) (d .blanks) (d .south) (d .sixty)
 unfolding destinationWith
 sited P call d (Latitude-read l b south sixty) h e =
     let p : l ≡ d .latitude = ap latitude-in e in
     let q : b ≡ d .blanks = ap blanks-in e in
     let s : south ≡ d .south = ap south-in e in
-    rw (← p, ← q, ← s) (h l b south sixty refl)
+    let m : sixty ≡ d .sixty = ap sixty-in e in
+    rw (← p, ← q, ← s, ← m) (h l b south sixty refl)
   where
     latitude-in : DestinationRead → Latitude
     latitude-in (Destination-read x) = x .latitude
@@ -200,6 +202,10 @@ sited P call d (Latitude-read l b south sixty) h e =
     south-in : DestinationRead → Bool
     south-in (Destination-read x) = x .south
     south-in Destination-refused = south
+
+    sixty-in : DestinationRead → Bool
+    sixty-in (Destination-read x) = x .sixty
+    sixty-in Destination-refused = sixty
 sited P call d Latitude-refused h e = absurd (no-destination d e)
 
 module _ (call : List ℕ) (d : Destination) (read : readDestination call ≡ Destination-read d) where
@@ -211,7 +217,7 @@ module _ (call : List ℕ) (d : Destination) (read : readDestination call ≡ De
 
   -- in range, on the side that was read, and a multiple of the width that the blanks leave
   pub read-destination-found : LatitudeFound (d .latitude) (d .blanks) (d .south)
-  read-destination-found = sited LatitudeFound call d (readLatitude (textIn call)) (λ l b south sixty. read-latitude-found l b south sixty (textIn call)) carried
+  read-destination-found = sited (λ l b south sixty. LatitudeFound l b south) call d (readLatitude (textIn call)) (λ l b south sixty. read-latitude-found l b south sixty (textIn call)) carried
 
   -- the side that was read is the latitude's own, where it is not 0
   pub destination-side-is-the-angle's : (d .latitude .0 ≡ pos 0 → ⊥) → d .south ≡ isMinus (d .latitude .0)
@@ -221,8 +227,15 @@ module _ (call : List ℕ) (d : Destination) (read : readDestination call ≡ De
   pub destination-side-is-the-fourth's : d .south ≡ not (isFlagged (getD call 3 0))
   unfolding textIn
   destination-side-is-the-fourth's =
-      sited (λ l b south. south ≡ not (isFlagged (getD call 3 0))) call d (readLatitude (textIn call))
+      sited (λ l b south sixty. south ≡ not (isFlagged (getD call 3 0))) call d (readLatitude (textIn call))
       (λ l b south sixty e.
       latitude-side-is-the-letter's l b south sixty (textIn call) e
       ∙ picked (λ letter flag. eqb letter capitalS ≡ not flag) capitalN capitalS refl refl (isFlagged (getD call 3 0)))
+      carried
+
+  -- its minutes are those that its third and fourth characters show, blanks as 0 (document 02, R-8)
+  pub destination-minutes-are-the-digits' : d .sixty ≡ leb 60 (minutesOf (countedDigits (latitudePlaces (textIn call))))
+  destination-minutes-are-the-digits' =
+      sited (λ l b south sixty. sixty ≡ leb 60 (minutesOf (countedDigits (latitudePlaces (textIn call))))) call d (readLatitude (textIn call))
+      (λ l b south sixty. latitude-minutes-are-the-digits' l b south sixty (textIn call))
       carried

@@ -22,13 +22,13 @@ use Rattle.numbers.specs.Numbers.{numberAfter, numberOf, digitOf, digitsOf}
 use Rattle.lonlat.specs.Latitude.{blanksIn, restBlank, countedDigits, latitudeWith, latitudeIn, readLatitude, northOrSouth, blankedPlaces, latitudeText}
 use Rattle.lonlat.specs.Longitude.{longitudeWith, longitudeIn, readLongitude, eastOrWest, longitudeText}
 use Rattle.time.specs.Time.{noTime, isPresent, timeText}
-use Rattle.position.specs.Position.{isNumeric, isUncompressed, withLongitude, withLatitude, readPosition, positionText}
+use Rattle.position.specs.Position.{isNumeric, isUncompressed, withLongitude, withLatitude, readPositionBy, positionText}
 use Rattle.message.specs.Message.{noAddressee}
 use Rattle.body.specs.declared.Kind.the-variants.{Position}
-use Rattle.body.specs.Body.{noSpan, noReport, openingOf, spanFrom, positionBody, positionFrom, timeAt, behindTime, positionedFrom, bodyAfter, readBody}
+use Rattle.body.specs.Body.{noSpan, noReport, openingOf, spanFrom, positionBody, positionFrom, timeAt, behindTime, positionedFrom, bodyAfter, readBodyBy}
 use Rattle.body.specs.Written.{toAs, writtenTo, positionType, positionBytes, bytesAs, bodyBytes, tailAs, tailBytes}
 use Rattle.packet.specs.declared.Record.{Record}
-use Rattle.packet.specs.Packet.{keptTo, recordOf, packetOf, holdsPacket, unlessRefused, bodyBehind, packetAfter, readAnyText, readText}
+use Rattle.packet.specs.Packet.{keptTo, recordOf, packetOf, holdsPacket, unlessRefused, bodyBehind, packetAfter, readAnyTextBy, readTextBy, readText}
 use Rattle.packet.specs.Written.{writtenHeader, bytesOf, textBytes}
 
 -- `X>Y,A,B*,C:!0000.00N/00000.00E-`
@@ -58,10 +58,10 @@ P11-record =
 
 pub P11-read : readText P11-line ≡ record { refusal = 0; «record» = P11-record }
 unfolding
-    readText readAnyText packetAfter unlessRefused bodyBehind holdsPacket packetOf recordOf keptTo readBody openingOf bodyAfter positionedFrom timeAt behindTime positionFrom positionBody spanFrom readHeaderText
+    readTextBy readAnyTextBy packetAfter unlessRefused bodyBehind holdsPacket packetOf recordOf keptTo readBodyBy openingOf bodyAfter positionedFrom timeAt behindTime positionFrom positionBody spanFrom readHeaderText
     readBefore readRoute withHops starsOf pathOf headerOf unlessHeader headerAccepted firstOf othersOf fields onFirst textHops hopThen
     before readHop startsQ hopOf readCall readUnstarred parted callAccepted indexOf utf8 characters after within isZero made
-    joined padTo carried anyOf isHeard isQElement heardIf heardAs callHop readPosition isUncompressed isNumeric withLatitude withLongitude
+    joined padTo carried anyOf isHeard isQElement heardIf heardAs callHop readPositionBy isUncompressed isNumeric withLatitude withLongitude
     readLatitude latitudeIn latitudeWith readLongitude longitudeIn longitudeWith blanksIn restBlank countedDigits every
     lastAs numberAfter numberOf degreesOf minutesOf hundredthsOf valueOf sizeOf fits angleIn signedOf
 P11-read = refl

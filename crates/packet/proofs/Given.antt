@@ -29,14 +29,14 @@ use Rattle.body.specs.declared.Kind.the-variants.{Unknown, Position, MicE, Mess
 use Rattle.body.specs.declared.Span.{Span}
 use Rattle.body.specs.declared.Body.{Body}
 use Rattle.body.specs.declared.BodyRead.{BodyRead}
-use Rattle.body.specs.Body.{noSpan, blankBody, readBody}
+use Rattle.body.specs.Body.{noSpan, blankBody, readBodyBy}
 use Rattle.body.specs.Range.{isPlaceAlone, isReportAlone, isBare, unknownInRange, positionInRange, micEInRange, messageInRange, statusInRange, inRangeAs, bodyInRange, exceptedAs, isExcepted}
 use Rattle.body.proofs.Theorems.{read-comment-within, read-identifier-within, read-range, blank-range, InnerEdges, read-inner-edges, blank-inner-edges}
 use Rattle.packet.specs.declared.Record.{Record}
 use Rattle.packet.specs.declared.PacketRead.{PacketRead}
 use Rattle.packet.specs.Record.{blankRecord, packetRefused}
 use Rattle.packet.specs.Range.{innerInRange, recordInRange}
-use Rattle.packet.specs.Packet.{mostInner, headerTo, keptTo, recordOf, isNowhere, movedSpan, movedBody, innermostOf, recordAround, packetAfter, readAnyText, readText, readFrame}
+use Rattle.packet.specs.Packet.{mostInner, headerTo, keptTo, recordOf, isNowhere, movedSpan, movedBody, innermostOf, recordAround, packetAfter, readAnyTextBy, readTextBy, readFrameBy}
 use Rattle.packet.specs.Outer.{insideOf}
 use Rattle.packet.proofs.Ways.{by-way, every-level}
 
@@ -51,9 +51,9 @@ unfolding packetRefused
 refused-first true n p f = λ z. refl
 refused-first false n p f = f
 
-pub after-blank : (left : ℕ) (h : HeaderRead) (s : List ℕ) → Blank (packetAfter left h s)
+pub after-blank : (strict : Bool) (left : ℕ) (h : HeaderRead) (s : List ℕ) → Blank (packetAfter strict left h s)
 unfolding packetRefused
-after-blank left h s = by-way left h s Blank (λ n y z. refl) (λ o z. absurd (z refl)) (λ a z. absurd (z refl))
+after-blank strict left h s = by-way strict left h s Blank (λ n y z. refl) (λ o z. absurd (z refl)) (λ a z. absurd (z refl))
 
 -- ---- places moved, which nothing but their readers looks at
 
@@ -154,9 +154,9 @@ blank-given left size =
     }
 
 -- with none inside
-module _ (h : Header) (s : List ℕ) (at : ℕ) (e : headerInRange h ≡ true) where
+module _ (strict : Bool) (h : Header) (s : List ℕ) (at : ℕ) (e : headerInRange h ≡ true) where
   abbrev b : BodyRead
-  b = readBody (h .to) s at
+  b = readBodyBy strict (h .to) s at
 
   abbrev kept : Callsign
   kept = keptTo (b .body .kind) (h .to)
@@ -173,10 +173,10 @@ module _ (h : Header) (s : List ℕ) (at : ℕ) (e : headerInRange h ≡ true) w
         blank = λ z. refl;
         header = header-fine;
         innermost = header-fine;
-        body = read-range (h .to) s at kept (kept-blank (b .body .kind) (h .to));
-        edges = read-inner-edges (h .to) s at;
-        within = read-comment-within (h .to) s at;
-        identifier-within = read-identifier-within (h .to) s at;
+        body = read-range strict (h .to) s at kept (kept-blank (b .body .kind) (h .to));
+        edges = read-inner-edges strict (h .to) s at;
+        within = read-comment-within strict (h .to) s at;
+        identifier-within = read-identifier-within strict (h .to) s at;
       }
 
 -- around another
@@ -201,16 +201,16 @@ module _ (left : ℕ) (h : Header) (s : List ℕ) (at : ℕ) (r : Record) where
         identifier-within = moved-within at s (r .body .identifier) (g .identifier-within);
       }
 
-pub after-given : (left : ℕ) (h : HeaderRead) (s : List ℕ) → headerInRange (h .header) ≡ true → Given left (length s) (packetAfter left h s .«record»)
-after-given =
-    every-level (λ left s r. Given left (length s) r) (λ h. headerInRange h ≡ true) (λ left s. blank-given left (length s)) (λ left h s at e. own-given h s at e left)
+pub after-given : (strict : Bool) (left : ℕ) (h : HeaderRead) (s : List ℕ) → headerInRange (h .header) ≡ true → Given left (length s) (packetAfter strict left h s .«record»)
+after-given strict =
+    every-level strict (λ left s r. Given left (length s) r) (λ h. headerInRange h ≡ true) (λ left s. blank-given left (length s)) (λ left h s at e. own-given strict h s at e left)
     (λ left h s at r. around-given left h s (at + 1) r) any-text-is-in-range
 
 -- a text inside: its number and its places
-pub inside-given : (left : ℕ) (t : List ℕ) (p : PacketRead) → p ≡ insideOf left t → Given (left - 1) (length t) (p .«record»)
+pub inside-given : (strict : Bool) (left : ℕ) (t : List ℕ) (p : PacketRead) → p ≡ insideOf strict left t → Given (left - 1) (length t) (p .«record»)
 unfolding insideOf packetRefused
-inside-given zero t p e = rw e (blank-given (0 - 1) (length t))
-inside-given (suc k) t p e = rw (e, sub-one (suc k)) (after-given k (readHeaderText t) t (any-text-is-in-range t))
+inside-given strict zero t p e = rw e (blank-given (0 - 1) (length t))
+inside-given strict (suc k) t p e = rw (e, sub-one (suc k)) (after-given strict k (readHeaderText t) t (any-text-is-in-range t))
 
 -- ---- the range of the whole record
 
@@ -232,18 +232,19 @@ module _ {left size : ℕ} {r : Record} (few : left ≤ mostInner) (g : Given le
 
 -- ---- texts and frames
 
-pub any-text-given : (s : List ℕ) → Given mostInner (length s) (readAnyText s .«record»)
-unfolding readAnyText
-any-text-given s = after-given mostInner (readHeaderText s) s (any-text-is-in-range s)
+module _ (strict : Bool) (s : List ℕ) where
+  pub any-text-given : Given mostInner (length s) (readAnyTextBy strict s .«record»)
+  unfolding readAnyTextBy
+  any-text-given = after-given strict mostInner (readHeaderText s) s (any-text-is-in-range s)
 
-pub text-given : (s : List ℕ) → Given mostInner (length s) (readText s .«record»)
-unfolding readText packetRefused
-text-given s = go (ltb mostBytes (length s))
-  where
-    go : (t : Bool) → Given mostInner (length s) (cond t (packetRefused 1) (readAnyText s) .«record»)
-    go true = blank-given mostInner (length s)
-    go false = any-text-given s
+  pub text-given : Given mostInner (length s) (readTextBy strict s .«record»)
+  unfolding readTextBy packetRefused
+  text-given = go (ltb mostBytes (length s))
+    where
+      go : (t : Bool) → Given mostInner (length s) (cond t (packetRefused 1) (readAnyTextBy strict s) .«record»)
+      go true = blank-given mostInner (length s)
+      go false = any-text-given
 
-pub frame-given : (s : List ℕ) → Given mostInner (length s) (readFrame s .«record»)
-unfolding readFrame
-frame-given s = after-given mostInner (readFrameHeader s) s (frame-is-in-range s)
+  pub frame-given : Given mostInner (length s) (readFrameBy strict s .«record»)
+  unfolding readFrameBy
+  frame-given = after-given strict mostInner (readFrameHeader s) s (frame-is-in-range s)

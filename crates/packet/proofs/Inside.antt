@@ -18,11 +18,12 @@ use Rattle.header.specs.Header.{mostBytes, headerRefused}
 use Rattle.header.specs.Text.{readHeaderText, readTextHeader}
 use Rattle.header.specs.Frame.{readFrameHeader}
 use Rattle.header.proofs.Theorems.{any-text-is-in-range}
+use Rattle.position.specs.Position.{usually}
 use Rattle.body.specs.declared.Span.{Span}
 use Rattle.body.proofs.TextBack.{spanned}
 use Rattle.packet.specs.declared.PacketRead.{PacketRead}
 use Rattle.packet.specs.Record.{packetRefused}
-use Rattle.packet.specs.Packet.{mostInner, holdsPacket, isNowhere, movedSpan, recordAround, packetAround, unlessRefused, packetAfter, readAnyText, readText}
+use Rattle.packet.specs.Packet.{mostInner, holdsPacket, isNowhere, movedSpan, recordAround, packetAround, unlessRefused, packetAfter, readAnyTextBy, readAnyText, readTextBy, readText}
 use Rattle.packet.specs.Outer.{insideOf}
 use Rattle.packet.proofs.Ways.{accepted, inside, by-body, refused-is, alone-is, around-is}
 use Rattle.packet.proofs.Given.{after-given}
@@ -99,40 +100,40 @@ module _ (left : ℕ) (s : List ℕ) (h : HeaderRead) where
   rest-over e = and-both (isHeld s h) rest e .1
 
 -- the whole is then refused with 19, whatever the last of them is
-over-is-19 : (left : ℕ) (s : List ℕ) (h : HeaderRead) → holdsOver left s h ≡ true → packetAfter left h s ≡ packetRefused 19
+over-is-19 : (left : ℕ) (s : List ℕ) (h : HeaderRead) → holdsOver left s h ≡ true → packetAfter usually left h s ≡ packetRefused 19
 unfolding insideOf
-over-is-19 zero s h e = let x = held s h e in around-is zero h s (x .read) (x .holds) ∙ around-fifth (h .header) (insideAt h)
+over-is-19 zero s h e = let x = held s h e in around-is usually zero h s (x .read) (x .holds) ∙ around-fifth (h .header) (insideAt h)
 over-is-19 (suc k) s h e =
     let x = first-held k s h e in
-    around-is (suc k) h s (x .read) (x .holds)
+    around-is usually (suc k) h s (x .read) (x .holds)
     ∙ ap (packetAround (h .header) (insideAt h)) (over-is-19 k (insideText s h) (readHeaderText (insideText s h)) (rest-over k s h e)) ∙ around-fifth (h .header) (insideAt h)
 
 -- without them one level more gives the same packet
-module _ (left : ℕ) (s : List ℕ) (h : HeaderRead) (same : isHeld s h ≡ true → inside left h s ≡ inside (suc left) h s) where
-  after-same : packetAfter left h s ≡ packetAfter (suc left) h s
+module _ (left : ℕ) (s : List ℕ) (h : HeaderRead) (same : isHeld s h ≡ true → inside usually left h s ≡ inside usually (suc left) h s) where
+  after-same : packetAfter usually left h s ≡ packetAfter usually (suc left) h s
   after-same =
-      by-body (packetAfter left h s ≡ packetAfter (suc left) h s) h s
-      (λ z. refused-is left h s z ∙ sym (refused-is (suc left) h s z))
-      (λ z e. alone-is left h s z e ∙ sym (alone-is (suc left) h s z e))
-      (λ z e. around-is left h s z e ∙ ap (packetAround (h .header) (insideAt h)) (same (is-held s h (record { read = z; holds = e }))) ∙ sym (around-is (suc left) h s z e))
+      by-body (packetAfter usually left h s ≡ packetAfter usually (suc left) h s) h s
+      (λ z. refused-is usually left h s z ∙ sym (refused-is usually (suc left) h s z))
+      (λ z e. alone-is usually left h s z e ∙ sym (alone-is usually (suc left) h s z e))
+      (λ z e. around-is usually left h s z e ∙ ap (packetAround (h .header) (insideAt h)) (same (is-held s h (record { read = z; holds = e }))) ∙ sym (around-is usually (suc left) h s z e))
 
-enough : (left : ℕ) (s : List ℕ) (h : HeaderRead) → holdsOver left s h ≡ false → packetAfter left h s ≡ packetAfter (suc left) h s
+enough : (left : ℕ) (s : List ℕ) (h : HeaderRead) → holdsOver left s h ≡ false → packetAfter usually left h s ≡ packetAfter usually (suc left) h s
 unfolding insideOf
 enough zero s h n = after-same zero s h (λ e. absurd (true≢false (sym e ∙ n)))
 enough (suc k) s h n = after-same (suc k) s h (λ e. enough k (insideText s h) (readHeaderText (insideText s h)) (rw e at n))
 
 -- and a packet that is accepted with one level more has them all inside
-over-number : (left : ℕ) (s : List ℕ) (h : HeaderRead) → holdsOver left s h ≡ true → packetAfter (suc left) h s .refusal ≡ 0 → left + 1 ≤ packetAfter (suc left) h s .«record» .inner
+over-number : (left : ℕ) (s : List ℕ) (h : HeaderRead) → holdsOver left s h ≡ true → packetAfter usually (suc left) h s .refusal ≡ 0 → left + 1 ≤ packetAfter usually (suc left) h s .«record» .inner
 unfolding insideOf
-over-number zero s h e = let x = held s h e in rw (around-is 1 h s (x .read) (x .holds)) (λ a. omega (arith, around-number (h .header) (insideAt h) (inside 1 h s) a))
+over-number zero s h e = let x = held s h e in rw (around-is usually 1 h s (x .read) (x .holds)) (λ a. omega (arith, around-number (h .header) (insideAt h) (inside usually 1 h s) a))
 over-number (suc k) s h e =
     let x = first-held k s h e in
-    rw (around-is (suc (suc k)) h s (x .read) (x .holds))
+    rw (around-is usually (suc (suc k)) h s (x .read) (x .holds))
     (λ a.
     omega (
       arith,
-      around-number (h .header) (insideAt h) (inside (suc (suc k)) h s) a,
-      over-number k (insideText s h) (readHeaderText (insideText s h)) (rest-over k s h e) (inside-accepted (h .header) (insideAt h) (inside (suc (suc k)) h s) a),
+      around-number (h .header) (insideAt h) (inside usually (suc (suc k)) h s) a,
+      over-number k (insideText s h) (readHeaderText (insideText s h)) (rest-over k s h e) (inside-accepted (h .header) (insideAt h) (inside usually (suc (suc k)) h s) a),
     ))
 
 -- ---- the whole, by what the text inside is by itself
@@ -143,7 +144,7 @@ holdsFour t = holdsOver 3 t (readHeaderText t)
 
 module _ (t : List ℕ) where
   under-four : readAnyText t .refusal ≡ 0 → readAnyText t .«record» .inner ≤ 3 → holdsFour t ≡ false
-  unfolding readAnyText
+  unfolding readAnyTextBy
   under-four z few = go (holdsFour t) refl
     where
       go : (b : Bool) → holdsFour t ≡ b → b ≡ false
@@ -151,11 +152,11 @@ module _ (t : List ℕ) where
       go false e = refl
 
   pub four-inside : readAnyText t .«record» .inner ≡ 4 → holdsFour t ≡ true
-  unfolding readAnyText
+  unfolding readAnyTextBy
   four-inside four = go (holdsFour t) refl
     where
-      three : holdsFour t ≡ false → packetAfter mostInner (readHeaderText t) t .«record» .inner ≤ 3
-      three e = rw (← enough 3 t (readHeaderText t) e) (after-given 3 (readHeaderText t) t (any-text-is-in-range t) .number)
+      three : holdsFour t ≡ false → packetAfter usually mostInner (readHeaderText t) t .«record» .inner ≤ 3
+      three e = rw (← enough 3 t (readHeaderText t) e) (after-given usually 3 (readHeaderText t) t (any-text-is-in-range t) .number)
 
       go : (b : Bool) → holdsFour t ≡ b → b ≡ true
       go true e = refl
@@ -165,37 +166,37 @@ module _ (s : List ℕ) (h : HeaderRead) (x : Holds s h) where
   abbrev text : List ℕ
   text = insideText s h
 
-  the-whole : packetAfter mostInner h s ≡ packetAround (h .header) (insideAt h) (packetAfter 3 (readHeaderText text) text)
-  the-whole = around-is mostInner h s (x .read) (x .holds) ∙ (unfold insideOf in refl)
+  the-whole : packetAfter usually mostInner h s ≡ packetAround (h .header) (insideAt h) (packetAfter usually 3 (readHeaderText text) text)
+  the-whole = around-is usually mostInner h s (x .read) (x .holds) ∙ (unfold insideOf in refl)
 
   -- 19, whatever stands behind the brace
-  pub after-fifth : holdsFour text ≡ true → packetAfter mostInner h s ≡ packetRefused 19
+  pub after-fifth : holdsFour text ≡ true → packetAfter usually mostInner h s ≡ packetRefused 19
   after-fifth e = the-whole ∙ ap (packetAround (h .header) (insideAt h)) (over-is-19 3 text (readHeaderText text) e) ∙ around-fifth (h .header) (insideAt h)
 
-  after-around : holdsFour text ≡ false → packetAfter mostInner h s ≡ packetAround (h .header) (insideAt h) (readAnyText text)
-  unfolding readAnyText
+  after-around : holdsFour text ≡ false → packetAfter usually mostInner h s ≡ packetAround (h .header) (insideAt h) (readAnyText text)
+  unfolding readAnyTextBy
   after-around n = the-whole ∙ ap (packetAround (h .header) (insideAt h)) (enough 3 text (readHeaderText text) n)
 
   -- with up to three packets inside it: the header around it, and one more
   pub after-accepted : readAnyText text .refusal ≡ 0 → readAnyText text .«record» .inner ≤ 3
-      → packetAfter mostInner h s ≡ accepted (recordAround (h .header) (insideAt h) (readAnyText text .«record»))
+      → packetAfter usually mostInner h s ≡ accepted (recordAround (h .header) (insideAt h) (readAnyText text .«record»))
   after-accepted z few = after-around (under-four text z few) ∙ around-accepted (h .header) (insideAt h) (readAnyText text) z
 
   -- a fault inside keeps its number
-  pub after-faulty : (readAnyText text .refusal ≡ 0 → ⊥) → holdsFour text ≡ false → packetAfter mostInner h s ≡ packetRefused (readAnyText text .refusal)
+  pub after-faulty : (readAnyText text .refusal ≡ 0 → ⊥) → holdsFour text ≡ false → packetAfter usually mostInner h s ≡ packetRefused (readAnyText text .refusal)
   after-faulty z n = after-around n ∙ around-refused (h .header) (insideAt h) (readAnyText text) z
 
   -- no header stands inside
-  pub after-nothing : text ≡ [] → packetAfter mostInner h s ≡ packetRefused 2
+  pub after-nothing : text ≡ [] → packetAfter usually mostInner h s ≡ packetRefused 2
   after-nothing e =
       the-whole
-      ∙ ap (λ (l : List ℕ). packetAround (h .header) (insideAt h) (packetAfter 3 (readHeaderText l) l)) e
+      ∙ ap (λ (l : List ℕ). packetAround (h .header) (insideAt h) (packetAfter usually 3 (readHeaderText l) l)) e
       ∙ (unfold packetAfter unlessRefused readHeaderText indexOf headerRefused packetRefused packetAround in refl)
 
 -- ---- a line or a frame: the text inside is no longer than it
 
 short-inside : (s : List ℕ) (k : ℕ) → ltb mostBytes (length s) ≡ false → readText (drop k s) ≡ readAnyText (drop k s)
-unfolding readText
+unfolding readTextBy
 short-inside s k e = let l = ltb-false mostBytes (length s) e in rw (le-ltb mostBytes (length (drop k s)) (omega (arith, length-drop k s)))
 
 module _ (s : List ℕ) (k : ℕ) where

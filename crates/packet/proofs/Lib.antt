@@ -10,6 +10,7 @@ pub mod Times
 pub mod Texts
 pub mod Marks
 pub mod WithoutQ
+pub mod Strict
 pub mod Theorems
 pub mod Cases
 pub mod Unique

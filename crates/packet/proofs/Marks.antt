@@ -25,13 +25,14 @@ use Rattle.header.proofs.Theorems.{any-text-is-kept, frame-has-no-mark, blank-h
 use Rattle.body.specs.declared.Kind.{Kind}
 use Rattle.body.specs.declared.Kind.the-variants.{Unknown, Position, MicE, Message, Status}
 use Rattle.body.specs.declared.Body.{Body}
+use Rattle.position.specs.Position.{usually}
 use Rattle.body.specs.Body.{readBody}
 use Rattle.body.specs.Range.{micEInRange, inRangeAs, bodyInRange}
 use Rattle.body.specs.Written.{toAs, writtenTo}
 use Rattle.packet.specs.declared.Record.{Record}
 use Rattle.packet.specs.Record.{blankRecord, packetRefused}
 use Rattle.packet.specs.Range.{innerInRange, recordInRange, rangeRefusal}
-use Rattle.packet.specs.Packet.{mostInner, headerTo, keptTo, recordOf, innermostOf, recordAround, packetAfter, readAnyText, readText, readFrame}
+use Rattle.packet.specs.Packet.{mostInner, headerTo, keptTo, recordOf, innermostOf, recordAround, packetAfter, readAnyTextBy, readAnyText, readTextBy, readText, readFrameBy, readFrame}
 use Rattle.packet.specs.Written.{writtenHeader, bytesOf, textBytes, frameBytes, contentRefusal, recordRefusal, textRefusal, frameRefusal}
 use Rattle.packet.proofs.Ways.{inside, by-way}
 
@@ -139,14 +140,14 @@ blank-unmarked : unmarked (blankRecord .header) ≡ blankRecord .header
 unfolding blankRecord
 blank-unmarked = blank-has-no-mark
 
-unmarked-after : (left : ℕ) (h : HeaderRead) (s : List ℕ) → unmarked (h .header) ≡ h .header → unmarked (packetAfter left h s .«record» .header) ≡ packetAfter left h s .«record» .header
+unmarked-after : (left : ℕ) (h : HeaderRead) (s : List ℕ) → unmarked (h .header) ≡ h .header → unmarked (packetAfter usually left h s .«record» .header) ≡ packetAfter usually left h s .«record» .header
 unfolding packetRefused recordOf recordAround
 unmarked-after left h s e =
-    by-way left h s (λ p. unmarked (p .«record» .header) ≡ p .«record» .header) (λ n z. blank-unmarked)
+    by-way usually left h s (λ p. unmarked (p .«record» .header) ≡ p .«record» .header) (λ n z. blank-unmarked)
     (λ o. kept-unmarked (readBody (h .header .to) s (h .body) .body .kind) (h .header) e) (λ a. e)
 
 pub unmarked-frame-header : (s : List ℕ) → unmarked (readFrame s .«record» .header) ≡ readFrame s .«record» .header
-unfolding readFrame
+unfolding readFrameBy
 unmarked-frame-header s = unmarked-after mostInner (readFrameHeader s) s (frame-has-no-mark s)
 
 -- ---- a line read
@@ -163,22 +164,22 @@ pub record LineKept (s : List ℕ) (h : HeaderRead) (r : Record) : Type 0 where
   pub shown : r .header .to ≡ shownTo r to
   pub text : take (h .body) s ≡ headerTyped source destination (h .stars) (headerTo (r .header) to)
 
-after-kept : (left : ℕ) (h : HeaderRead) (s : List ℕ) → (h .refusal ≡ 0 → Kept s h) → packetAfter left h s .refusal ≡ 0 → LineKept s h (packetAfter left h s .«record»)
+after-kept : (left : ℕ) (h : HeaderRead) (s : List ℕ) → (h .refusal ≡ 0 → Kept s h) → packetAfter usually left h s .refusal ≡ 0 → LineKept s h (packetAfter usually left h s .«record»)
 unfolding packetRefused recordOf recordAround shownTo
 after-kept left h s f =
-    by-way left h s (λ p. p .refusal ≡ 0 → LineKept s h (p .«record»)) (λ n y z. absurd (y z))
+    by-way usually left h s (λ p. p .refusal ≡ 0 → LineKept s h (p .«record»)) (λ n y z. absurd (y z))
     (λ o z. let k = f (o .header) in record { source = k .source; destination = k .destination; to = h .header .to; shown = refl; text = k .text })
-    (λ a z. let k = f (a .header) in record { source = k .source; destination = k .destination; to = h .header .to; shown = sym (around-shown (inside left h s .«record» .inner) _ _); text = k .text })
+    (λ a z. let k = f (a .header) in record { source = k .source; destination = k .destination; to = h .header .to; shown = sym (around-shown (inside usually left h s .«record» .inner) _ _); text = k .text })
   where
     around-shown : (n : ℕ) (x y : Callsign) → cond (eqb (n + 1) 0) x y ≡ y
     around-shown n x y = rw (ne-eqb (n + 1) 0 (λ e. omega (arith, e)))
 
 pub any-text-line-kept : (s : List ℕ) → readAnyText s .refusal ≡ 0 → LineKept s (readHeaderText s) (readAnyText s .«record»)
-unfolding readAnyText
+unfolding readAnyTextBy
 any-text-line-kept s = after-kept mostInner (readHeaderText s) s (any-text-is-kept s)
 
 pub text-line-kept : (s : List ℕ) → readText s .refusal ≡ 0 → LineKept s (readTextHeader s) (readText s .«record»)
-unfolding readText readTextHeader packetRefused
+unfolding readTextBy readTextHeader packetRefused
 text-line-kept s = go (ltb mostBytes (length s))
   where
     go : (t : Bool) → cond t (packetRefused 1) (readAnyText s) .refusal ≡ 0 → LineKept s (cond t (headerRefused 1) (readHeaderText s)) (cond t (packetRefused 1) (readAnyText s) .«record»)

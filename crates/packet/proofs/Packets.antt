@@ -18,7 +18,7 @@ use Rattle.body.specs.declared.Body.{Body}
 use Rattle.packet.specs.declared.Record.{Record}
 use Rattle.packet.specs.declared.PacketRead.{PacketRead}
 use Rattle.packet.specs.Record.{packetRefused}
-use Rattle.packet.specs.Packet.{mostInner, holdsPacket, isNowhere, movedSpan, movedBody, innermostOf, recordAround, packetAround, unlessRefused, packetAfter, readAnyText, readText, readFrame}
+use Rattle.packet.specs.Packet.{mostInner, holdsPacket, isNowhere, movedSpan, movedBody, innermostOf, recordAround, packetAround, unlessRefused, packetAfter, readAnyTextBy, readTextBy, readFrameBy}
 
 -- ---- a packet around another
 
@@ -69,19 +69,19 @@ module _ (s : List ℕ) (at : ℕ) where
 
 -- ---- a text of any length; a frame or a line
 
-pub any-is : (s : List ℕ) → readAnyText s ≡ packetAfter mostInner (readHeaderText s) s
-unfolding readAnyText
-any-is s = refl
+pub any-is : (strict : Bool) (s : List ℕ) → readAnyTextBy strict s ≡ packetAfter strict mostInner (readHeaderText s) s
+unfolding readAnyTextBy
+any-is strict s = refl
 
-pub frame-is : (s : List ℕ) → readFrame s ≡ packetAfter mostInner (readFrameHeader s) s
-unfolding readFrame
-frame-is s = refl
+pub frame-is : (strict : Bool) (s : List ℕ) → readFrameBy strict s ≡ packetAfter strict mostInner (readFrameHeader s) s
+unfolding readFrameBy
+frame-is strict s = refl
 
 -- 1 is the header's
-pub line-read : (s : List ℕ) → packetAfter mostInner (readTextHeader s) s ≡ readText s
-unfolding readText readAnyText readTextHeader headerRefused
-line-read s = go (ltb mostBytes (length s))
+pub line-read : (strict : Bool) (s : List ℕ) → packetAfter strict mostInner (readTextHeader s) s ≡ readTextBy strict s
+unfolding readTextBy readAnyTextBy readTextHeader headerRefused
+line-read strict s = go (ltb mostBytes (length s))
   where
-    go : (t : Bool) → packetAfter mostInner (cond t (headerRefused 1) (readHeaderText s)) s ≡ cond t (packetRefused 1) (packetAfter mostInner (readHeaderText s) s)
+    go : (t : Bool) → packetAfter strict mostInner (cond t (headerRefused 1) (readHeaderText s)) s ≡ cond t (packetRefused 1) (packetAfter strict mostInner (readHeaderText s) s)
     go true = unfold packetAfter unlessRefused in refl
     go false = refl

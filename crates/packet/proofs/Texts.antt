@@ -21,6 +21,7 @@ use Rattle.header.specs.Frame.{readFrameHeader}
 use Rattle.header.specs.Range.{headerInRange, isBlankHeader, textRefusal as headerTextRefusal, frameRefusal as headerFrameRefusal}
 use Rattle.body.specs.declared.Kind.{Kind}
 use Rattle.body.specs.declared.Kind.the-variants.{Message, Status}
+use Rattle.position.specs.Position.{usually}
 use Rattle.body.specs.Body.{readBody}
 use Rattle.body.specs.Range.{bodyInRange}
 use Rattle.body.specs.Written.{bodyBytes, tailBytes, bodyRefusal, writeBody}
@@ -29,7 +30,7 @@ use Rattle.body.proofs.Theorems.{read-message-or-18, read-status-or-18, message
 use Rattle.packet.specs.declared.Record.{Record}
 use Rattle.packet.specs.declared.PacketRead.{PacketRead}
 use Rattle.packet.specs.Record.{packetRefused}
-use Rattle.packet.specs.Packet.{mostInner, headerTo, recordOf, packetOf, holdsPacket, innermostOf, packetAfter, readAnyText, readText, readFrame}
+use Rattle.packet.specs.Packet.{mostInner, headerTo, recordOf, packetOf, holdsPacket, innermostOf, packetAfter, readAnyTextBy, readAnyText, readTextBy, readText, readFrameBy, readFrame}
 use Rattle.packet.specs.Range.{innerInRange, recordInRange, rangeRefusal}
 use Rattle.packet.specs.Written.{writtenHeader, bytesOf, textBytes, frameBytes, contentRefusal, recordRefusal, textRefusal, frameRefusal}
 use Rattle.packet.specs.Private.{headBytes, headRefusal}
@@ -55,19 +56,19 @@ unfolding holdsPacket
 starts-alone k s h n x = rw (x .first, ne-eqb k closingBrace n) (and-false (ltb (h .body) (length s)))
 
 module _ (kind : Kind) (k : ℕ) (n : k ≡ closingBrace → ⊥) (so : (h : HeaderRead) (s : List ℕ) (x : Starts k s h) → TextOr18 s (h .body) (x .some) kind (readBody (h .header .to) s (h .body))) where
-  after-text : (left : ℕ) (h : HeaderRead) (s : List ℕ) → Starts k s h → PacketText kind s h (packetAfter left h s)
+  after-text : (left : ℕ) (h : HeaderRead) (s : List ℕ) → Starts k s h → PacketText kind s h (packetAfter usually left h s)
   unfolding packetOf recordOf packetRefused
   after-text left h s x =
       let b = readBody (h .header .to) s (h .body) in
-      rw (alone-is left h s (x .read) (starts-alone k s h n x))
+      rw (alone-is usually left h s (x .read) (starts-alone k s h n x))
       (⊎-elim (λ y. rw (eq-eqb (b .refusal) 0 (y .0)) (inl (refl, y .1))) (λ e. rw e (inr refl)) (so h s x))
 
   any-text-kind : (s : List ℕ) → Starts k s (readHeaderText s) → PacketText kind s (readHeaderText s) (readAnyText s)
-  unfolding readAnyText
+  unfolding readAnyTextBy
   any-text-kind s = after-text mostInner (readHeaderText s) s
 
   text-kind : (s : List ℕ) → Starts k s (readTextHeader s) → PacketText kind s (readTextHeader s) (readText s)
-  unfolding readText readTextHeader headerRefused
+  unfolding readTextBy readTextHeader headerRefused
   text-kind s = go (ltb mostBytes (length s))
     where
       go : (t : Bool) → Starts k s (cond t (headerRefused 1) (readHeaderText s)) → PacketText kind s (cond t (headerRefused 1) (readHeaderText s)) (cond t (packetRefused 1) (readAnyText s))
@@ -75,7 +76,7 @@ module _ (kind : Kind) (k : ℕ) (n : k ≡ closingBrace → ⊥) (so : (h : Hea
       go false x = any-text-kind s x
 
   frame-kind : (s : List ℕ) → Starts k s (readFrameHeader s) → PacketText kind s (readFrameHeader s) (readFrame s)
-  unfolding readFrame
+  unfolding readFrameBy
   frame-kind s = after-text mostInner (readFrameHeader s) s
 
 message-so : (h : HeaderRead) (s : List ℕ) (x : Starts colon s h) → TextOr18 s (h .body) (x .some) Message (readBody (h .header .to) s (h .body))

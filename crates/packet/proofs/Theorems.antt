@@ -1,5 +1,5 @@
--- The crate's theorems: what is read, the boxes of it, the marks of dropped zeros, its time, messages and status lines, packets inside
--- packets, Q elements in a frame, and what of it is not written.
+-- The crate's theorems: what is read, as usually and strictly, the boxes of it, the marks of dropped zeros, its time, messages and
+-- status lines, packets inside packets, Q elements in a frame, and what of it is not written.
 -- Assumes nothing.
 use mathlib.Core.Path.{_≡_, refl, ap, _∙_}
 use mathlib.Core.Bool.{Bool, true, false, not, cond}
@@ -18,6 +18,7 @@ use Rattle.header.specs.Frame.{readFrameHeader}
 use Rattle.header.specs.Range.{frameRefusal as headerFrameRefusal}
 use Rattle.header.proofs.Marks.{unmarked}
 use Rattle.message.specs.Message.{addresseeBytes}
+use Rattle.position.specs.Position.{usually, strictly}
 use Rattle.body.specs.declared.Kind.the-variants.{Message, Status}
 use Rattle.body.specs.declared.Span.{Span}
 use Rattle.body.specs.Range.{isExcepted}
@@ -27,7 +28,7 @@ use Rattle.packet.specs.declared.Record.{Record}
 use Rattle.packet.specs.declared.PacketRead.{PacketRead}
 use Rattle.packet.specs.Record.{blankRecord, packetRefused}
 use Rattle.packet.specs.Range.{recordInRange, rangeRefusal}
-use Rattle.packet.specs.Packet.{mostInner, movedSpan, recordAround, packetAfter, readAnyText, readText, readFrame}
+use Rattle.packet.specs.Packet.{mostInner, movedSpan, recordAround, packetAfter, readAnyTextBy, readAnyText, readTextBy, readText, strictText, readFrameBy, readFrame, strictFrame}
 use Rattle.packet.specs.Written.{writtenHeader, textBytes, frameBytes, orElse, contentRefusal, recordRefusal, textRefusal, frameRefusal}
 use Rattle.packet.proofs.Packets.{any-is, line-read, frame-is}
 use Rattle.packet.proofs.Order.{or-or, inside-refuses}
@@ -36,65 +37,76 @@ use Rattle.packet.proofs.Given.{Given, after-blank, refused-first, give
 use Rattle.packet.proofs.Times.{TimeKept, any-text-time-kept, text-time-kept, frame-time-kept}
 use Rattle.packet.proofs.Texts.{PacketText, Starts, any-text-message, any-text-status, text-message, text-status, frame-message, frame-status, message-line-short, message-line-fits, message-frame-fits, status-line-fits, status-frame-fits}
 use Rattle.packet.proofs.Marks.{unmarkedRecord, unmarked-text-bytes, unmarked-frame-bytes, unmarked-refusal-of-text, unmarked-refusal-of-frame, unmarked-blank-record, unmarked-frame-header, LineKept, any-text-line-kept, text-line-kept}
+use Rattle.packet.proofs.Strict.{Stricter, isSoundPacket, after-stricter}
 use Rattle.packet.proofs.WithoutQ.{recordWithoutQ, without-q-bytes, without-q-refusal}
 
--- ---- "A refused decode returns the blank record"
+-- ---- "A refused decode returns the blank record", as usually or strictly
 
-pub any-text-refused-blank : (s : List ℕ) → (readAnyText s .refusal ≡ 0 → ⊥) → readAnyText s ≡ packetRefused (readAnyText s .refusal)
-unfolding readAnyText
-any-text-refused-blank s = after-blank mostInner (readHeaderText s) s
+module _ (strict : Bool) (s : List ℕ) where
+  pub any-text-refused-blank : (readAnyTextBy strict s .refusal ≡ 0 → ⊥) → readAnyTextBy strict s ≡ packetRefused (readAnyTextBy strict s .refusal)
+  unfolding readAnyTextBy
+  any-text-refused-blank = after-blank strict mostInner (readHeaderText s) s
 
-pub text-refused-blank : (s : List ℕ) → (readText s .refusal ≡ 0 → ⊥) → readText s ≡ packetRefused (readText s .refusal)
-unfolding readText
-text-refused-blank s = refused-first (ltb mostBytes (length s)) 1 (readAnyText s) (any-text-refused-blank s)
+  pub text-refused-blank : (readTextBy strict s .refusal ≡ 0 → ⊥) → readTextBy strict s ≡ packetRefused (readTextBy strict s .refusal)
+  unfolding readTextBy
+  text-refused-blank = refused-first (ltb mostBytes (length s)) 1 (readAnyTextBy strict s) any-text-refused-blank
 
-pub frame-refused-blank : (s : List ℕ) → (readFrame s .refusal ≡ 0 → ⊥) → readFrame s ≡ packetRefused (readFrame s .refusal)
-unfolding readFrame
-frame-refused-blank s = after-blank mostInner (readFrameHeader s) s
+  pub frame-refused-blank : (readFrameBy strict s .refusal ≡ 0 → ⊥) → readFrameBy strict s ≡ packetRefused (readFrameBy strict s .refusal)
+  unfolding readFrameBy
+  frame-refused-blank = after-blank strict mostInner (readFrameHeader s) s
+
+-- ---- document 02, R-8: "a line accepted strictly gives the same record there as usually"; which numbers a strict refusal has beside the
+-- usual answer, and what is accepted strictly: what is accepted usually, with all minutes below 60 and a table byte of the class
+
+pub text-strictly : (s : List ℕ) → Stricter (readText s) (strictText s) (isSoundPacket mostInner (readTextHeader s) s)
+text-strictly s = rw (← line-read usually s, ← line-read strictly s) (after-stricter (readTextHeader s) s)
+
+pub frame-strictly : (s : List ℕ) → Stricter (readFrame s) (strictFrame s) (isSoundPacket mostInner (readFrameHeader s) s)
+frame-strictly s = rw (frame-is usually s, frame-is strictly s) (after-stricter (readFrameHeader s) s)
 
 -- ---- what is read is in range but for a Mic-E angle of 180 degrees and a position symbol byte of 128 or more
 
 pub any-text-range : (s : List ℕ) → recordInRange (readAnyText s .«record») ≡ not (isExcepted (readAnyText s .«record» .body))
-any-text-range s = given-range (omega arith) (any-text-given s)
+any-text-range s = given-range (omega arith) (any-text-given usually s)
 
 pub text-range : (s : List ℕ) → recordInRange (readText s .«record») ≡ not (isExcepted (readText s .«record» .body))
-text-range s = given-range (omega arith) (text-given s)
+text-range s = given-range (omega arith) (text-given usually s)
 
 pub frame-range : (s : List ℕ) → recordInRange (readFrame s .«record») ≡ not (isExcepted (readFrame s .«record» .body))
-frame-range s = given-range (omega arith) (frame-given s)
+frame-range s = given-range (omega arith) (frame-given usually s)
 
 -- ---- a comment or a text is a place in the input
 
 pub any-text-comment-within : (s : List ℕ) → readAnyText s .«record» .body .comment .at + readAnyText s .«record» .body .comment .len ≤ length s
-any-text-comment-within s = any-text-given s .within
+any-text-comment-within s = any-text-given usually s .within
 
 pub text-comment-within : (s : List ℕ) → readText s .«record» .body .comment .at + readText s .«record» .body .comment .len ≤ length s
-text-comment-within s = text-given s .within
+text-comment-within s = text-given usually s .within
 
 pub frame-comment-within : (s : List ℕ) → readFrame s .«record» .body .comment .at + readFrame s .«record» .body .comment .len ≤ length s
-frame-comment-within s = frame-given s .within
+frame-comment-within s = frame-given usually s .within
 
 -- ---- so is an identifier (document 02, R-5)
 
 pub any-text-identifier-within : (s : List ℕ) → readAnyText s .«record» .body .identifier .at + readAnyText s .«record» .body .identifier .len ≤ length s
-any-text-identifier-within s = any-text-given s .identifier-within
+any-text-identifier-within s = any-text-given usually s .identifier-within
 
 pub text-identifier-within : (s : List ℕ) → readText s .«record» .body .identifier .at + readText s .«record» .body .identifier .len ≤ length s
-text-identifier-within s = text-given s .identifier-within
+text-identifier-within s = text-given usually s .identifier-within
 
 pub frame-identifier-within : (s : List ℕ) → readFrame s .«record» .body .identifier .at + readFrame s .«record» .body .identifier .len ≤ length s
-frame-identifier-within s = frame-given s .identifier-within
+frame-identifier-within s = frame-given usually s .identifier-within
 
 -- ---- document 02, R-1: "the digits we print are the inner edge" of the page's boxes
 
 pub any-text-inner-edges : (s : List ℕ) → InnerEdges (readAnyText s .«record» .body)
-any-text-inner-edges s = any-text-given s .edges
+any-text-inner-edges s = any-text-given usually s .edges
 
 pub text-inner-edges : (s : List ℕ) → InnerEdges (readText s .«record» .body)
-text-inner-edges s = text-given s .edges
+text-inner-edges s = text-given usually s .edges
 
 pub frame-inner-edges : (s : List ℕ) → InnerEdges (readFrame s .«record» .body)
-frame-inner-edges s = frame-given s .edges
+frame-inner-edges s = frame-given usually s .edges
 
 -- ---- document 02, R-2: "every header reader passes this on for source, destination and each hop"
 
@@ -180,23 +192,23 @@ module _ (r : Record) (text identifier : List ℕ) (z : recordRefusal r text ide
 
 -- "Up to four inner packets are read": the number of every record is 0 to 4
 pub any-text-at-most-four : (s : List ℕ) → readAnyText s .«record» .inner ≤ 4
-any-text-at-most-four s = any-text-given s .number
+any-text-at-most-four s = any-text-given usually s .number
 
 pub text-at-most-four : (s : List ℕ) → readText s .«record» .inner ≤ 4
-text-at-most-four s = text-given s .number
+text-at-most-four s = text-given usually s .number
 
 pub frame-at-most-four : (s : List ℕ) → readFrame s .«record» .inner ≤ 4
-frame-at-most-four s = frame-given s .number
+frame-at-most-four s = frame-given usually s .number
 
 -- and at 0 the inner header is blank
 pub any-text-blank-at-0 : (s : List ℕ) → readAnyText s .«record» .inner ≡ 0 → readAnyText s .«record» .innermost ≡ blankHeader
-any-text-blank-at-0 s = any-text-given s .blank
+any-text-blank-at-0 s = any-text-given usually s .blank
 
 pub text-blank-at-0 : (s : List ℕ) → readText s .«record» .inner ≡ 0 → readText s .«record» .innermost ≡ blankHeader
-text-blank-at-0 s = text-given s .blank
+text-blank-at-0 s = text-given usually s .blank
 
 pub frame-blank-at-0 : (s : List ℕ) → readFrame s .«record» .inner ≡ 0 → readFrame s .«record» .innermost ≡ blankHeader
-frame-blank-at-0 s = frame-given s .blank
+frame-blank-at-0 s = frame-given usually s .blank
 
 -- what a packet is whose header was read and whose body holds a text, by what that text is by itself: with up to three packets inside it,
 -- its record with the outermost header, the number one higher and the places moved by where it starts; refused, the same refusal; where
@@ -208,22 +220,22 @@ pub record ThirdParty (h : HeaderRead) (text : List ℕ) (inner p : PacketRead) 
   pub four : inner .«record» .inner ≡ 4 → holdsFour text ≡ true
   pub nothing : text ≡ [] → p ≡ packetRefused 2
 
-after-third-party : (s : List ℕ) (h : HeaderRead) → Holds s h → ThirdParty h (insideText s h) (readAnyText (insideText s h)) (packetAfter mostInner h s)
+after-third-party : (s : List ℕ) (h : HeaderRead) → Holds s h → ThirdParty h (insideText s h) (readAnyText (insideText s h)) (packetAfter usually mostInner h s)
 after-third-party s h x =
     record { accepted = after-accepted s h x; faulty = after-faulty s h x; fifth = after-fifth s h x; four = four-inside (insideText s h); nothing = after-nothing s h x }
 
 pub any-text-third-party : (s : List ℕ) → Holds s (readHeaderText s)
     → ThirdParty (readHeaderText s) (insideText s (readHeaderText s)) (readAnyText (insideText s (readHeaderText s))) (readAnyText s)
-any-text-third-party s x = rw (any-is s) (after-third-party s (readHeaderText s) x)
+any-text-third-party s x = rw (any-is usually s) (after-third-party s (readHeaderText s) x)
 
 -- of a line and of a frame the text inside is a line by itself
 pub text-third-party : (s : List ℕ) → Holds s (readTextHeader s)
     → ThirdParty (readTextHeader s) (insideText s (readTextHeader s)) (readText (insideText s (readTextHeader s))) (readText s)
-text-third-party s x = rw (text-inside s (insideAt (readTextHeader s)) (x .read), ← line-read s) (after-third-party s (readTextHeader s) x)
+text-third-party s x = rw (text-inside s (insideAt (readTextHeader s)) (x .read), ← line-read usually s) (after-third-party s (readTextHeader s) x)
 
 pub frame-third-party : (s : List ℕ) → Holds s (readFrameHeader s)
     → ThirdParty (readFrameHeader s) (insideText s (readFrameHeader s)) (readText (insideText s (readFrameHeader s))) (readFrame s)
-frame-third-party s x = rw (frame-inside s (insideAt (readFrameHeader s)) (x .read), frame-is s) (after-third-party s (readFrameHeader s) x)
+frame-third-party s x = rw (frame-inside s (insideAt (readFrameHeader s)) (x .read), frame-is usually s) (after-third-party s (readFrameHeader s) x)
 
 -- "places counted in the whole input": what stands at a place inside stands at the moved one in the whole
 pub moved-places-show-the-same : (by : ℕ) (s : List ℕ) (p : Span) → spanned (movedSpan by p) s ≡ spanned p (drop by s)
@@ -264,12 +276,12 @@ module _ {size : ℕ} {r : Record} (g : Given mostInner size r) where
 pub any-text-unwritten : (s text identifier : List ℕ) → textRefusal (readAnyText s .«record») text identifier
     ≡ orElse (cond (isExcepted (readAnyText s .«record» .body)) 15 0)
     (orElse (contentRefusal (readAnyText s .«record») text identifier) (overBy mostBytes (textBytes (readAnyText s .«record») text identifier)))
-any-text-unwritten s = given-text (any-text-given s)
+any-text-unwritten s = given-text (any-text-given usually s)
 
 pub text-unwritten : (s text identifier : List ℕ) → textRefusal (readText s .«record») text identifier
     ≡ orElse (cond (isExcepted (readText s .«record» .body)) 15 0)
     (orElse (contentRefusal (readText s .«record») text identifier) (overBy mostBytes (textBytes (readText s .«record») text identifier)))
-text-unwritten s = given-text (text-given s)
+text-unwritten s = given-text (text-given usually s)
 
 -- the same of a frame, where 13 stands before 1
 pub frame-unwritten : (s text identifier : List ℕ) → frameRefusal (readFrame s .«record») text identifier
@@ -279,4 +291,4 @@ pub frame-unwritten : (s text identifier : List ℕ) → frameRefusal (readFrame
 unfolding frameRefusal
 frame-unwritten s text identifier =
     let r = readFrame s .«record» in
-    given-refusal (frame-given s) text identifier (orElse (headerFrameRefusal (writtenHeader r)) (overBy mostBytes (frameBytes r text identifier)))
+    given-refusal (frame-given usually s) text identifier (orElse (headerFrameRefusal (writtenHeader r)) (overBy mostBytes (frameBytes r text identifier)))

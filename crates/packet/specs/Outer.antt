@@ -12,7 +12,7 @@ use Rattle.header.specs.Header.{blankHeader}
 use Rattle.header.specs.Text.{readHeaderText}
 use Rattle.header.specs.Frame.{readFrameHeader}
 use Rattle.body.specs.declared.BodyRead.{BodyRead}
-use Rattle.body.specs.Body.{blankBody, readBody}
+use Rattle.body.specs.Body.{blankBody, readBodyBy}
 use Rattle.packet.specs.declared.Outer.{Outer}
 use Rattle.packet.specs.declared.PacketRead.{PacketRead}
 use Rattle.packet.specs.Record.{recordAlone, packetRefused}
@@ -32,12 +32,12 @@ outerOf h s at b =
     (outerRefused s (b .refusal))
 
 -- a header, and the body behind it
-unfoldable pub outerAfter : HeaderRead → List ℕ → Outer
-outerAfter h s = cond (eqb (h .refusal) 0) (outerOf (h .header) s (h .body) (readBody (h .header .to) s (h .body))) (outerRefused s (h .refusal))
+unfoldable pub outerAfter : Bool → HeaderRead → List ℕ → Outer
+outerAfter strict h s = cond (eqb (h .refusal) 0) (outerOf (h .header) s (h .body) (readBodyBy strict (h .header .to) s (h .body))) (outerRefused s (h .refusal))
 
 -- a frame, or a text: 1 where it has more than so many bytes, and then its header and the body behind it
-unfoldable pub outerWithin : ℕ → Bool → List ℕ → Outer
-outerWithin most framed s = cond (ltb most (length s)) (outerRefused s 1) (outerAfter (cond framed (readFrameHeader s) (readHeaderText s)) s)
+unfoldable pub outerWithin : Bool → ℕ → Bool → List ℕ → Outer
+outerWithin strict most framed s = cond (ltb most (length s)) (outerRefused s 1) (outerAfter strict (cond framed (readFrameHeader s) (readHeaderText s)) s)
 
 -- ---- with what it holds
 
@@ -46,10 +46,10 @@ unfoldable pub aloneOf : Outer → PacketRead
 aloneOf o = record { refusal = o .refusal; «record» = recordAlone (o .header) (o .body) }
 
 -- a text inside as a packet, where so many may still be read
-unfoldable pub insideOf : ℕ → List ℕ → PacketRead
-insideOf zero t = packetRefused 19
-insideOf (suc left) t = packetAfter left (readHeaderText t) t
+unfoldable pub insideOf : Bool → ℕ → List ℕ → PacketRead
+insideOf strict zero t = packetRefused 19
+insideOf strict (suc left) t = packetAfter strict left (readHeaderText t) t
 
 -- around the packet inside, if its body holds one
-unfoldable pub packetFrom : ℕ → Outer → List ℕ → PacketRead
-packetFrom left o s = cond (holdsPacket s (o .at)) (packetAround (o .header) (o .at + 1) (insideOf left (drop (o .at + 1) s))) (aloneOf o)
+unfoldable pub packetFrom : Bool → ℕ → Outer → List ℕ → PacketRead
+packetFrom strict left o s = cond (holdsPacket s (o .at)) (packetAround (o .header) (o .at + 1) (insideOf strict left (drop (o .at + 1) s))) (aloneOf o)

@@ -1,5 +1,6 @@
 -- A packet read, from a line of text or from a frame: its header, and then its body (document 01, module 5: "Order,
--- text: 1; `:`; `>`; source; destination; hops from the left; body."), which may hold another packet (document 02, R-6).
+-- text: 1; `:`; `>`; source; destination; hops from the left; body."), which may hold another packet (document 02, R-6). It is read as
+-- usually or strictly (document 02, R-8): "A second entry", and it differs in how a body is judged.
 -- Assumes nothing.
 use Prim.Native.Nat.{ℕ, zero, suc, _+_}
 use mathlib.Core.Bool.{Bool, cond, _&&_}
@@ -19,7 +20,8 @@ use Rattle.body.specs.declared.Kind.the-variants.{Unknown, Position, MicE, Mess
 use Rattle.body.specs.declared.Span.{Span}
 use Rattle.body.specs.declared.Body.{Body}
 use Rattle.body.specs.declared.BodyRead.{BodyRead}
-use Rattle.body.specs.Body.{readBody}
+use Rattle.position.specs.Position.{usually, strictly}
+use Rattle.body.specs.Body.{readBodyBy}
 use Rattle.packet.specs.declared.Record.{Record}
 use Rattle.packet.specs.declared.PacketRead.{PacketRead}
 use Rattle.packet.specs.Record.{recordAlone, packetRefused}
@@ -98,30 +100,49 @@ unfoldable pub unlessRefused : HeaderRead → PacketRead → PacketRead
 unlessRefused h p = cond (eqb (h .refusal) 0) p (packetRefused (h .refusal))
 
 -- what stands from a place on, to the input's end, is the body; so many packets may still be read inside: "19 for a fifth, found before
--- its header is read"; "the inner packet's body may itself be a third-party body"
-unfoldable pub bodyBehind : ℕ → Header → List ℕ → ℕ → PacketRead
-bodyBehind zero h s at = cond (holdsPacket s at) (packetRefused 19) (packetOf h (readBody (h .to) s at))
-bodyBehind (suc left) h s at =
+-- its header is read"; "the inner packet's body may itself be a third-party body", and "is judged strictly as an outer one"
+unfoldable pub bodyBehind : Bool → ℕ → Header → List ℕ → ℕ → PacketRead
+bodyBehind strict zero h s at = cond (holdsPacket s at) (packetRefused 19) (packetOf h (readBodyBy strict (h .to) s at))
+bodyBehind strict (suc left) h s at =
     let inside = drop (at + 1) s in
     let inner = readHeaderText inside in
     cond (holdsPacket s at)
-    (packetAround h (at + 1) (unlessRefused inner (bodyBehind left (inner .header) inside (inner .body))))
-    (packetOf h (readBody (h .to) s at))
+    (packetAround h (at + 1) (unlessRefused inner (bodyBehind strict left (inner .header) inside (inner .body))))
+    (packetOf h (readBodyBy strict (h .to) s at))
 
 -- the packet of a header that was read
-unfoldable pub packetAfter : ℕ → HeaderRead → List ℕ → PacketRead
-packetAfter left h s = unlessRefused h (bodyBehind left (h .header) s (h .body))
+unfoldable pub packetAfter : Bool → ℕ → HeaderRead → List ℕ → PacketRead
+packetAfter strict left h s = unlessRefused h (bodyBehind strict left (h .header) s (h .body))
 
 -- ---- the input
 
 -- a text, however long
-unfoldable pub readAnyText : List ℕ → PacketRead
-readAnyText s = packetAfter mostInner (readHeaderText s) s
+unfoldable pub readAnyTextBy : Bool → List ℕ → PacketRead
+readAnyTextBy strict s = packetAfter strict mostInner (readHeaderText s) s
 
 -- a line of text: 1, and then that
-unfoldable pub readText : List ℕ → PacketRead
-readText s = cond (ltb mostBytes (length s)) (packetRefused 1) (readAnyText s)
+unfoldable pub readTextBy : Bool → List ℕ → PacketRead
+readTextBy strict s = cond (ltb mostBytes (length s)) (packetRefused 1) (readAnyTextBy strict s)
 
 -- an AX.25 frame
-unfoldable pub readFrame : List ℕ → PacketRead
-readFrame s = packetAfter mostInner (readFrameHeader s) s
+unfoldable pub readFrameBy : Bool → List ℕ → PacketRead
+readFrameBy strict s = packetAfter strict mostInner (readFrameHeader s) s
+
+-- ---- as usually
+
+abbrev pub readAnyText : List ℕ → PacketRead
+readAnyText s = readAnyTextBy usually s
+
+abbrev pub readText : List ℕ → PacketRead
+readText s = readTextBy usually s
+
+abbrev pub readFrame : List ℕ → PacketRead
+readFrame s = readFrameBy usually s
+
+-- ---- strictly: "There is one for lines and one for frames"
+
+abbrev pub strictText : List ℕ → PacketRead
+strictText s = readTextBy strictly s
+
+abbrev pub strictFrame : List ℕ → PacketRead
+strictFrame s = readFrameBy strictly s

@@ -9,7 +9,7 @@ ghost use Rattle.header.specs.Frame.{readFrameHeader};
 ghost use Rattle.header.specs.Range.{textRefusal as headerTextRefusal};
 ghost use Rattle.buffer.specs.Wrote.{refusedBy, ends, wrote};
 ghost use Rattle.packet.specs.Record.{blankRecord, packetRefused};
-ghost use Rattle.packet.specs.Packet.{mostInner, headerTo, keptTo, holdsPacket, isNowhere, movedSpan, movedBody, innermostOf, packetAround, readAnyText, readText, readFrame};
+ghost use Rattle.packet.specs.Packet.{mostInner, headerTo, keptTo, holdsPacket, isNowhere, movedSpan, movedBody, innermostOf, packetAround, readAnyText, readTextBy, readText, strictText, readFrameBy, readFrame, strictFrame};
 ghost use Rattle.packet.specs.Outer.{outerRefused, outerWithin, aloneOf, insideOf, packetFrom};
 ghost use Rattle.packet.specs.Range.{rangeRefusal};
 ghost use Rattle.packet.specs.Written.{textBytes, frameBytes, orElse, textRefusal, frameRefusal};
@@ -120,9 +120,9 @@ fn header_in(s: &[u8], framed: bool) -> HeaderRead
 }
 
 // Reads an AX.25 frame where framed, else a text, by itself: refused with 1 where it is longer than `most`, and then as its header
-// and its body are.
-pub fn read_outer(s: &[u8], framed: bool, most: usize) -> Outer
-    ensures { λ r. ⌜ r ≡ outerWithin most framed (now (s .entry)) ⌝ }
+// and its body are, which is judged strictly where strict.
+pub fn read_outer(s: &[u8], framed: bool, most: usize, strict: bool) -> Outer
+    ensures { λ r. ⌜ r ≡ outerWithin strict most framed (now (s .entry)) ⌝ }
 {
     if most < s.len() {
         return outer_refused(s, 1);
@@ -131,7 +131,7 @@ pub fn read_outer(s: &[u8], framed: bool, most: usize) -> Outer
     if h.refusal != 0 {
         return outer_refused(s, h.refusal);
     }
-    let found = body::read(h.header.to, s, h.body);
+    let found = body::read(h.header.to, s, h.body, strict);
     if found.refusal != 0 {
         return outer_refused(s, found.refusal);
     }
@@ -240,60 +240,76 @@ fn packet_around(h: Header, at: usize, p: PacketRead) -> PacketRead
 }
 
 // The packet reader: what an outer packet, read from s, is with the packets that it holds, `left` of which may still be read.
-fn packet_from(o: Outer, s: &[u8], left: u8) -> PacketRead
-    ensures { λ r. ⌜ r ≡ packetFrom left o (now (s .entry)) ⌝ }
+fn packet_from(o: Outer, s: &[u8], left: u8, strict: bool) -> PacketRead
+    ensures { λ r. ⌜ r ≡ packetFrom strict left o (now (s .entry)) ⌝ }
 {
     if holds_packet(s, o.at) {
-        return packet_around(o.header, o.at + 1, body_from(s, o.at, left));
+        return packet_around(o.header, o.at + 1, body_from(s, o.at, left, strict));
     }
     alone(o)
 }
 
 // The body reader: the packet that the body at the place `at` holds.
-fn body_from(s: &[u8], at: usize, left: u8) -> PacketRead
+fn body_from(s: &[u8], at: usize, left: u8, strict: bool) -> PacketRead
     requires { ⌜ at < length (now s) ⌝ }
-    ensures { λ r. ⌜ r ≡ insideOf left (drop (at + 1) (now (s .entry))) ⌝ }
+    ensures { λ r. ⌜ r ≡ insideOf strict left (drop (at + 1) (now (s .entry))) ⌝ }
 {
     if left == 0 {
         return refused(19);
     }
     let inside = &s[at + 1..];
-    packet_from(read_outer(inside, false, inside.len()), inside, left - 1)
+    let o = read_outer(inside, false, inside.len(), strict);
+    packet_from(o, inside, left - 1, strict)
 }
 
 // What an outer packet, read from s, is with the packets that it holds.
-pub fn read_inside(o: Outer, s: &[u8]) -> PacketRead
-    ensures { λ r. ⌜ r ≡ packetFrom mostInner o (now (s .entry)) ⌝ }
+pub fn read_inside(o: Outer, s: &[u8], strict: bool) -> PacketRead
+    ensures { λ r. ⌜ r ≡ packetFrom strict mostInner o (now (s .entry)) ⌝ }
 {
-    packet_from(o, s, MOST_INNER)
+    packet_from(o, s, MOST_INNER, strict)
 }
 
 // Reads a text, however long: the record, or the number of its first fault and the blank record.
 pub fn read_any_length(s: &[u8]) -> PacketRead
     ensures { λ r. ⌜ r ≡ readAnyText (now (s .entry)) ⌝ }
 {
-    packet_from(read_outer(s, false, s.len()), s, MOST_INNER)
+    packet_from(read_outer(s, false, s.len(), false), s, MOST_INNER, false)
 }
 
-// Reads an AX.25 frame where framed, else a line of text: refused with 1, and then as a text of any length.
-pub fn read(s: &[u8], framed: bool) -> PacketRead
-    ensures { λ r. ⌜ r ≡ cond framed (readFrame (now (s .entry))) (readText (now (s .entry))) ⌝ }
+// Reads an AX.25 frame where framed, else a line of text: refused with 1, and then as a text of any length. Strictly minutes of 60 or
+// more are refused with 8, 9 or 11, and with 20, last of all, a byte that names no symbol table; a packet inside is judged likewise.
+pub fn read(s: &[u8], framed: bool, strict: bool) -> PacketRead
+    ensures { λ r. ⌜ r ≡ cond framed (readFrameBy strict (now (s .entry))) (readTextBy strict (now (s .entry))) ⌝ }
 {
-    read_inside(read_outer(s, framed, MOST), s)
+    read_inside(read_outer(s, framed, MOST, strict), s, strict)
 }
 
 // Reads a line of text.
 pub fn read_text(s: &[u8]) -> PacketRead
     ensures { λ r. ⌜ r ≡ readText (now (s .entry)) ⌝ }
 {
-    read(s, false)
+    read(s, false, false)
 }
 
 // Reads an AX.25 frame, from its destination to the end of its information.
 pub fn read_frame(s: &[u8]) -> PacketRead
     ensures { λ r. ⌜ r ≡ readFrame (now (s .entry)) ⌝ }
 {
-    read(s, true)
+    read(s, true, false)
+}
+
+// Reads a line of text strictly.
+pub fn read_text_strictly(s: &[u8]) -> PacketRead
+    ensures { λ r. ⌜ r ≡ strictText (now (s .entry)) ⌝ }
+{
+    read(s, false, true)
+}
+
+// Reads an AX.25 frame strictly.
+pub fn read_frame_strictly(s: &[u8]) -> PacketRead
+    ensures { λ r. ⌜ r ≡ strictFrame (now (s .entry)) ⌝ }
+{
+    read(s, true, true)
 }
 
 // ---- written

@@ -230,7 +230,7 @@ pub extern "C" fn tusselgro_write_time(time: Time, out: &mut [u8]) -> buffer::An
 pub extern "C" fn tusselgro_read_position(text: &[u8]) -> PositionRead
     ensures { λ r. ⌜ r ≡ readPosition (now (text .entry)) ⌝ }
 {
-    position::read_position(text)
+    position::read_position(text, false)
 }
 
 // Writes the 19 bytes of a place; refused with 15 or 16.

@@ -14,15 +14,15 @@ use Rattle.lonlat.specs.Latitude.{readLatitude, latitudeText}
 use Rattle.lonlat.specs.Longitude.{longitudeText}
 use Rattle.lonlat.proofs.Texts.{latitude-text-length, longitude-text-length}
 use Rattle.position.specs.declared.Place.{Place}
-use Rattle.position.specs.Position.{fixedBytes, isUncompressed, refusedPosition, withLatitude, readPosition, placeInRange, lettersAgree, symbolsInRange, positionFits, positionRefusal, positionText}
+use Rattle.position.specs.Position.{fixedBytes, isUncompressed, refusedPosition, withLatitude, readPositionBy, placeInRange, lettersAgree, symbolsInRange, positionFits, positionRefusal, positionText}
 use Rattle.position.proofs.Reach.{latitude-near, reach-few}
 
-pub position-long : (s : List ℕ) → readPosition s .refusal ≡ 0 → fixedBytes ≤ length s
-unfolding readPosition
-position-long s e = go (isUncompressed s) (ltb (length s) fixedBytes) refl e
+pub position-long : (strict : Bool) (s : List ℕ) → readPositionBy strict s .refusal ≡ 0 → fixedBytes ≤ length s
+unfolding readPositionBy
+position-long strict s e = go (isUncompressed s) (ltb (length s) fixedBytes) refl e
   where
     go : (p q : Bool) → ltb (length s) fixedBytes ≡ q
-        → cond p (cond q (refusedPosition 10) (withLatitude s (readLatitude (take 8 s)))) (refusedPosition 7) .refusal ≡ 0
+        → cond p (cond q (refusedPosition 10) (withLatitude strict s (readLatitude (take 8 s)))) (refusedPosition 7) .refusal ≡ 0
         → fixedBytes ≤ length s
     go true true f z = absurd (omega arith)
     go true false f z = ltb-false (length s) fixedBytes f

@@ -7,5 +7,6 @@ pub mod Floats
 pub mod Boxes
 pub mod InnerEdge
 pub mod Cases
+pub mod Strict
 pub mod Theorems
 pub mod Unique

@@ -28,7 +28,7 @@ use Rattle.lonlat.proofs.Theorems.{AngleFound, LatitudeFound, read-latitude-fou
 use Rattle.position.specs.declared.Place.{Place}
 use Rattle.position.specs.declared.PositionRead.{PositionRead}
 use Rattle.position.specs.Reach.{inReach}
-use Rattle.position.specs.Position.{fixedBytes, isNumeric, isUncompressed, refusedPosition, acceptedPosition, withLongitude, withLatitude, readPosition, noPlace, placeInRange, lettersAgree, positionText, asWritten}
+use Rattle.position.specs.Position.{fixedBytes, isNumeric, usually, isUncompressed, refusedPosition, acceptedPosition, withLongitude, withLatitude, readPositionBy, readPosition, noPlace, placeInRange, lettersAgree, positionText, asWritten}
 use Rattle.position.specs.Page.{boxOf}
 use Rattle.position.proofs.InnerEdge.{InnerEdge, inner-edge}
 use Rattle.position.proofs.Reach.{latitude-near, longitude-near, reach-near, reach-few, latitude-agrees, longitude-agrees}
@@ -48,23 +48,23 @@ module _ (P : PositionRead → Type 0) (s : List ℕ)
     → AngleFound mostLongitude west (widthOf blanks) (longitude .0)
     → P (acceptedPosition (placeOf s latitude longitude blanks south west) x y)) where
   longitude-cases : (latitude : Latitude) (blanks : ℕ) (south x : Bool) → LatitudeFound latitude blanks south
-      → (q : LongitudeRead) → readLongitude (take 9 (drop 9 s)) blanks ≡ q → P (withLongitude s latitude blanks south x q)
+      → (q : LongitudeRead) → readLongitude (take 9 (drop 9 s)) blanks ≡ q → P (withLongitude usually s latitude blanks south x q)
   unfolding withLongitude longitudeNumber
   longitude-cases latitude blanks south x l (lon.Read longitude west y) e = found latitude longitude blanks south west x y l (read-longitude-found longitude west y (take 9 (drop 9 s)) blanks e)
   longitude-cases latitude blanks south x l lon.Refused e = blank 9 refl
   longitude-cases latitude blanks south x l lon.OutOfRange e = absurd (longitude-few (take 9 (drop 9 s)) blanks (l .few) e)
 
-  latitude-cases : (q : LatitudeRead) → readLatitude (take 8 s) ≡ q → P (withLatitude s q)
+  latitude-cases : (q : LatitudeRead) → readLatitude (take 8 s) ≡ q → P (withLatitude usually s q)
   unfolding withLatitude latitudeNumber
   latitude-cases (lat.Read latitude blanks south x) e =
       longitude-cases latitude blanks south x (read-latitude-found latitude blanks south x (take 8 s) e) (readLongitude (take 9 (drop 9 s)) blanks) refl
   latitude-cases lat.Refused e = blank 8 refl
 
   position-cases : P (readPosition s)
-  unfolding readPosition
+  unfolding readPositionBy
   position-cases = go (isUncompressed s) (ltb (length s) fixedBytes)
     where
-      go : (u v : Bool) → P (cond u (cond v (refusedPosition 10) (withLatitude s (readLatitude (take 8 s)))) (refusedPosition 7))
+      go : (u v : Bool) → P (cond u (cond v (refusedPosition 10) (withLatitude usually s (readLatitude (take 8 s)))) (refusedPosition 7))
       go true true = blank 10 refl
       go true false = latitude-cases (readLatitude (take 8 s)) refl
       go false v = blank 7 refl
@@ -181,7 +181,7 @@ module _ (n : List ℕ) (t : ℕ) (e : List ℕ) (c : ℕ) (rest : List ℕ) (ei
 parts-read : (s : List ℕ) (latitude : Latitude) (longitude : Longitude) (blanks : ℕ) (south west x y : Bool) → isUncompressed s ≡ true → fixedBytes ≤ length s
     → readLatitude (take 8 s) ≡ lat.Read latitude blanks south x → readLongitude (take 9 (drop 9 s)) blanks ≡ lon.Read longitude west y
     → readPosition s ≡ acceptedPosition (placeOf s latitude longitude blanks south west) x y
-unfolding readPosition withLatitude withLongitude
+unfolding readPositionBy withLatitude withLongitude
 parts-read s latitude longitude blanks south west x y u l e f = rw (u, le-ltb (length s) fixedBytes l, e, f)
 
 numeric-digit : (s : List ℕ) (b : ℕ) → getD s 0 0 ≡ b → isDigit b ≡ true → isUncompressed s ≡ true

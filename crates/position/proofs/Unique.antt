@@ -14,12 +14,20 @@ use Rattle.position.specs.declared.Place.{Place}
 use Rattle.position.specs.declared.PositionRead.{PositionRead}
 use Rattle.position.specs.declared.BoundsAnswer.{BoundsAnswer}
 use Rattle.position.specs.declared.PageBox.{PageBox}
-use Rattle.position.specs.Position.{noPlace, readPosition, lettersAgree, positionRefusal, positionText}
+use Rattle.position.specs.Position.{isOver, isOffTable, noPlace, readPositionBy, lettersAgree, positionRefusal, positionText}
 use Rattle.position.specs.Bounds.{boundsOf}
 use Rattle.position.specs.Page.{boxOf}
 
-pub unique-read-position : (s : List ℕ) (r r′ : PositionRead) → r ≡ readPosition s → r′ ≡ readPosition s → r ≡ r′
-unique-read-position s r r′ = one-value r r′ (readPosition s)
+pub unique-read-position : (strict : Bool) (s : List ℕ) (r r′ : PositionRead) → r ≡ readPositionBy strict s → r′ ≡ readPositionBy strict s → r ≡ r′
+unique-read-position strict s r r′ = one-value r r′ (readPositionBy strict s)
+
+-- minutes and table bytes, by what was asked
+module _ (strict : Bool) where
+  pub unique-is-over : (sixty : Bool) (r r′ : Bool) → r ≡ isOver strict sixty → r′ ≡ isOver strict sixty → r ≡ r′
+  unique-is-over sixty r r′ = one-value r r′ (isOver strict sixty)
+
+  pub unique-is-off-table : (table : ℕ) (r r′ : Bool) → r ≡ isOffTable strict table → r′ ≡ isOffTable strict table → r ≡ r′
+  unique-is-off-table table r r′ = one-value r r′ (isOffTable strict table)
 
 pub unique-write-position : (p : Place) (r r′ : Answer) (o o′ out : List ℕ)
     → ends r o ≡ wrote (positionRefusal p) (positionText p) out → ends r′ o′ ≡ wrote (positionRefusal p) (positionText p) out → (r ≡ r′) × (o ≡ o′)

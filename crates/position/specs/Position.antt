@@ -1,13 +1,14 @@
 -- An uncompressed position, behind its type byte or its time (document 01, module 3): "8 bytes of latitude, table byte, 9 of
--- longitude, code byte, comment." The comment is what follows those 19 bytes. Order of refusals: "Position: 7, 10, 8, 9."
+-- longitude, code byte, comment." The comment is what follows those 19 bytes. Order of refusals: "Position: 7, 10, 8, 9."; and strictly
+-- (document 02, R-8) 20 behind them.
 -- Assumes nothing.
 use Prim.Native.Nat.{ℕ}
-use mathlib.Core.Bool.{Bool, false, cond, _&&_, _||_}
+use mathlib.Core.Bool.{Bool, true, false, not, cond, _&&_, _||_}
 use mathlib.Core.List.{List, [], _∷_, _++_}
 use lib.Dec.{eqb, ltb}
 use lib.IntN.{pos, natAbs}
 use lib.ListN.{length, take, drop, getD}
-use Rattle.laws.specs.Bytes.{isDigit}
+use Rattle.laws.specs.Bytes.{slash, backslash, isDigit, isCapital}
 use Rattle.numbers.specs.Sign.{isMinus, isOn}
 use Rattle.lonlat.specs.Angle.{mostLatitude, mostLongitude}
 use Rattle.lonlat.specs.Latitude.{readLatitude, latitudeNumber, latitudeText}
@@ -24,6 +25,31 @@ use Rattle.position.specs.Reach.{inReach}
 -- the bytes before the comment
 abbrev pub fixedBytes : ℕ
 fixedBytes = 19
+
+-- ---- strictly (document 02, R-8)
+
+-- a reader judges as usually, or strictly: "A second entry refuses minutes of 60 or more .. The usual entry is unchanged."
+abbrev pub usually : Bool
+usually = false
+
+abbrev pub strictly : Bool
+strictly = true
+
+-- "it also wants table bytes `/`, `\`, `0-9` or `A-Z`"
+unfoldable pub isTable : ℕ → Bool
+isTable b = eqb b slash || (eqb b backslash || (isDigit b || isCapital b))
+
+-- minutes that are refused: of a position's angles and of a Mic-E destination
+abbrev pub isOver : Bool → Bool → Bool
+isOver strict sixty = strict && sixty
+
+-- a table byte that is refused: of a position and of a Mic-E report
+abbrev pub isOffTable : Bool → ℕ → Bool
+isOffTable strict table = strict && not (isTable table)
+
+-- "the table byte gives 20"
+abbrev pub tableNumber : ℕ
+tableNumber = 20
 
 -- ---- read
 
@@ -53,23 +79,35 @@ acceptedPosition place latitudeSixty longitudeSixty = record {
 }
 
 -- the place, with the symbol's bytes at their places, and the letters as they stood: "At 0 the side is the letter read, so the
--- record must carry both letters" (document 02, R-1)
-unfoldable pub withLongitude : List ℕ → Latitude → ℕ → Bool → Bool → LongitudeRead → PositionRead
-withLongitude s latitude blanks south latitudeSixty (lon.Read longitude west longitudeSixty) =
-    acceptedPosition (record { latitude = latitude; longitude = longitude; blanks = blanks; table = getD s 8 0; code = getD s 18 0; south = south; west = west })
+-- record must carry both letters" (document 02, R-1). Strictly "minutes give 8, 9 .. after the digits and before the size test; the table
+-- byte gives 20, last of all": one number is given for an angle's minutes and for its size, so the size may be tested first.
+unfoldable pub withLongitude : Bool → List ℕ → Latitude → ℕ → Bool → Bool → LongitudeRead → PositionRead
+withLongitude strict s latitude blanks south latitudeSixty (lon.Read longitude west longitudeSixty) =
+    cond (isOver strict longitudeSixty) (refusedPosition (longitudeNumber lon.Refused))
+    (cond (isOffTable strict (getD s 8 0)) (refusedPosition tableNumber)
+    (acceptedPosition (record { latitude = latitude; longitude = longitude; blanks = blanks; table = getD s 8 0; code = getD s 18 0; south = south; west = west })
     latitudeSixty
-    longitudeSixty
-withLongitude s latitude blanks south latitudeSixty lon.Refused = refusedPosition (longitudeNumber lon.Refused)
-withLongitude s latitude blanks south latitudeSixty lon.OutOfRange = refusedPosition (longitudeNumber lon.OutOfRange)
+    longitudeSixty))
+withLongitude strict s latitude blanks south latitudeSixty lon.Refused = refusedPosition (longitudeNumber lon.Refused)
+withLongitude strict s latitude blanks south latitudeSixty lon.OutOfRange = refusedPosition (longitudeNumber lon.OutOfRange)
 
--- the latitude's blanks rule the longitude too
-unfoldable pub withLatitude : List ℕ → LatitudeRead → PositionRead
-withLatitude s (lat.Read latitude blanks south sixty) = withLongitude s latitude blanks south sixty (readLongitude (take 9 (drop 9 s)) blanks)
-withLatitude s lat.Refused = refusedPosition (latitudeNumber lat.Refused)
+-- the latitude's blanks rule the longitude too; "Latitude is done before longitude begins"
+unfoldable pub withLatitude : Bool → List ℕ → LatitudeRead → PositionRead
+withLatitude strict s (lat.Read latitude blanks south sixty) =
+    cond (isOver strict sixty) (refusedPosition (latitudeNumber lat.Refused))
+    (withLongitude strict s latitude blanks south sixty (readLongitude (take 9 (drop 9 s)) blanks))
+withLatitude strict s lat.Refused = refusedPosition (latitudeNumber lat.Refused)
 
--- 7, 10, 8, 9
-unfoldable pub readPosition : List ℕ → PositionRead
-readPosition s = cond (isUncompressed s) (cond (ltb (length s) fixedBytes) (refusedPosition 10) (withLatitude s (readLatitude (take 8 s)))) (refusedPosition 7)
+-- 7, 10, 8, 9, and strictly 20
+unfoldable pub readPositionBy : Bool → List ℕ → PositionRead
+readPositionBy strict s =
+    cond (isUncompressed s)
+    (cond (ltb (length s) fixedBytes) (refusedPosition 10) (withLatitude strict s (readLatitude (take 8 s))))
+    (refusedPosition 7)
+
+-- as usually
+abbrev pub readPosition : List ℕ → PositionRead
+readPosition s = readPositionBy usually s
 
 -- ---- written
 

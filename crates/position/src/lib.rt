@@ -10,7 +10,7 @@ ghost use Rattle.buffer.specs.Wrote.{ends, wrote};
 ghost use Rattle.lonlat.specs.Angle.{mostLatitude, mostLongitude, widthOf};
 ghost use Rattle.lonlat.specs.Longitude.{readLongitude};
 ghost use Rattle.position.specs.Reach.{inReach};
-ghost use Rattle.position.specs.Position.{fixedBytes, isNumeric, isUncompressed, noPlace, refusedPosition, withLongitude, readPosition, lettersAgree, symbolsInRange, positionRefusal, positionText};
+ghost use Rattle.position.specs.Position.{fixedBytes, isNumeric, isOver, isTable, isOffTable, isUncompressed, noPlace, refusedPosition, withLongitude, readPositionBy, lettersAgree, symbolsInRange, positionRefusal, positionText};
 ghost use Rattle.position.specs.Bounds.{fromDmh, degreesOf, degreeWidth, rangeOf, boundsOf};
 ghost use Rattle.position.specs.Page.{noBox, boxOf};
 ghost use Rattle.position.specs.Private.{widest, boxAround};
@@ -112,6 +112,42 @@ fn uncompressed(s: &[u8]) -> bool
     numeric(s[0])
 }
 
+// Whether minutes are refused: strictly, if they are 60 or more.
+pub fn is_over(strict: bool, sixty: bool) -> bool
+    ensures { λ r. ⌜ r ≡ isOver strict sixty ⌝ }
+{
+    if strict {
+        return sixty;
+    }
+    false
+}
+
+// Whether b names a symbol table: `/`, `\`, a digit or a capital letter.
+fn is_table(b: u8) -> bool
+    ensures { λ r. ⌜ r ≡ isTable b ⌝ }
+{
+    if b == b'/' {
+        return true;
+    }
+    if b == b'\\' {
+        return true;
+    }
+    if digit(b) {
+        return true;
+    }
+    wrapping_sub_u8(b, b'A') < 26
+}
+
+// Whether a table byte is refused: strictly, if it names none.
+pub fn is_off_table(strict: bool, table: u8) -> bool
+    ensures { λ r. ⌜ r ≡ isOffTable strict table ⌝ }
+{
+    if strict {
+        return !is_table(table);
+    }
+    false
+}
+
 // Goes on with the longitude, behind a latitude with its blanks, its side, and whether its minutes are 60 or more.
 fn with_longitude(
     s: &[u8],
@@ -119,38 +155,48 @@ fn with_longitude(
     blanks: u8,
     south: bool,
     sixty: bool,
+    strict: bool,
 ) -> PositionRead
     requires { ⌜ fixedBytes ≤ length (now s) ⌝ }
-    ensures { λ r. ⌜ r ≡ withLongitude (now (s .entry)) latitude blanks south sixty (readLongitude (take 9 (drop 9 (now (s .entry)))) blanks) ⌝ }
+    ensures { λ r. ⌜ r ≡ withLongitude strict (now (s .entry)) latitude blanks south sixty (readLongitude (take 9 (drop 9 (now (s .entry)))) blanks) ⌝ }
 {
     match lonlat::read_longitude(&s[9..18], blanks) {
         LongitudeRead::Read {
             longitude,
             west,
             sixty: longitude_sixty,
-        } => PositionRead {
-            refusal: 0,
-            place: Place {
-                latitude,
-                longitude,
-                blanks,
-                table: s[8],
-                code: s[18],
-                south,
-                west,
-            },
-            latitude_sixty: sixty,
-            longitude_sixty,
-        },
+        } => {
+            if is_over(strict, longitude_sixty) {
+                return refused_position(9);
+            }
+            if is_off_table(strict, s[8]) {
+                return refused_position(20);
+            }
+            PositionRead {
+                refusal: 0,
+                place: Place {
+                    latitude,
+                    longitude,
+                    blanks,
+                    table: s[8],
+                    code: s[18],
+                    south,
+                    west,
+                },
+                latitude_sixty: sixty,
+                longitude_sixty,
+            }
+        }
         LongitudeRead::Refused => refused_position(9),
         LongitudeRead::OutOfRange => refused_position(15),
     }
 }
 
 // Reads what follows `!`, `=` or a time: 8 bytes of latitude, the table byte, 9 of longitude, the code byte; the comment is the rest,
-// from byte 19 on. Refuses 7, 10, 8, 9 in that order.
-pub fn read_position(s: &[u8]) -> PositionRead
-    ensures { λ r. ⌜ r ≡ readPosition (now (s .entry)) ⌝ }
+// from byte 19 on. Refuses 7, 10, 8, 9 in that order; strictly also minutes of 60 or more, with 8 and 9, and last of all a byte that
+// names no symbol table, with 20.
+pub fn read_position(s: &[u8], strict: bool) -> PositionRead
+    ensures { λ r. ⌜ r ≡ readPositionBy strict (now (s .entry)) ⌝ }
 {
     if !uncompressed(s) {
         return refused_position(7);
@@ -164,7 +210,12 @@ pub fn read_position(s: &[u8]) -> PositionRead
             blanks,
             south,
             sixty,
-        } => with_longitude(s, latitude, blanks, south, sixty),
+        } => {
+            if is_over(strict, sixty) {
+                return refused_position(8);
+            }
+            with_longitude(s, latitude, blanks, south, sixty, strict)
+        }
         LatitudeRead::Refused => refused_position(8),
     }
 }

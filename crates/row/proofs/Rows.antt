@@ -1,6 +1,7 @@
 -- Laws of a row: its fields put one behind the other, by their kind, and that a row of 142 bytes holds them all.
 -- Assumes nothing.
 use mathlib.Core.Path.{_≡_, refl, sym, ap, _∙_}
+use mathlib.Core.Bool.{Bool}
 use mathlib.Core.List.{List, [], _∷_}
 use Prim.Native.Nat.{ℕ, _≤_}
 use borrow.Author.Tests.{eq-eqb, ne-eqb}
@@ -22,10 +23,10 @@ use Rattle.body.specs.declared.Kind.{Kind}
 use Rattle.body.specs.declared.Kind.the-variants.{Unknown, Position, MicE, Message, Status}
 use Rattle.packet.specs.declared.Record.{Record}
 use Rattle.packet.specs.declared.PacketRead.{PacketRead}
-use Rattle.packet.specs.Packet.{readText}
+use Rattle.packet.specs.Packet.{readTextBy}
 use Rattle.row.proofs.Fits.{row-fits}
 use Rattle.row.proofs.Theorems.{outermost-to, own-to}
-use Rattle.row.specs.Row.{callField, ownToField, toField, heardAmong, heardHops, angleFields, absentAngles, placeFields, recordFields, refusedFields, rowFields, spaced, rowOf, row}
+use Rattle.row.specs.Row.{callField, ownToField, toField, heardAmong, heardHops, angleFields, absentAngles, placeFields, recordFields, refusedFields, rowFields, spaced, rowOf, rowBy}
 
 -- ---- one field
 
@@ -119,10 +120,10 @@ module _ (number : ℕ) (read : PacketRead) (f g h k : Filled) (p : g ≡ addedA
   row-accepted z e = all-then f h k _ _ _ (sym (rw (eq-eqb (read .refusal) 0 z))) front e
 
 -- a text of 142 bytes holds the fields, and the row is written from its front
-pub row-written : (number n : ℕ) (line text text′ front out out′ : List ℕ) (read : PacketRead) (w : Answer)
-    → read ≡ readText line → length (rowOf number read) ≤ 142 → length text ≡ 142
+pub row-written : (strict : Bool) (number n : ℕ) (line text text′ front out out′ : List ℕ) (read : PacketRead) (w : Answer)
+    → read ≡ readTextBy strict line → length (rowOf number read) ≤ 142 → length text ≡ 142
     → filled text′ n ≡ addedAll (filled text 0) (spaced (rowFields number read)) → front ≡ take n text′
-    → ends w out′ ≡ wrote 0 front out → ends w out′ ≡ wrote 0 (row number line) out
-unfolding row
-row-written number n line text text′ front out out′ read w e h k p q s =
+    → ends w out′ ≡ wrote 0 front out → ends w out′ ≡ wrote 0 (rowBy strict number line) out
+unfolding rowBy
+row-written strict number n line text text′ front out out′ read w e h k p q s =
     s ∙ ap (λ (l : List ℕ). wrote 0 l out) (q ∙ row-fits number read text text′ n h k p ∙ ap (rowOf number) e)

@@ -13,8 +13,11 @@ use Rattle.callsign.proofs.Ranges.{text-in-use}
 use Rattle.header.specs.declared.Hop.{Hop}
 use Rattle.header.specs.Hop.{isHeard, isQElement, callsOf}
 use Rattle.header.proofs.Hops.{q-unheard}
+use Rattle.position.specs.Position.{strictly}
 use Rattle.body.specs.declared.Kind.{Kind}
-use Rattle.row.specs.Row.{orPoint, callField, ownToField, toField, heardAmong}
+use Rattle.packet.specs.Packet.{strictText}
+use Rattle.packet.proofs.Theorems.{text-strictly}
+use Rattle.row.specs.Row.{orPoint, callField, ownToField, toField, heardAmong, rowOf, rowBy, row}
 
 -- a callsign in range stands in its row as it would be written, and a point stands for an empty one
 pub call-as-written : (c : Callsign) → inRange c ≡ true → length (c .text) ≡ 16 → callField c ≡ orPoint (textOf c)
@@ -41,3 +44,8 @@ q-elements-are-never-heard (h ∷ l) = go (isQElement h) refl (q-elements-are-ne
         → heardAmong (cond k (callsOf l) (h ∷ callsOf l)) ≡ cond (isHeard h) (suc (heardAmong l)) (heardAmong l)
     go true e r = rw (q-unheard h e) r
     go false e r = rw r
+
+-- document 02, R-8: a line that is accepted strictly has its usual row
+pub strict-row-is-the-usual : (number : ℕ) (line : List ℕ) → strictText line .refusal ≡ 0 → rowBy strictly number line ≡ row number line
+unfolding rowBy
+strict-row-is-the-usual number line z = ap (rowOf number) (text-strictly line .same z)

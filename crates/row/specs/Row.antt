@@ -5,7 +5,7 @@
 -- the innermost body's place. R-7: a Q element is one of the hops, and never heard.
 -- Assumes nothing.
 use Prim.Native.Nat.{ℕ, zero, suc, _+_}
-use mathlib.Core.Bool.{cond}
+use mathlib.Core.Bool.{Bool, cond}
 use mathlib.Core.List.{List, [], _∷_}
 use lib.Dec.{eqb}
 use lib.ListN.{length, take}
@@ -15,6 +15,7 @@ use Rattle.numbers.specs.Numbers.{digits, decimal}
 use Rattle.callsign.specs.declared.Callsign.{Callsign}
 use Rattle.callsign.specs.Range.{textLen}
 use Rattle.position.specs.declared.Place.{Place}
+use Rattle.position.specs.Position.{usually}
 use Rattle.header.specs.declared.Hop.{Hop}
 use Rattle.header.specs.declared.Path.{Path}
 use Rattle.header.specs.Hop.{isHeard}
@@ -22,7 +23,7 @@ use Rattle.body.specs.declared.Kind.{Kind}
 use Rattle.body.specs.declared.Kind.the-variants.{Unknown, Position, MicE, Message, Status}
 use Rattle.packet.specs.declared.Record.{Record}
 use Rattle.packet.specs.declared.PacketRead.{PacketRead}
-use Rattle.packet.specs.Packet.{readText}
+use Rattle.packet.specs.Packet.{readTextBy}
 
 -- ---- fields
 
@@ -103,8 +104,13 @@ spaced (f ∷ g ∷ fs) = f ∷ (space ∷ []) ∷ spaced (g ∷ fs)
 unfoldable pub rowOf : ℕ → PacketRead → List ℕ
 rowOf number read = together (spaced (rowFields number read))
 
-unfoldable pub row : ℕ → List ℕ → List ℕ
-row number line = rowOf number (readText line)
+-- the row of a line's number and bytes, read as usually or strictly (document 02, R-8)
+unfoldable pub rowBy : Bool → ℕ → List ℕ → List ℕ
+rowBy strict number line = rowOf number (readTextBy strict line)
+
+-- as usually
+abbrev pub row : ℕ → List ℕ → List ℕ
+row number line = rowBy usually number line
 
 -- ---- for the contracts of private functions
 

@@ -7,7 +7,7 @@ ghost use Rattle.laws.specs.Bytes.{space};
 ghost use Rattle.buffer.specs.Wrote.{ends, wrote};
 ghost use Rattle.buffer.specs.Filled.{filled, addedAll};
 ghost use Rattle.numbers.specs.Numbers.{digits, decimal};
-ghost use Rattle.row.specs.Row.{callField, ownToField, toField, heardAmong, heardHops, angleFields, placeFields, recordFields, spaced, rowFields, rowOf, row, widthOf};
+ghost use Rattle.row.specs.Row.{callField, ownToField, toField, heardAmong, heardHops, angleFields, placeFields, recordFields, spaced, rowFields, rowOf, rowBy, widthOf};
 use body::Kind;
 use callsign::Callsign;
 use header::Hop;
@@ -166,11 +166,11 @@ fn put_fields(number: usize, read: PacketRead, row: &mut [u8]) -> usize
     put_record(read.record, row, end)
 }
 
-// Writes the row of the listing for a line and its number, or answers 16.
-pub fn write_row(number: usize, line: &[u8], out: &mut [u8]) -> buffer::Answer
-    ensures { λ r. ⌜ ends r (now (out .exit)) ≡ wrote 0 (row number (now (line .entry))) (now (out .entry)) ⌝ }
+// Writes the row of the listing for a line and its number, or answers 16. The line is read strictly where strict.
+pub fn write_row(number: usize, line: &[u8], strict: bool, out: &mut [u8]) -> buffer::Answer
+    ensures { λ r. ⌜ ends r (now (out .exit)) ≡ wrote 0 (rowBy strict number (now (line .entry))) (now (out .entry)) ⌝ }
 {
     let mut text = [0u8; 142];
-    let n = put_fields(number, packet::read_text(line), &mut text);
+    let n = put_fields(number, packet::read(line, false, strict), &mut text);
     buffer::write(lines::cut(&text, n), out)
 }

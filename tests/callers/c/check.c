@@ -132,8 +132,9 @@ bool wrote(tusselgro_answer answer, const uint8_t *bytes, size_t size) {
 }
 
 const form forms[2] = {
-    {tusselgro_read_text, tusselgro_write_text, {BYTES("A>B:")}},
-    {tusselgro_read_frame, tusselgro_write_frame, {BYTES("\x84@@@@@\xe0\x82@@@@@\x61\x03\xf0")}},
+    {tusselgro_read_text, tusselgro_read_text_strictly, tusselgro_write_text, {BYTES("A>B:")}},
+    {tusselgro_read_frame, tusselgro_read_frame_strictly, tusselgro_write_frame,
+     {BYTES("\x84@@@@@\xe0\x82@@@@@\x61\x03\xf0")}},
 };
 
 slice behind_header(const form *f, slice body, uint8_t *packet) {
@@ -214,6 +215,7 @@ static void check_all(void) {
     check_times();
     check_messages();
     check_inner();
+    check_strict();
     check_listing();
     check_bounds();
     check_meanings();

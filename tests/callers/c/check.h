@@ -8,7 +8,7 @@
 #define HOLDS(fact) holds((fact), #fact, __FILE__, __LINE__)
 void holds(bool fact, const char *text, const char *file, int line);
 
-enum { REFUSALS = TUSSELGRO_TOO_MANY_INNER + 1 };
+enum { REFUSALS = TUSSELGRO_SYMBOL_TABLE + 1 };
 
 /* Counts a refusal as met, and whether it is the one expected. */
 #define REFUSED(answer, expected) refused((answer).refusal, (expected), __FILE__, __LINE__)
@@ -47,9 +47,9 @@ extern uint8_t written[1024];
 /* Whether those bytes are these, as many as were reported. */
 bool wrote(tusselgro_answer answer, const uint8_t *bytes, size_t size);
 
-/* A line and a frame from A to B: what reads and writes it, and its header. */
+/* A line and a frame from A to B: what reads it, usually and strictly, what writes it, and its header. */
 typedef struct {
-    reader *read;
+    reader *read, *read_strictly;
     writer *write;
     slice header;
 } form;
@@ -109,6 +109,10 @@ bool is_read_rightly(const tusselgro_read *read, slice input, size_t at);
    packet is read as by itself. */
 bool is_read_around(const tusselgro_read *read, slice input, size_t at);
 
+/* Whether what was read strictly of an input, a frame or a line, is what document 02 says of its body, which starts there, given
+   what it is usually read as. */
+bool is_read_strictly(const tusselgro_read *strict, const tusselgro_read *usual, slice input, size_t at, bool frame);
+
 bool same_answer(tusselgro_answer a, tusselgro_answer b);
 bool same_callsign(const tusselgro_callsign *a, const tusselgro_callsign *b);
 bool same_time(tusselgro_time a, tusselgro_time b);
@@ -124,6 +128,7 @@ void check_parts(void);
 void check_times(void);
 void check_messages(void);
 void check_inner(void);
+void check_strict(void);
 void check_listing(void);
 void check_bounds(void);
 void check_meanings(void);

@@ -130,6 +130,7 @@ void check_meanings(void) {
     HOLDS(strcmp(tusselgro_meaning(TUSSELGRO_TIME), "time cannot be read") == 0);
     HOLDS(strncmp(tusselgro_meaning(TUSSELGRO_MALFORMED), "a message or status is malformed", 32) == 0);
     HOLDS(strncmp(tusselgro_meaning(TUSSELGRO_TOO_MANY_INNER), "a fifth inner packet", 20) == 0);
+    HOLDS(strstr(tusselgro_meaning(TUSSELGRO_SYMBOL_TABLE), " not '/', '\\', a digit or a capital letter") != NULL);
     HOLDS(strcmp(tusselgro_meaning(REFUSALS), "no such refusal") == 0);
     HOLDS(strcmp(tusselgro_meaning(255), "no such refusal") == 0);
 }

@@ -34,7 +34,7 @@ static size_t any_bytes(uint8_t *bytes, size_t size) {
 enum { MOST = 640 };
 
 /* the bodies of the first of them go into frames too */
-enum { FRAMED = 17 };
+enum { FRAMED = 19 };
 
 static const char *const lines[] = {
     "N0CALL-01>APRS,WIDE1-1,WIDE2-2*,K1A:!4903.50N/07201.75W-Test",
@@ -43,6 +43,8 @@ static const char *const lines[] = {
     "A>4LLLLL,WIDE2*:'(_fn\"Oj/",
     "A>B:!0000.  S/00000.00W-",
     "A>0000PP:`vX\x1cn\"Oj/",
+    "A>B:!8960.00N/07201.75W-",
+    "A>B:@092345z490 .  S*0726x.xxE>",
     "N0CALL>APRS,K1A*:/092345z4903.50N/07201.75W>Test1234",
     "A>B:@312359/49  .  S/072  .  E-",
     "A>B,C:@234517h0000.00N/00000.00W>",
@@ -62,6 +64,8 @@ static const char *const lines[] = {
     "N0CALL>APRS,TCPIP*,qAC,T2TEXAS:!4903.50N/07201.75W-Test",
     "A-0>B,qAR,C-0,qAC*,D,qAo:>hi",
     "A>S32U6T,qAC,qAX,qAU,qAo,qAO,qAS,qAr:`(_fn\"Oj/",
+    "A>S36P6T:`(_fn\"Oj/",
+    "A>S35Y6T:'(_fn\"Oj*",
 };
 
 static const char *any_of_lines(void) { return lines[below(sizeof lines / sizeof *lines)]; }
@@ -294,6 +298,8 @@ static void any_read(void) {
     tusselgro_body *b = &read.record.body;
     size_t at = body_at(input, frame);
     HOLDS(is_header(input, frame) ? is_body(&read, input, at) : read.refusal >= 1 && read.refusal <= 6);
+    tusselgro_read strict = read_lent(frame ? tusselgro_read_frame_strictly : tusselgro_read_text_strictly, bytes, input.size);
+    HOLDS(is_read_strictly(&strict, &read, input, at, frame));
     HOLDS(is_within(b->comment, input.size) && is_within(b->identifier, input.size));
     HOLDS(read.record.header.path.count <= TUSSELGRO_MOST_HOPS && is_right(b));
     HOLDS(read.record.innermost.path.count <= TUSSELGRO_MOST_HOPS && read.record.inner <= TUSSELGRO_MOST_INNER);

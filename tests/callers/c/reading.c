@@ -1,5 +1,5 @@
 /* Lines and frames read: document 01's values, document 02's letters, marks and times, every refusal that a reader can give.
-   hops.c has Q elements, messages.c messages and status lines, inner.c packets inside packets. */
+   hops.c has Q elements, messages.c messages and status lines, inner.c packets inside packets, strict.c the strict entries. */
 #include "check.h"
 
 #include <string.h>

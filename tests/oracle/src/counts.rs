@@ -1,10 +1,11 @@
 // What `compare` counts beside its verdicts, of requests that it finds no difference in: Q elements; dropped zeros, times, messages and
-// status lines; and packets inside packets, which it counts there and among the Q elements alone.
+// status lines; packets inside packets, which it counts there and among the Q elements alone; and strict answers, which it counts
+// nowhere else.
 
-use crate::first_number;
 use crate::judge::{Judgement, Rewritten, Verdict};
 use protocol::third_party::FIFTH;
-use protocol::{from_decimal, q_elements, words, BAD_TIME, MALFORMED, MOST_HOPS};
+use protocol::strict::{Refusal, DESTINATION, LATITUDE, LONGITUDE, TABLE};
+use protocol::{first_number, from_decimal, q_elements, words, BAD_TIME, MALFORMED, MOST_HOPS};
 
 const ZERO_AT: [&str; 4] = ["anywhere", "source", "destination", "a hop"];
 const TIMES: [&str; 5] = ["accepted, z", "accepted, /", "accepted, h", "refused: 17, or 15", "of these listed"];
@@ -50,10 +51,26 @@ const INSIDE: [&str; 14] = [
     "to be written: 14",
     "to be written: 15",
 ];
+/// Strict answers: the usual record by its kind, the usual refusal, or a refusal that is strict alone; of these last also where they stand
+/// and whether the usual entry refuses too.
+const STRICTLY: [&str; 12] = [
+    "position",
+    "position with a time",
+    "mic-e",
+    "another kind",
+    "refused as usually",
+    "8: latitude",
+    "9: longitude",
+    "11: destination",
+    "20: table byte",
+    "of 8 to 20 with a time",
+    "of 8 to 20 inside",
+    "of 8 to 20 from 9 or 12",
+];
 const KINDS: [&[u8]; 5] = [b"unknown", b"position", b"mic-e", b"message", b"status"];
 
 /// Columns are reading and writing; of Q elements, messages and status lines reading, text and frame written again alike, and writing; of
-/// packets inside packets text and frame.
+/// packets inside packets and of strict answers text and frame.
 #[derive(Default)]
 pub struct Counts {
     q_elements: [[u64; 3]; Q_AT.len() + q_elements::NAMES.len()],
@@ -61,6 +78,7 @@ pub struct Counts {
     times: [[u64; 2]; 5],
     said: [[u64; 3]; 8],
     inside: [[u64; 2]; 14],
+    strictly: [[u64; 2]; 12],
 }
 
 /// The value of the word of this name, as `zeros=`, in a request or an answer; such words stand last.
@@ -149,8 +167,8 @@ impl Counts {
     }
 
     /// Counts a time that was read or refused, or a record to be written that has one.
-    fn note_time(&mut self, way: usize, line: &[&[u8]], answer: Option<i64>, verdict: &Verdict) {
-        let refused = [i64::from(BAD_TIME), 15][way];
+    fn note_time(&mut self, way: usize, line: &[&[u8]], answer: Option<u32>, verdict: &Verdict) {
+        let refused = [BAD_TIME, 15][way];
         let letter = value_of(line, b"time=").and_then(<[u8]>::last);
         let form = letter.and_then(|letter| b"z/h".iter().position(|form| form == letter));
         match (answer, form) {
@@ -164,10 +182,10 @@ impl Counts {
     }
 
     /// Counts a message or a status that was read, refused, written again or to be written.
-    fn note_said(&mut self, way: usize, line: &[&[u8]], answer: Option<i64>, judgement: &Judgement) {
+    fn note_said(&mut self, way: usize, line: &[&[u8]], answer: Option<u32>, judgement: &Judgement) {
         let column = [0, 2][way];
         let is_listed = matches!(judgement.verdict, Verdict::Listed(_));
-        if answer == Some(i64::from(MALFORMED)) {
+        if answer == Some(MALFORMED) {
             self.said[6][column] += 1;
             self.said[7][column] += u64::from(is_listed);
         }
@@ -195,7 +213,7 @@ impl Counts {
     }
 
     /// Counts a packet inside a packet that was read or refused, or a record with a number to be written.
-    fn note_inside(&mut self, way: usize, column: usize, line: &[&[u8]], answer: Option<i64>, verdict: &Verdict) {
+    fn note_inside(&mut self, way: usize, column: usize, line: &[&[u8]], answer: Option<u32>, verdict: &Verdict) {
         let number = value_of(line, b"inner=").and_then(from_decimal).unwrap_or(0);
         let is_read = way == 0 && *verdict == Verdict::Inner;
         let is_written = way == 1 && number > 0;
@@ -205,13 +223,37 @@ impl Counts {
                 vec![number as usize - 1, 4 + kind]
             }
             Some(2..=6) if is_read => vec![9],
-            Some(fifth) if is_read && fifth == i64::from(FIFTH) => vec![11],
+            Some(FIFTH) if is_read => vec![11],
             Some(_) if is_read => vec![10],
             Some(14) if is_written => vec![12],
             Some(15) if is_written => vec![13],
             _ => vec![],
         };
         rows.iter().for_each(|row| self.inside[*row][column] += 1);
+    }
+
+    /// Counts a strict answer that is as it should be, refused strictly alone or the usual one.
+    pub fn note_strictly(&mut self, request: &[u8], usual: &[u8], refusal: Option<&Refusal>) {
+        let usual = words(usual);
+        let has_time = value_of(&usual, b"time=").map_or(false, |time| time != b"-");
+        let rows = match refusal {
+            Some(refusal) => {
+                let number = [LATITUDE, LONGITUDE, DESTINATION, TABLE].iter().position(|number| *number == refusal.number);
+                let row = 5 + number.expect("one of the four");
+                [(row, true), (9, refusal.has_time), (10, refusal.is_inside), (11, usual[0] != b"0")]
+                    .into_iter()
+                    .filter_map(|(row, is_met)| is_met.then_some(row))
+                    .collect()
+            }
+            None => match usual.get(1) {
+                None => vec![4],
+                Some(kind) if *kind == b"position" => vec![usize::from(has_time)],
+                Some(kind) if *kind == b"mic-e" => vec![2],
+                Some(_) => vec![3],
+            },
+        };
+        let column = usize::from(request.starts_with(b"SF"));
+        rows.iter().for_each(|row| self.strictly[*row][column] += 1);
     }
 
     pub fn print(&self) {
@@ -221,6 +263,7 @@ impl Counts {
         print_table("time", &["reading", "writing"], &TIMES, &self.times);
         print_table("message or status", &["reading", "again", "writing"], &SAID, &self.said);
         print_table("packet inside a packet", &["text", "frame"], &INSIDE, &self.inside);
+        print_table("strictly", &["text", "frame"], &STRICTLY, &self.strictly);
     }
 }
 

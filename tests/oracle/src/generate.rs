@@ -1,6 +1,6 @@
 // Makes requests for the comparison, by kind, from a seed: random kinds as many as asked for, whole sets whole
-// (or, when few are asked for, an even sample), an even sample of a large set. The same arguments give the same requests on
-// every machine.
+// (or, when few are asked for, an even sample), an even sample of a large set. Behind a share of the lines and frames the same stands once
+// more, to be read strictly. The same arguments give the same requests on every machine.
 
 mod drawn;
 mod inner_drawn;
@@ -15,6 +15,8 @@ mod q_whole;
 mod q_written;
 mod random;
 mod records;
+mod strict_drawn;
+mod strict_whole;
 mod timed;
 mod whole;
 
@@ -25,6 +27,8 @@ use random::Random;
 
 /// From this count on, whole sets are given whole.
 const WHOLE_FROM: u64 = 10_000;
+/// One in so many lines and frames is asked strictly too; of the kinds made for the strict entry each one is.
+const STRICTLY_ONE_IN: usize = 16;
 
 pub enum Request {
     Text(Vec<u8>),
@@ -41,7 +45,7 @@ enum Maker {
 
 use Maker::{Drawn, Sampled, Whole};
 
-const KINDS: [(&str, Maker); 107] = [
+const KINDS: [(&str, Maker); 114] = [
     ("text-unknown", Drawn(drawn::text_unknown)),
     ("text-position", Drawn(drawn::text_position)),
     ("text-mic-e", Drawn(drawn::text_mic_e)),
@@ -108,6 +112,13 @@ const KINDS: [(&str, Maker); 107] = [
     ("q-bodies", Whole(q_whole::q_bodies)),
     ("q-inner-paths", Whole(q_whole::q_inner_paths)),
     ("q-inner-names", Whole(q_whole::q_inner_names)),
+    ("text-strict", Drawn(strict_drawn::text_strict)),
+    ("frame-strict", Drawn(strict_drawn::frame_strict)),
+    ("strict-minutes", Whole(strict_whole::strict_minutes)),
+    ("strict-destinations", Whole(strict_whole::strict_destinations)),
+    ("strict-tables", Whole(strict_whole::strict_tables)),
+    ("strict-orders", Whole(strict_whole::strict_orders)),
+    ("strict-lengths", Whole(strict_whole::strict_lengths)),
     ("hops", Whole(whole::hops)),
     ("frame-shapes", Whole(whole::frame_shapes)),
     ("callsigns", Whole(whole::callsigns)),
@@ -151,19 +162,41 @@ const KINDS: [(&str, Maker); 107] = [
     ("bounds-limits", Whole(whole::bounds_limits)),
 ];
 
-fn push_request(out: &mut Vec<u8>, request: Request) {
+fn push_request(out: &mut Vec<u8>, request: &Request) {
     match request {
         Request::Text(bytes) => {
             out.extend_from_slice(b"T ");
-            push_hex(out, &bytes);
+            push_hex(out, bytes);
         }
         Request::Frame(bytes) => {
             out.extend_from_slice(b"F ");
-            push_hex(out, &bytes);
+            push_hex(out, bytes);
         }
         Request::Line(line) => out.extend_from_slice(line.as_bytes()),
     }
     out.push(b'\n');
+}
+
+/// Says which of a kind's requests are asked strictly too, by numbers of its own: the requests stay those that they are without it.
+struct Share {
+    is_whole: bool,
+    random: Random,
+}
+
+impl Share {
+    fn of_kind(name: &str, seed: u64) -> Share {
+        Share {
+            is_whole: name.contains("strict"),
+            random: Random::new(seed, &format!("{} strictly", name)),
+        }
+    }
+
+    fn has(&mut self, request: &Request) -> bool {
+        match request {
+            Request::Text(_) | Request::Frame(_) => self.is_whole || self.random.one_in(STRICTLY_ONE_IN),
+            Request::Line(_) => false,
+        }
+    }
 }
 
 fn size_of_set(set: fn(&mut dyn FnMut(Request))) -> u64 {
@@ -173,14 +206,19 @@ fn size_of_set(set: fn(&mut dyn FnMut(Request))) -> u64 {
 }
 
 /// Writes the requests of one kind and returns how many they are.
-fn make(maker: &Maker, random: &mut Random, count: u64, out: &mut impl Write) -> io::Result<u64> {
+fn make(maker: &Maker, random: &mut Random, mut share: Share, count: u64, out: &mut impl Write) -> io::Result<u64> {
     let mut line = Vec::new();
     let mut made = 0;
     let mut result = Ok(());
     let mut emit = |request| {
         line.clear();
-        push_request(&mut line, request);
+        push_request(&mut line, &request);
         made += 1;
+        if share.has(&request) {
+            line.push(b'S');
+            push_request(&mut line, &request);
+            made += 1;
+        }
         if result.is_ok() {
             result = out.write_all(&line);
         }
@@ -218,7 +256,7 @@ fn generate(kind: &str, seed: u64, count: u64, index: &str) -> io::Result<()> {
     let mut index = std::fs::File::create(index)?;
     let mut total = 0;
     for (name, maker) in KINDS.iter().filter(|(name, _)| kind == "all" || kind == *name) {
-        let made = make(maker, &mut Random::new(seed, name), count, &mut requests)?;
+        let made = make(maker, &mut Random::new(seed, name), Share::of_kind(name, seed), count, &mut requests)?;
         writeln!(index, "{} {}", name, made)?;
         total += made;
     }

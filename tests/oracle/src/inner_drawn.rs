@@ -19,11 +19,11 @@ pub fn any_kind(random: &mut Random) -> Packet {
     }
 }
 
-/// A packet with 0 to 6 inside it, mostly 1 to 4. Of the texts inside one in four has SSIDs `0` or nearly so, one in four Q elements, and
-/// one in sixteen is damaged.
-fn nested(random: &mut Random) -> Packet {
+/// A packet with 0 to 6 inside it, mostly 1 to 4, the innermost as it is drawn. Of the texts inside one in four has SSIDs `0` or nearly so,
+/// one in four Q elements, and one in sixteen is damaged.
+pub fn nested(random: &mut Random, innermost: fn(&mut Random) -> Packet) -> Packet {
     let depth = *random.pick(&[0, 1, 1, 1, 2, 2, 3, 3, 4, 4, 4, 5, 5, 6]);
-    let mut made = any_kind(random);
+    let mut made = innermost(random);
     for _ in 0..depth {
         let good = good_line(random, &made);
         let text = if random.one_in(16) { damaged(random, good) } else { good };
@@ -35,12 +35,12 @@ fn nested(random: &mut Random) -> Packet {
 }
 
 pub fn text_inner(random: &mut Random) -> Request {
-    let made = nested(random);
+    let made = nested(random, any_kind);
     line_of(random, &made)
 }
 
 pub fn frame_inner(random: &mut Random) -> Request {
-    let made = nested(random);
+    let made = nested(random, any_kind);
     frame_of(random, &made)
 }
 

@@ -54,7 +54,7 @@ const HEADERS: [&str; 5] = [
 ];
 
 /// Starts of a packet that do not read, for each number of a header, and with two faults in one callsign; and some that do.
-const ODD_HEADERS: [&[u8]; 37] = [
+pub const ODD_HEADERS: [&[u8]; 37] = [
     b"",
     b"A",
     b">",

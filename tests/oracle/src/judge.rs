@@ -2,10 +2,11 @@
 // Of two refusals only the fact counts; where the oracle marks its answer, the documents' own number, or the record that stands behind the
 // mark, is demanded. What the Rust does not have, the letters, the dropped zeros, the page box and the numbers of a bad time, a malformed
 // message or a malformed status, is held to document 02's rules. Bodies that start `}` are outside that domain; of them the whole answer is
-// demanded that the oracle has by document 02's rules.
+// demanded that the oracle has by document 02's rules. An answer of the strict entry is held to the usual one of the same input.
 
 use protocol::rules::{self, Limit, Words};
-use protocol::{from_decimal, from_hex, words, Form, Mark, BAD_TIME, MALFORMED};
+use protocol::strict::{self, Refusal};
+use protocol::{first_number, from_decimal, from_hex, words, Form, Mark, BAD_TIME, MALFORMED};
 
 /// The number of three bytes that start `qA` and are no name of a Q element.
 const NO_Q_ELEMENT: u32 = 6;
@@ -311,6 +312,26 @@ fn judge_bounds(request: &[u8], oracle: &[u8], ours: &[u8]) -> Verdict {
         [b"0", _, _] if bounds == oracle => Accepted,
         [b"0", _, _] => Different("the bounds"),
         _ => Different("no answer of the Rust"),
+    }
+}
+
+/// Judges the port's answer to ST or SF beside its answer to the same T or F, which was asked just before: the usual one word for word, or
+/// the number of what is refused strictly alone.
+pub fn judge_strictly(request: &[u8], [asked_before, usual]: [&[u8]; 2], ours: &[u8]) -> Result<Option<Refusal>, &'static str> {
+    let same = request.strip_prefix(b"S").filter(|same| *same == asked_before);
+    let (input, form) = same.and_then(input_of).ok_or("a strict request without the usual one before it")?;
+    let refusal = first_number(usual).and_then(|usual| strict::refusal(&input, form, usual));
+    let is_met = match &refusal {
+        Some(refusal) => ours == refusal.number.to_string().as_bytes(),
+        None => ours == usual,
+    };
+    match refusal {
+        refusal if is_met => Ok(refusal),
+        None => Err("another answer than usually, where nothing is refused strictly"),
+        Some(Refusal { number: strict::TABLE, .. }) => Err("a table byte, strictly"),
+        Some(Refusal { number: strict::LATITUDE, .. }) => Err("the minutes of a latitude, strictly"),
+        Some(Refusal { number: strict::LONGITUDE, .. }) => Err("the minutes of a longitude, strictly"),
+        Some(_) => Err("the minutes of a destination, strictly"),
     }
 }
 

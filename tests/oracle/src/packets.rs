@@ -133,7 +133,7 @@ fn number_of_blanks(random: &mut Random) -> usize {
 }
 
 /// The digits of an angle with the last ones, as many as `blanks`, put over by `cover`.
-fn digits(degrees: usize, width: usize, minutes: usize, hundredths: usize, blanks: usize, cover: u8) -> Vec<u8> {
+pub fn digits(degrees: usize, width: usize, minutes: usize, hundredths: usize, blanks: usize, cover: u8) -> Vec<u8> {
     let mut digits = format!("{:0width$}{:02}{:02}", degrees, minutes, hundredths).into_bytes();
     let length = digits.len();
     for digit in &mut digits[length - blanks..] {

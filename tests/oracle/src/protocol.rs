@@ -5,6 +5,7 @@ mod mark;
 pub mod messages;
 pub mod q_elements;
 pub mod rules;
+pub mod strict;
 pub mod third_party;
 
 use std::io::{self, BufRead};
@@ -83,6 +84,11 @@ pub fn dmh_of(angle: i64) -> (u32, u32, u32) {
 
 pub fn words(line: &[u8]) -> Vec<&[u8]> {
     line.split(|byte| *byte == b' ').collect()
+}
+
+/// The number that an answer starts with.
+pub fn first_number(answer: &[u8]) -> Option<u32> {
+    words(answer).first().and_then(|word| from_decimal(word)).and_then(|number| number.try_into().ok())
 }
 
 /// The texts of a line's callsigns, stars and all: source, destination, hops.

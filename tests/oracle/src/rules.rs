@@ -1,6 +1,6 @@
 // What document 02 asks that the Rust does not have, computed from a request alone: the letters of both angles and the page box,
-// which callsigns had SSID `0`, and which seven bytes are a time. Messages and status lines and packets inside packets
-// have files of their own.
+// which callsigns had SSID `0`, and which seven bytes are a time. Messages and status lines, packets inside packets
+// and the strict entry have files of their own.
 
 use std::ops::RangeInclusive;
 
@@ -135,7 +135,8 @@ pub fn decided_by_body(input: &[u8], form: Form, rust: u32) -> Option<u32> {
     }
 }
 
-fn six_characters(input: &[u8], form: Form) -> Option<Vec<u8>> {
+/// The first six characters of a destination.
+pub fn six_characters(input: &[u8], form: Form) -> Option<Vec<u8>> {
     match form {
         Form::Text => callsigns_of(input)?[1].get(..6).map(<[u8]>::to_vec),
         Form::Frame => {

@@ -1,5 +1,5 @@
 -- The destination, or 11; and then the information. Assumes nothing.
-use Rattle.body.proofs.Reading.{destination-refused, destination-read}
+use Rattle.body.proofs.Reading.{destination-refused, destination-over, destination-read}
 use borrow.Author.Needs.{needs}
 use Rattle.body.proofs.read_mic_e.Statement.{statement}
 use Rattle.body.proofs.read_mic_e.Tie as tie
@@ -16,14 +16,23 @@ refused-requires c κs = search needs
 enum-known-read : tie.Need-enum-known-read
 enum-known-read c = search needs
 
+is-over-requires : tie.Need-is-over-requires
+is-over-requires c κs = search needs
+
+refused-requires-2 : tie.Need-refused-requires-2
+refused-requires-2 c κs = search needs
+
+returns : tie.Need-returns
+returns c = search destination-over
+
 read-report-requires : tie.Need-read-report-requires
 read-report-requires c κs = search needs
 
-returns : tie.Need-returns
-returns c = search destination-refused
-
 returns-2 : tie.Need-returns-2
-returns-2 c = search destination-read
+returns-2 c = search destination-refused
+
+returns-3 : tie.Need-returns-3
+returns-3 c = search destination-read
 
 pub read-mic-e-spec : {M : Type 1} → statement M
 read-mic-e-spec =
@@ -33,6 +42,9 @@ read-mic-e-spec =
     enum-told
     refused-requires
     enum-known-read
-    read-report-requires
+    is-over-requires
+    refused-requires-2
     returns
-    returns-2)
+    read-report-requires
+    returns-2
+    returns-3)

@@ -37,8 +37,8 @@ no-report-requires c κs = search needs
 add-behind : tie.Need-add-behind
 add-behind c = search end-fits
 
-sub-t19 : tie.Need-sub-t19
-sub-t19 c = search position-fits
+sub-t20 : tie.Need-sub-t20
+sub-t20 c = search position-fits
 
 accepted-requires : tie.Need-accepted-requires
 accepted-requires c κs = search needs
@@ -61,6 +61,6 @@ read-position-spec =
     returns-2
     no-report-requires
     add-behind
-    sub-t19
+    sub-t20
     accepted-requires
     returns-3)

@@ -1,5 +1,5 @@
--- The information of a report, or 12. Assumes nothing.
-use Rattle.body.proofs.Reading.{information-refused, information-fits, information-read}
+-- The information of a report, or 12; and strictly its table byte, or 20. Assumes nothing.
+use Rattle.body.proofs.Reading.{information-refused, information-fits, information-off-table, information-read}
 use borrow.Author.Needs.{needs}
 use Rattle.body.proofs.read_report.Statement.{statement}
 use Rattle.body.proofs.read_report.Tie as tie
@@ -25,11 +25,20 @@ refused-requires c κs = search needs
 enum-known-read : tie.Need-enum-known-read
 enum-known-read c = search needs
 
+is-off-table-requires : tie.Need-is-off-table-requires
+is-off-table-requires c κs = search needs
+
+refused-requires-2 : tie.Need-refused-requires-2
+refused-requires-2 c κs = search needs
+
+returns : tie.Need-returns
+returns c = search information-off-table
+
 add-behind : tie.Need-add-behind
 add-behind c = search needs
 
-sub-t24 : tie.Need-sub-t24
-sub-t24 c = search information-fits
+sub-t26 : tie.Need-sub-t26
+sub-t26 c = search information-fits
 
 blank-requires : tie.Need-blank-requires
 blank-requires c κs = search needs
@@ -37,11 +46,11 @@ blank-requires c κs = search needs
 accepted-requires : tie.Need-accepted-requires
 accepted-requires c κs = search needs
 
-returns : tie.Need-returns
-returns c = search information-refused
-
 returns-2 : tie.Need-returns-2
-returns-2 c = search information-read
+returns-2 c = search information-refused
+
+returns-3 : tie.Need-returns-3
+returns-3 c = search information-read
 
 pub read-report-spec : {M : Type 1} → statement M
 read-report-spec =
@@ -54,9 +63,12 @@ read-report-spec =
     enum-told
     refused-requires
     enum-known-read
+    is-off-table-requires
+    refused-requires-2
+    returns
     add-behind
-    sub-t24
+    sub-t26
     blank-requires
     accepted-requires
-    returns
-    returns-2)
+    returns-2
+    returns-3)

@@ -11,10 +11,10 @@ use Rattle.listing.proofs.list.Statement.{statement}
 use Rattle.listing.proofs.list.Tie as tie
 
 abbrev Inv-loop : tie.InvT-loop
-Inv-loop s out₀ used₀ from₀ number₀ out used from number = (length out ≡ length out₀) × (number ≤ from) × (from ≤ length s)
+Inv-loop s strict out₀ used₀ from₀ number₀ out used from number = (length out ≡ length out₀) × (number ≤ from) × (from ≤ length s)
 
 abbrev μ-loop : tie.MeasureT-loop
-μ-loop s out₀ used₀ from₀ number₀ out used from number = length s - from
+μ-loop s strict out₀ used₀ from₀ number₀ out used from number = length s - from
 
 -- where the line at hand starts and ends, and where the next one is
 here : (c : tie.After-known-told Inv-loop μ-loop)
@@ -65,7 +65,7 @@ loop-less : tie.Need-loop-less Inv-loop μ-loop
 loop-less c = omega (arith, here (c .before .before .before .before .before .before))
 
 loop-again : tie.Need-loop-again Inv-loop μ-loop
-loop-again c = let h = here (c .before .before .before .before .before .before) in (c .before .before .before .put-row .kept .1 .1 .0 ∙ c .before .before .before .before .before .before .before .before .before .before .loop .inv .0, omega arith, omega arith)
+loop-again c = let h = here (c .before .before .before .before .before .before) in (c .before .before .before .put-row .kept .1 .1 .1 .0 ∙ c .before .before .before .before .before .before .before .before .before .before .loop .inv .0, omega arith, omega arith)
 
 flush-requires : tie.Need-flush-requires Inv-loop μ-loop
 flush-requires c κs = search needs

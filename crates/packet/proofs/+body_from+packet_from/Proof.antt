@@ -197,7 +197,7 @@ packet-from-packet-around-requires : (t : ℕ) → packet-from-lts.Need-packet-a
 packet-from-packet-around-requires t c κs =
     let a = c .before .before .before .before .before .args in
     let w = brace-within (now (a .s)) (a .o .at) _ (c .before .before .before .holds-packet .ensures) (c .before .before .if1 .taken) in
-    let g = inside-given (a .left) (drop (a .o .at + 1) (now (a .s))) _ (c .body-from .ensures) in
+    let g = inside-given (a .strict) (a .left) (drop (a .o .at + 1) (now (a .s))) _ (c .body-from .ensures) in
     omega (arith, w, length-drop (a .o .at + 1) (now (a .s)), g .number, g .within, g .identifier-within)
 
 packet-from-returns : (t : ℕ) → packet-from-lts.Need-returns (

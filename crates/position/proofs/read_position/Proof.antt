@@ -1,5 +1,5 @@
 -- `read_position`: 7, 10, 8, and then the longitude. Assumes nothing.
-use Rattle.position.proofs.Reading.{position-compressed, position-short, latitude-refused, latitude-read}
+use Rattle.position.proofs.Reading.{position-compressed, position-short, latitude-refused, latitude-over, latitude-read}
 use borrow.Author.Needs.{needs}
 use Rattle.position.proofs.read_position.Statement.{statement}
 use Rattle.position.proofs.read_position.Tie as tie
@@ -34,20 +34,29 @@ read-latitude-requires c κs = search needs
 enum-known-latitude : tie.Need-enum-known-latitude
 enum-known-latitude c = search needs
 
+is-over-requires : tie.Need-is-over-requires
+is-over-requires c κs = search needs
+
+refused-position-requires-3 : tie.Need-refused-position-requires-3
+refused-position-requires-3 c κs = search needs
+
+returns-3 : tie.Need-returns-3
+returns-3 c = search latitude-over
+
 with-longitude-requires : tie.Need-with-longitude-requires
 with-longitude-requires c κs = search needs
 
 enum-told : tie.Need-enum-told
 enum-told c = search needs
 
-refused-position-requires-3 : tie.Need-refused-position-requires-3
-refused-position-requires-3 c κs = search needs
-
-returns-3 : tie.Need-returns-3
-returns-3 c = search latitude-read
+refused-position-requires-4 : tie.Need-refused-position-requires-4
+refused-position-requires-4 c κs = search needs
 
 returns-4 : tie.Need-returns-4
-returns-4 c = search latitude-refused
+returns-4 c = search latitude-read
+
+returns-5 : tie.Need-returns-5
+returns-5 c = search latitude-refused
 
 pub read-position-spec : {M : Type 1} → statement M
 read-position-spec =
@@ -63,8 +72,11 @@ read-position-spec =
     part-read-latitude-end
     read-latitude-requires
     enum-known-latitude
-    with-longitude-requires
-    enum-told
+    is-over-requires
     refused-position-requires-3
     returns-3
-    returns-4)
+    with-longitude-requires
+    enum-told
+    refused-position-requires-4
+    returns-4
+    returns-5)

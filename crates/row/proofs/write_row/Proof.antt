@@ -5,8 +5,8 @@ use borrow.Author.Needs.{needs}
 use Rattle.row.proofs.write_row.Statement.{statement}
 use Rattle.row.proofs.write_row.Tie as tie
 
-read-text-requires : tie.Need-read-text-requires
-read-text-requires c κs = search needs
+read-requires : tie.Need-read-requires
+read-requires c κs = search needs
 
 slice-aggregate-put-fields : tie.Need-slice-aggregate-put-fields
 slice-aggregate-put-fields c = search needs
@@ -33,7 +33,7 @@ pub write-row-spec : {M : Type 1} → statement M
 write-row-spec =
     tie.close
     (tie.spec
-    read-text-requires
+    read-requires
     slice-aggregate-put-fields
     put-fields-requires
     slice-aggregate-cut

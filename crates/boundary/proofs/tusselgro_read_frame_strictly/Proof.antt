@@ -1,0 +1,16 @@
+-- A frame read strictly, as C has it. Assumes nothing.
+use borrow.Author.Needs.{needs}
+use Rattle.boundary.proofs.tusselgro_read_frame_strictly.Statement.{statement}
+use Rattle.boundary.proofs.tusselgro_read_frame_strictly.Tie as tie
+
+read-frame-strictly-requires : tie.Need-read-frame-strictly-requires
+read-frame-strictly-requires c κs = search needs
+
+read-in-c-requires : tie.Need-read-in-c-requires
+read-in-c-requires c κs = search needs
+
+returns : tie.Need-returns
+returns c = cc
+
+pub tusselgro-read-frame-strictly-spec : {M : Type 1} → statement M
+tusselgro-read-frame-strictly-spec = tie.close (tie.spec read-frame-strictly-requires read-in-c-requires returns)
