@@ -7,16 +7,15 @@ use mathlib.Core.Bool.{Bool, true, false, not, cond, _&&_}
 use mathlib.Core.List.{List}
 use Prim.Native.Nat.{ℕ, _+_}
 use native.Mathlib.Omega.{arith}
-use borrow.Author.Tests.{eqb-true, eqb-false}
+use borrow.Author.Tests.{eqb-false}
 use lib.Dec.{eqb, ltb}
 use lib.ListN.{length, drop, getD}
-use Rattle.laws.proofs.Tests.{picked}
 use Rattle.callsign.specs.declared.Callsign.{Callsign}
 use Rattle.callsign.specs.Range.{callPart}
 use Rattle.time.specs.declared.Time.{Time}
 use Rattle.position.specs.declared.PositionRead.{PositionRead}
-use Rattle.position.specs.Position.{fixedBytes, usually, strictly, isTable, tableNumber, refusedPosition, readPositionBy, readPosition}
-use Rattle.position.proofs.Strict.{tableFault, positionFault, positionUnless, isFault, either-fault, table-fault, position-fault, position-strictly, position-refused-too, isSound, position-sound, none-where, table-none}
+use Rattle.position.specs.Position.{fixedBytes, usually, strictly, isTable, refusedPosition, readPositionBy, readPosition}
+use Rattle.position.proofs.Strict.{unless, through-unless, table-unless, number-of, tableFault, positionFault, isFault, either-fault, table-fault, position-fault, position-strictly, position-refused-too, isSound, position-sound, none-where, table-none}
 use Rattle.mic_e.specs.declared.Destination.{Destination}
 use Rattle.mic_e.specs.declared.DestinationRead.{DestinationRead}
 use Rattle.mic_e.specs.declared.DestinationRead.the-variants as destination
@@ -57,23 +56,9 @@ faultAfter Other to s at = 0
 unfoldable pub bodyFault : Callsign → List ℕ → ℕ → ℕ
 bodyFault to s from = cond (ltb from (length s)) (faultAfter (openingOf (getD s from 0)) to s (from + 1)) 0
 
--- what is read, or the fault
-abbrev pub bodyUnless : ℕ → BodyRead → BodyRead
-bodyUnless fault b = cond (eqb fault 0) b (bodyRefused fault)
-
 -- ---- the strict reader is the usual one, but for its faults
 
-position-unless : (fault : ℕ) (p : PositionRead) (messaging : Bool) (t : Time) (comment : Span)
-    → positionBody (positionUnless fault p) messaging t comment ≡ bodyUnless fault (positionBody p messaging t comment)
-position-unless fault p messaging t comment = go (eqb fault 0) refl
-  where
-    go : (none : Bool) → eqb fault 0 ≡ none
-        → positionBody (cond none p (refusedPosition fault)) messaging t comment
-        ≡ cond none (positionBody p messaging t comment) (bodyRefused fault)
-    go true e = refl
-    go false e = unfold positionBody in rw e
-
-behind-time-strictly : (x : TimeAt) (s : List ℕ) (messaging : Bool) → behindTime strictly x s messaging ≡ bodyUnless (behindTimeFault x s) (behindTime usually x s messaging)
+behind-time-strictly : (x : TimeAt) (s : List ℕ) (messaging : Bool) → behindTime strictly x s messaging ≡ unless bodyRefused (behindTimeFault x s) (behindTime usually x s messaging)
 unfolding behindTime behindTimeFault positionFrom
 behind-time-strictly x s messaging = go (eqb (x .refusal) 0)
   where
@@ -85,32 +70,28 @@ behind-time-strictly x s messaging = go (eqb (x .refusal) 0)
 
     go : (found : Bool)
         → cond found (positionBody (readPositionBy strictly behind) messaging (x .time) comment) (bodyRefused (x .refusal))
-        ≡ bodyUnless (cond found (positionFault behind) 0) (cond found (positionBody (readPosition behind) messaging (x .time) comment) (bodyRefused (x .refusal)))
-    go true = ap (λ (p : PositionRead). positionBody p messaging (x .time) comment) (position-strictly behind) ∙ position-unless (positionFault behind) (readPosition behind) messaging (x .time) comment
+        ≡ unless bodyRefused (cond found (positionFault behind) 0) (cond found (positionBody (readPosition behind) messaging (x .time) comment) (bodyRefused (x .refusal)))
+    go true = ap (λ (p : PositionRead). positionBody p messaging (x .time) comment) (position-strictly behind) ∙ through-unless refusedPosition bodyRefused (λ p. positionBody p messaging (x .time) comment) (λ n e. unfold positionBody in rw e) (positionFault behind) (readPosition behind)
     go false = refl
 
-table-strictly : (t : Bool) (b : BodyRead) → cond (not t) (bodyRefused tableNumber) b ≡ bodyUnless (cond t 0 tableNumber) b
-table-strictly true b = refl
-table-strictly false b = refl
-
-report-strictly : (d : Destination) (q : InformationRead) (current : Bool) (comment : Span) → reportBody strictly d q current comment ≡ bodyUnless (informationFault q) (reportBody usually d q current comment)
+report-strictly : (d : Destination) (q : InformationRead) (current : Bool) (comment : Span) → reportBody strictly d q current comment ≡ unless bodyRefused (informationFault q) (reportBody usually d q current comment)
 unfolding reportBody informationFault
-report-strictly d (information.Read i) current comment = table-strictly (isTable (i .table)) _
+report-strictly d (information.Read i) current comment = table-unless bodyRefused (isTable (i .table)) _
 report-strictly d information.Refused current comment = refl
 
 mic-e-strictly : (q : DestinationRead) (info : List ℕ) (current : Bool) (comment : Span)
-    → micEBody strictly q info current comment ≡ bodyUnless (destinationFault q info) (micEBody usually q info current comment)
+    → micEBody strictly q info current comment ≡ unless bodyRefused (destinationFault q info) (micEBody usually q info current comment)
 unfolding micEBody destinationFault destinationNumber
 mic-e-strictly (destination.Read d) info current comment = go (d .sixty)
   where
     go : (over : Bool)
         → cond over (bodyRefused 11) (reportBody strictly d (readInformation info (d .hundred) (d .west)) current comment)
-        ≡ bodyUnless (cond over 11 (informationFault (readInformation info (d .hundred) (d .west)))) (reportBody usually d (readInformation info (d .hundred) (d .west)) current comment)
+        ≡ unless bodyRefused (cond over 11 (informationFault (readInformation info (d .hundred) (d .west)))) (reportBody usually d (readInformation info (d .hundred) (d .west)) current comment)
     go true = refl
     go false = report-strictly d (readInformation info (d .hundred) (d .west)) current comment
 mic-e-strictly destination.Refused info current comment = refl
 
-after-strictly : (o : Opening) (to : Callsign) (s : List ℕ) (at : ℕ) → bodyAfter strictly o to s at ≡ bodyUnless (faultAfter o to s at) (bodyAfter usually o to s at)
+after-strictly : (o : Opening) (to : Callsign) (s : List ℕ) (at : ℕ) → bodyAfter strictly o to s at ≡ unless bodyRefused (faultAfter o to s at) (bodyAfter usually o to s at)
 unfolding bodyAfter faultAfter positionedFrom
 after-strictly (Positioned messaging timed) to s at = behind-time-strictly (timeAt s at timed) s messaging
 after-strictly (Mic current) to s at = mic-e-strictly (readDestination (callPart to)) (drop at s) current (spanFrom s (at + 8))
@@ -119,13 +100,13 @@ after-strictly Stated to s at = refl
 after-strictly Other to s at = refl
 
 module _ (to : Callsign) (s : List ℕ) (from : ℕ) where
-  pub body-strictly : readBodyBy strictly to s from ≡ bodyUnless (bodyFault to s from) (readBody to s from)
+  pub body-strictly : readBodyBy strictly to s from ≡ unless bodyRefused (bodyFault to s from) (readBody to s from)
   unfolding readBodyBy bodyFault
   body-strictly = go (ltb from (length s))
     where
       go : (t : Bool)
           → cond t (bodyAfter strictly (openingOf (getD s from 0)) to s (from + 1)) (bodyAccepted blankBody)
-          ≡ bodyUnless (cond t (faultAfter (openingOf (getD s from 0)) to s (from + 1)) 0) (cond t (bodyAfter usually (openingOf (getD s from 0)) to s (from + 1)) (bodyAccepted blankBody))
+          ≡ unless bodyRefused (cond t (faultAfter (openingOf (getD s from 0)) to s (from + 1)) 0) (cond t (bodyAfter usually (openingOf (getD s from 0)) to s (from + 1)) (bodyAccepted blankBody))
       go true = after-strictly (openingOf (getD s from 0)) to s (from + 1)
       go false = refl
 
@@ -170,8 +151,7 @@ IsBeside n fault = (fault ≡ 0) ⊎ (((n ≡ 9) × (fault ≡ 8)) ⊎ ((n ≡ 1
 
 position-number : (p : PositionRead) (messaging : Bool) (t : Time) (comment : Span) → positionBody p messaging t comment .refusal ≡ p .refusal
 unfolding positionBody
-position-number p messaging t comment =
-    picked (λ (b : BodyRead) none. eqb (p .refusal) 0 ≡ none → b .refusal ≡ p .refusal) _ _ (λ e. sym (eqb-true (p .refusal) 0 e)) (λ e. refl) (eqb (p .refusal) 0) refl
+position-number p messaging t comment = number-of (λ (b : BodyRead). b .refusal) (p .refusal) _ _ refl refl
 
 behind-time-beside : (x : TimeAt) (s : List ℕ) (messaging : Bool) → (behindTime usually x s messaging .refusal ≡ 0 → ⊥) → IsBeside (behindTime usually x s messaging .refusal) (behindTimeFault x s)
 unfolding behindTime behindTimeFault positionFrom

@@ -191,6 +191,28 @@ module _ (longitude : Longitude) (west sixty : Bool) where
       told-by-digits mostLongitude minus (lastAs digit0 blanks (longitudePlaces s)) (longitudeWith minus) sixty (lon.Read longitude west sixty) no-longitude (λ z y q. cc)
       (passed (isEastOrWest (getD s 8 0)) _ lon.Refused _ no-longitude (k .1) .1)
 
+-- ---- document 02, R-8: "minutes give 8, 9 or 11 after the digits and before the size test"
+
+-- an angle that was read, and then its minutes judged
+abbrev judged : AngleRead → AngleRead
+judged (Of angle true) = Bad
+judged (Of angle false) = Of angle false
+judged Bad = Bad
+
+-- is an angle judged in that order
+pub minutes-before-size : (most : ℕ) (minus : Bool) (t : List ℕ)
+    → judged (angleIn most minus t) ≡ cond (every isDigit t) (cond (isSixty t) Bad (cond (leb (valueOf t) most) (Of (signedOf minus (valueOf t)) false) Bad)) Bad
+unfolding angleIn fits
+minutes-before-size most minus t = go (every isDigit t) (leb (valueOf t) most) (isSixty t)
+  where
+    go : (digits small sixty : Bool)
+        → judged (cond (digits && small) (Of (signedOf minus (valueOf t)) sixty) Bad) ≡ cond digits (cond sixty Bad (cond small (Of (signedOf minus (valueOf t)) false) Bad)) Bad
+    go true true true = refl
+    go true true false = refl
+    go true false true = refl
+    go true false false = refl
+    go false small sixty = refl
+
 -- up to five blanks are never out of range
 pub longitude-few : (s : List ℕ) (blanks : ℕ) → blanks ≤ 5 → readLongitude s blanks ≡ lon.OutOfRange → ⊥
 unfolding readLongitude longitudeIn longitudeWith

@@ -15,10 +15,10 @@ use Rattle.header.specs.declared.Header.{Header}
 use Rattle.header.specs.declared.HeaderRead.{HeaderRead}
 use Rattle.header.specs.Text.{readHeaderText}
 use Rattle.position.specs.Position.{usually, strictly}
-use Rattle.position.proofs.Strict.{isFault, either-fault}
+use Rattle.position.proofs.Strict.{unless, through-unless, number-of, isFault, either-fault}
 use Rattle.body.specs.declared.BodyRead.{BodyRead}
 use Rattle.body.specs.Body.{bodyRefused}
-use Rattle.body.proofs.Strict.{bodyFault, bodyUnless, body-strictly, body-fault, IsBeside, body-beside, isSoundBody, body-sound}
+use Rattle.body.proofs.Strict.{bodyFault, body-strictly, body-fault, IsBeside, body-beside, isSoundBody, body-sound}
 use Rattle.packet.specs.declared.PacketRead.{PacketRead}
 use Rattle.packet.specs.Record.{packetRefused}
 use Rattle.packet.specs.Packet.{mostInner, packetOf, holdsPacket, packetAround, packetAfter}
@@ -43,10 +43,6 @@ unfoldable pub insideFault : ℕ → List ℕ → ℕ
 insideFault zero t = 0
 insideFault (suc left) t = packetFault left (readHeaderText t) t
 
--- what is read, or the fault
-abbrev pub packetUnless : ℕ → PacketRead → PacketRead
-packetUnless fault p = cond (eqb fault 0) p (packetRefused fault)
-
 -- by the ways in which reading ends
 fault-is : (left : ℕ) (h : HeaderRead) (s : List ℕ)
     → packetFault left h s ≡ cond (eqb (h .refusal) 0) (cond (holdsPacket s (h .body)) (insideFault left (drop (h .body + 1) s)) (ownFault h s)) 0
@@ -67,33 +63,19 @@ module _ (left : ℕ) (h : HeaderRead) (s : List ℕ) where
 
 -- ---- the strict reader is the usual one, but for its faults
 
-own-unless : (fault : ℕ) (h : Header) (b : BodyRead) → packetOf h (bodyUnless fault b) ≡ packetUnless fault (packetOf h b)
-own-unless fault h b = go (eqb fault 0) refl
-  where
-    go : (none : Bool) → eqb fault 0 ≡ none → packetOf h (cond none b (bodyRefused fault)) ≡ cond none (packetOf h b) (packetRefused fault)
-    go true e = refl
-    go false e = unfold packetOf in rw e
-
-around-unless : (fault : ℕ) (h : Header) (at : ℕ) (p : PacketRead) → packetAround h at (packetUnless fault p) ≡ packetUnless fault (packetAround h at p)
-around-unless fault h at p = go (eqb fault 0) refl
-  where
-    go : (none : Bool) → eqb fault 0 ≡ none → packetAround h at (cond none p (packetRefused fault)) ≡ cond none (packetAround h at p) (packetRefused fault)
-    go true e = refl
-    go false e = unfold packetAround packetRefused in rw e
-
-module _ (left : ℕ) (h : HeaderRead) (s : List ℕ) (same : inside strictly left h s ≡ packetUnless (insideFault left (drop (h .body + 1) s)) (inside usually left h s)) where
-  level-strictly : packetAfter strictly left h s ≡ packetUnless (packetFault left h s) (packetAfter usually left h s)
+module _ (left : ℕ) (h : HeaderRead) (s : List ℕ) (same : inside strictly left h s ≡ unless packetRefused (insideFault left (drop (h .body + 1) s)) (inside usually left h s)) where
+  level-strictly : packetAfter strictly left h s ≡ unless packetRefused (packetFault left h s) (packetAfter usually left h s)
   level-strictly =
-      by-body (packetAfter strictly left h s ≡ packetUnless (packetFault left h s) (packetAfter usually left h s)) h s
+      by-body (packetAfter strictly left h s ≡ unless packetRefused (packetFault left h s) (packetAfter usually left h s)) h s
       (λ z. rw (refused-is strictly left h s z, refused-is usually left h s z, fault-refused left h s z))
       (λ z e.
       rw (alone-is strictly left h s z e, alone-is usually left h s z e, fault-alone left h s z e)
-      (ap (packetOf (h .header)) (body-strictly (h .header .to) s (h .body)) ∙ own-unless (ownFault h s) (h .header) (own usually h s)))
+      (ap (packetOf (h .header)) (body-strictly (h .header .to) s (h .body)) ∙ through-unless bodyRefused packetRefused (packetOf (h .header)) (λ n y. unfold packetOf in rw y) (ownFault h s) (own usually h s)))
       (λ z e.
       rw (around-is strictly left h s z e, around-is usually left h s z e, fault-around left h s z e)
-      (ap (packetAround (h .header) (h .body + 1)) same ∙ around-unless (insideFault left (drop (h .body + 1) s)) (h .header) (h .body + 1) (inside usually left h s)))
+      (ap (packetAround (h .header) (h .body + 1)) same ∙ through-unless packetRefused packetRefused (packetAround (h .header) (h .body + 1)) (λ n y. unfold packetAround packetRefused in rw y) (insideFault left (drop (h .body + 1) s)) (inside usually left h s)))
 
-pub after-strictly : (left : ℕ) (h : HeaderRead) (s : List ℕ) → packetAfter strictly left h s ≡ packetUnless (packetFault left h s) (packetAfter usually left h s)
+pub after-strictly : (left : ℕ) (h : HeaderRead) (s : List ℕ) → packetAfter strictly left h s ≡ unless packetRefused (packetFault left h s) (packetAfter usually left h s)
 unfolding insideOf insideFault
 after-strictly zero h s = level-strictly zero h s refl
 after-strictly (suc k) h s = level-strictly (suc k) h s (after-strictly k (readHeaderText (drop (h .body + 1) s)) (drop (h .body + 1) s))
@@ -112,11 +94,11 @@ packet-fault (suc k) h s =
 
 own-number : (h : Header) (b : BodyRead) → packetOf h b .refusal ≡ b .refusal
 unfolding packetOf packetRefused
-own-number h b = picked (λ (p : PacketRead) none. eqb (b .refusal) 0 ≡ none → p .refusal ≡ b .refusal) _ _ (λ e. sym (eqb-true (b .refusal) 0 e)) (λ e. refl) (eqb (b .refusal) 0) refl
+own-number h b = number-of (λ (p : PacketRead). p .refusal) (b .refusal) _ _ refl refl
 
 around-number : (h : Header) (at : ℕ) (p : PacketRead) → packetAround h at p .refusal ≡ p .refusal
 unfolding packetAround packetRefused
-around-number h at p = picked (λ (q : PacketRead) none. eqb (p .refusal) 0 ≡ none → q .refusal ≡ p .refusal) _ _ (λ e. sym (eqb-true (p .refusal) 0 e)) (λ e. refl) (eqb (p .refusal) 0) refl
+around-number h at p = number-of (λ (q : PacketRead). q .refusal) (p .refusal) _ _ refl refl
 
 module _ (left : ℕ) (h : HeaderRead) (s : List ℕ) where
   abbrev usual : PacketRead
@@ -181,34 +163,34 @@ pub record Stricter (usual strict : PacketRead) (sound : Bool) : Type 0 where
   pub accepted : eqb (strict .refusal) 0 ≡ (eqb (usual .refusal) 0 && sound)
 
 module _ (p : PacketRead) (fault : ℕ) (sound : Bool) (one : isFault fault ≡ true) (beside : (p .refusal ≡ 0 → ⊥) → IsBeside (p .refusal) fault) (told : p .refusal ≡ 0 → eqb fault 0 ≡ sound) where
-  none-same : fault ≡ 0 → packetUnless fault p ≡ p
+  none-same : fault ≡ 0 → unless packetRefused fault p ≡ p
   none-same e = rw e
 
-  fault-number : (fault ≡ 0 → ⊥) → packetUnless fault p .refusal ≡ fault
+  fault-number : (fault ≡ 0 → ⊥) → unless packetRefused fault p .refusal ≡ fault
   fault-number e = rw (ne-eqb fault 0 e) (unfold packetRefused in refl)
 
-  unless-stricter : Stricter p (packetUnless fault p) sound
+  unless-stricter : Stricter p (unless packetRefused fault p) sound
   unless-stricter = record { same = same; refused = refused; number = number; accepted = accepted (eqb (p .refusal) 0) refl }
     where
-      same : packetUnless fault p .refusal ≡ 0 → packetUnless fault p ≡ p
+      same : unless packetRefused fault p .refusal ≡ 0 → unless packetRefused fault p ≡ p
       same z = go (eqb fault 0) refl
         where
-          go : (none : Bool) → eqb fault 0 ≡ none → packetUnless fault p ≡ p
+          go : (none : Bool) → eqb fault 0 ≡ none → unless packetRefused fault p ≡ p
           go true e = none-same (eqb-true fault 0 e)
           go false e = absurd (eqb-false fault 0 e (sym (fault-number (eqb-false fault 0 e)) ∙ z))
 
       refused : (p .refusal ≡ 0 → ⊥)
-          → (packetUnless fault p .refusal ≡ p .refusal) ⊎ (((p .refusal ≡ 9) × (packetUnless fault p .refusal ≡ 8)) ⊎ ((p .refusal ≡ 12) × (packetUnless fault p .refusal ≡ 11)))
+          → (unless packetRefused fault p .refusal ≡ p .refusal) ⊎ (((p .refusal ≡ 9) × (unless packetRefused fault p .refusal ≡ 8)) ⊎ ((p .refusal ≡ 12) × (unless packetRefused fault p .refusal ≡ 11)))
       refused n =
           ⊎-elim
           (λ e. inl (ap (λ (q : PacketRead). q .refusal) (none-same e)))
           (λ b. inr (⊎-elim (λ x. inl (x .0, fault-number (λ z. omega (arith, z, x .1)) ∙ x .1)) (λ x. inr (x .0, fault-number (λ z. omega (arith, z, x .1)) ∙ x .1)) b))
           (beside n)
 
-      number : p .refusal ≡ 0 → isFault (packetUnless fault p .refusal) ≡ true
+      number : p .refusal ≡ 0 → isFault (unless packetRefused fault p .refusal) ≡ true
       number z = picked (λ (q : PacketRead) none. isFault (q .refusal) ≡ true) p (packetRefused fault) (rw z) (unfold packetRefused in one) (eqb fault 0)
 
-      accepted : (t : Bool) → eqb (p .refusal) 0 ≡ t → eqb (packetUnless fault p .refusal) 0 ≡ (t && sound)
+      accepted : (t : Bool) → eqb (p .refusal) 0 ≡ t → eqb (unless packetRefused fault p .refusal) 0 ≡ (t && sound)
       accepted true e = rw (← told (eqb-true (p .refusal) 0 e)) (go (eqb fault 0) refl)
         where
           go : (none : Bool) → eqb fault 0 ≡ none → eqb (cond none p (packetRefused fault) .refusal) 0 ≡ none

@@ -1,12 +1,13 @@
 -- Reading strictly and as usually (document 02, R-8): the one is the other, but where a fault is found that only the strict reader looks
 -- for.
 -- Assumes nothing.
-use mathlib.Core.Path.{_≡_, refl}
+use mathlib.Core.Path.{_≡_, refl, sym, _∙_}
 use mathlib.Core.Logic.{_⊎_, inl, inr}
 use mathlib.Core.Bool.{Bool, true, false, not, cond, _&&_, _||_}
 use mathlib.Core.List.{List}
 use Prim.Native.Nat.{ℕ, suc}
 use native.Mathlib.Omega.{arith}
+use borrow.Author.Tests.{eqb-true}
 use lib.Dec.{eqb, ltb}
 use lib.ListN.{length, take, drop, getD}
 use Rattle.laws.proofs.Tests.{picked}
@@ -20,6 +21,26 @@ use Rattle.lonlat.specs.declared.LongitudeRead.the-variants as lon
 use Rattle.lonlat.proofs.Theorems.{read-latitude-found, longitude-few}
 use Rattle.position.specs.declared.PositionRead.{PositionRead}
 use Rattle.position.specs.Position.{fixedBytes, usually, strictly, isTable, tableNumber, isUncompressed, refusedPosition, withLongitude, withLatitude, readPositionBy, readPosition}
+
+-- ---- an answer, or the fault that was found: of a position, of a body and of a packet
+
+module _ {A : Type 0} (refused : ℕ → A) where
+  abbrev pub unless : ℕ → A → A
+  unless fault r = cond (eqb fault 0) r (refused fault)
+
+  -- what is made of an answer, where a refusal is made a refusal of the same number
+  pub through-unless : {B : Type 0} (refused′ : ℕ → B) (f : A → B) → ((n : ℕ) → eqb n 0 ≡ false → f (refused n) ≡ refused′ n)
+      → (fault : ℕ) (r : A) → f (unless fault r) ≡ cond (eqb fault 0) (f r) (refused′ fault)
+  through-unless refused′ f same fault r = picked (λ x none. eqb fault 0 ≡ none → f x ≡ cond none (f r) (refused′ fault)) r (refused fault) (λ e. refl) (λ e. same fault e) (eqb fault 0) refl
+
+  -- a table byte is judged last
+  pub table-unless : (t : Bool) (r : A) → cond (not t) (refused tableNumber) r ≡ unless (cond t 0 tableNumber) r
+  table-unless true r = refl
+  table-unless false r = refl
+
+-- of an answer that is made by a number, the number
+pub number-of : {A : Type 0} (number : A → ℕ) (n : ℕ) (x y : A) → number x ≡ 0 → number y ≡ n → number (cond (eqb n 0) x y) ≡ n
+number-of number n x y p q = picked (λ r none. eqb n 0 ≡ none → number r ≡ n) x y (λ e. p ∙ sym (eqb-true n 0 e)) (λ e. q) (eqb n 0) refl
 
 -- ---- the fault that only the strict reader finds; 0 is none
 
@@ -42,37 +63,29 @@ latitudeFault s lat.Refused = 0
 unfoldable pub positionFault : List ℕ → ℕ
 positionFault s = cond (isUncompressed s) (cond (ltb (length s) fixedBytes) 0 (latitudeFault s (readLatitude (take 8 s)))) 0
 
--- what is read, or the fault
-abbrev pub positionUnless : ℕ → PositionRead → PositionRead
-positionUnless fault p = cond (eqb fault 0) p (refusedPosition fault)
-
 -- ---- the strict reader is the usual one, but for its faults
 
-table-strictly : (t : Bool) (p : PositionRead) → cond (not t) (refusedPosition tableNumber) p ≡ positionUnless (cond t 0 tableNumber) p
-table-strictly true p = refl
-table-strictly false p = refl
-
 longitude-strictly : (s : List ℕ) (latitude : Latitude) (blanks : ℕ) (south sixty : Bool) (q : LongitudeRead)
-    → withLongitude strictly s latitude blanks south sixty q ≡ positionUnless (longitudeFault (getD s 8 0) q) (withLongitude usually s latitude blanks south sixty q)
+    → withLongitude strictly s latitude blanks south sixty q ≡ unless refusedPosition (longitudeFault (getD s 8 0) q) (withLongitude usually s latitude blanks south sixty q)
 unfolding withLongitude longitudeFault longitudeNumber
 longitude-strictly s latitude blanks south sixty (lon.Read longitude west true) = refl
-longitude-strictly s latitude blanks south sixty (lon.Read longitude west false) = table-strictly (isTable (getD s 8 0)) _
+longitude-strictly s latitude blanks south sixty (lon.Read longitude west false) = table-unless refusedPosition (isTable (getD s 8 0)) _
 longitude-strictly s latitude blanks south sixty lon.Refused = refl
 longitude-strictly s latitude blanks south sixty lon.OutOfRange = refl
 
-latitude-strictly : (s : List ℕ) (q : LatitudeRead) → withLatitude strictly s q ≡ positionUnless (latitudeFault s q) (withLatitude usually s q)
+latitude-strictly : (s : List ℕ) (q : LatitudeRead) → withLatitude strictly s q ≡ unless refusedPosition (latitudeFault s q) (withLatitude usually s q)
 unfolding withLatitude latitudeFault latitudeNumber
 latitude-strictly s (lat.Read latitude blanks south true) = refl
 latitude-strictly s (lat.Read latitude blanks south false) = longitude-strictly s latitude blanks south false (readLongitude (take 9 (drop 9 s)) blanks)
 latitude-strictly s lat.Refused = refl
 
-pub position-strictly : (s : List ℕ) → readPositionBy strictly s ≡ positionUnless (positionFault s) (readPosition s)
+pub position-strictly : (s : List ℕ) → readPositionBy strictly s ≡ unless refusedPosition (positionFault s) (readPosition s)
 unfolding readPositionBy positionFault
 position-strictly s = go (isUncompressed s) (ltb (length s) fixedBytes)
   where
     go : (u v : Bool)
         → cond u (cond v (refusedPosition 10) (withLatitude strictly s (readLatitude (take 8 s)))) (refusedPosition 7)
-        ≡ positionUnless (cond u (cond v 0 (latitudeFault s (readLatitude (take 8 s)))) 0) (cond u (cond v (refusedPosition 10) (withLatitude usually s (readLatitude (take 8 s)))) (refusedPosition 7))
+        ≡ unless refusedPosition (cond u (cond v 0 (latitudeFault s (readLatitude (take 8 s)))) 0) (cond u (cond v (refusedPosition 10) (withLatitude usually s (readLatitude (take 8 s)))) (refusedPosition 7))
     go true true = refl
     go true false = latitude-strictly s (readLatitude (take 8 s))
     go false v = refl

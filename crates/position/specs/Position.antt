@@ -80,7 +80,7 @@ acceptedPosition place latitudeSixty longitudeSixty = record {
 
 -- the place, with the symbol's bytes at their places, and the letters as they stood: "At 0 the side is the letter read, so the
 -- record must carry both letters" (document 02, R-1). Strictly "minutes give 8, 9 .. after the digits and before the size test; the table
--- byte gives 20, last of all": one number is given for an angle's minutes and for its size, so the size may be tested first.
+-- byte gives 20, last of all": minutes and size have one number, so that an angle that was read is judged as in that order.
 unfoldable pub withLongitude : Bool → List ℕ → Latitude → ℕ → Bool → Bool → LongitudeRead → PositionRead
 withLongitude strict s latitude blanks south latitudeSixty (lon.Read longitude west longitudeSixty) =
     cond (isOver strict longitudeSixty) (refusedPosition (longitudeNumber lon.Refused))
