@@ -270,7 +270,7 @@ pub extern "C" fn tusselgro_read_frame(frame: &[u8]) -> CRead
 pub extern "C" fn tusselgro_read_text_strictly(line: &[u8]) -> CRead
     ensures { λ r. ⌜ r ≡ readInC (strictText (now (line .entry))) ⌝ }
 {
-    read_in_c(packet::read_text_strictly(line))
+    read_in_c(packet::read(line, false, true))
 }
 
 // Reads an AX.25 frame strictly: as tusselgro_read_text_strictly.
@@ -278,7 +278,7 @@ pub extern "C" fn tusselgro_read_text_strictly(line: &[u8]) -> CRead
 pub extern "C" fn tusselgro_read_frame_strictly(frame: &[u8]) -> CRead
     ensures { λ r. ⌜ r ≡ readInC (strictFrame (now (frame .entry))) ⌝ }
 {
-    read_in_c(packet::read_frame_strictly(frame))
+    read_in_c(packet::read(frame, true, true))
 }
 
 // Writes a record with its comment, or its text and identifier, as a line of text; refused with 15, 14, 18, 1 or 16. Where the record

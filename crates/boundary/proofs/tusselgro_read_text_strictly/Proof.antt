@@ -3,8 +3,8 @@ use borrow.Author.Needs.{needs}
 use Rattle.boundary.proofs.tusselgro_read_text_strictly.Statement.{statement}
 use Rattle.boundary.proofs.tusselgro_read_text_strictly.Tie as tie
 
-read-text-strictly-requires : tie.Need-read-text-strictly-requires
-read-text-strictly-requires c κs = search needs
+read-requires : tie.Need-read-requires
+read-requires c κs = search needs
 
 read-in-c-requires : tie.Need-read-in-c-requires
 read-in-c-requires c κs = search needs
@@ -13,4 +13,4 @@ returns : tie.Need-returns
 returns c = cc
 
 pub tusselgro-read-text-strictly-spec : {M : Type 1} → statement M
-tusselgro-read-text-strictly-spec = tie.close (tie.spec read-text-strictly-requires read-in-c-requires returns)
+tusselgro-read-text-strictly-spec = tie.close (tie.spec read-requires read-in-c-requires returns)
