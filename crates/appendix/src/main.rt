@@ -1,6 +1,7 @@
 // Prints the page that the bench uses: for each test setting all the fields that a unit may send. The settings are the
 // program's arguments, or where there are none its standard input; a comma or the end of a line ends one. What is wrong or
 // fails is said on standard error, by a word at the start of the line that ./tusselgro turns into a status.
+#![tactic(auto)]
 ghost use Rattle.std.specs.Prelude.{◌≤◌, length};
 
 mod part;

@@ -1,5 +1,6 @@
 // A record made by hand, its headers and its body, each by their words, and the identifier that goes with a message: part of the
 // programs inspect and bench. Words that make no part of it give one that is not good.
+#![tactic(auto)]
 use body::{Body, Kind, Report, Span};
 use callsign::Callsign;
 use header::{Header, Hop, Path};

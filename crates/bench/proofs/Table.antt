@@ -11,9 +11,9 @@ use Rattle.laws.specs.Bytes.{star, comma, point, digit0, colon, greater, within,
 use Rattle.laws.specs.Lists.{index_of, any_of, same_bytes, pad_to}
 use Rattle.callsign.specs.declared.Callsign.{Callsign}
 use Rattle.callsign.specs.declared.Field.TheVariants.{Hop}
-use Rattle.callsign.specs.Utf8.{after_lem, characters, utf8}
-use Rattle.callsign.specs.Text.{joined_lem, made_lem, is_zero, call_accepted, parted_lem, read_unstarred, read_text}
-use Rattle.callsign.specs.Range.{call_part, ssid_part, text_of_lem, with_star}
+use Rattle.callsign.specs.Utf8.{after, characters, utf8}
+use Rattle.callsign.specs.Text.{joined, made, is_zero, call_accepted, parted, read_unstarred, read_text}
+use Rattle.callsign.specs.Range.{call_part, ssid_part, text_of, with_star}
 use Rattle.callsign.specs.Address.{read_address}
 use Rattle.callsign.specs.Packed.{bit, write_address}
 use Rattle.callsign.proofs.Theorems.{P10, p10_read}
@@ -22,7 +22,7 @@ use Rattle.lonlat.specs.declared.LatitudeRead.{LatitudeRead}
 use Rattle.lonlat.specs.declared.LatitudeRead.TheVariants.{Read as Stands}
 use Rattle.lonlat.proofs.Theorems.{ninety_degrees, sixty_minutes, past_ninety}
 use Rattle.mic_e.specs.Turn.{less_if}
-use Rattle.mic_e.specs.Motion.{degrees_lem as course, read_motion, motion_number, motion_out, motion_field}
+use Rattle.mic_e.specs.Motion.{degrees as course, read_motion, motion_number, motion_out, motion_field}
 use Rattle.mic_e.specs.Longitude.{read_longitude, longitude_out, longitude_field, hundred_of}
 use Rattle.mic_e.specs.Destination.{read_destination, destination_number}
 use Rattle.mic_e.specs.declared.Field.{Field}
@@ -34,8 +34,8 @@ use Rattle.mic_e.specs.declared.DestinationRead.TheVariants.{Read}
 use Rattle.mic_e.proofs.Cases.{cases}
 use Rattle.header.specs.declared.Hop as hops
 use Rattle.header.specs.Hop.{q_aC, is_qName, heard_as, call_hop, q_hop, is_heard, is_qElement, heard_if}
-use Rattle.header.specs.Header.{before_lem, path_of, hops_of, header_of, header_accepted, unless_refused, with_hops}
-use Rattle.header.specs.Text.{on_first, fields, first_of, others_of, starts_q, hop_of, hop_named, read_hop, hop_then, text_hops, stars_of, carried_lem, read_route, read_before, read_header_text, read_text_header, hops_text, route_text, header_text}
+use Rattle.header.specs.Header.{before, path_of, hops_of, header_of, header_accepted, unless_refused, with_hops}
+use Rattle.header.specs.Text.{on_first, fields, first_of, others_of, starts_q, hop_of, hop_named, read_hop, hop_then, text_hops, stars_of, carried, read_route, read_before, read_header_text, read_text_header, hops_text, route_text, header_text}
 
 -- ---- what the table's lines are written with
 
@@ -46,8 +46,8 @@ bytes a b c = record { first = a; second = b; third = c }
 abbrev moving : ℕ → ℕ → Motion
 moving knots degree = Moves (record { 0 = knots }) (record { 0 = degree })
 
-abbrev degrees_lem : ℕ → ℕ
-degrees_lem d = d * 6000
+abbrev degrees : ℕ → ℕ
+degrees d = d * 6000
 
 -- characters, and the texts that the cases name
 abbrev digit : ℕ → ℕ
@@ -78,7 +78,7 @@ line_past_Q = capital_s ∷ greater ∷ capital_t ∷ comma ∷ capital_a ∷ co
 
 -- a callsign of one letter, and a hop that is one
 abbrev lone : ℕ → Callsign
-lone letter = made_lem (letter ∷ []) []
+lone letter = made (letter ∷ []) []
 
 abbrev hop : ℕ → Bool → hops.Hop
 hop letter heard = call_hop (lone letter) heard
@@ -115,8 +115,8 @@ pub record BenchValues : Type 0 where
   -- "P6 longitude 118,88,28, offset 100, east: 0."
   pub p6 : read_longitude true false 118 88 28 ≡ Lies (record { 0 = pos 0 })
   -- "P7 105 degrees east: written 113,88,28, offset 100."
-  pub p7 : (longitude_out (pos (degrees_lem 105)) ≡ false)
-      × (longitude_field (degrees_lem 105) ≡ bytes 113 88 28) × (hundred_of (pos (degrees_lem 105)) ≡ true)
+  pub p7 : (longitude_out (pos (degrees 105)) ≡ false)
+      × (longitude_field (degrees 105) ≡ bytes 113 88 28) × (hundred_of (pos (degrees 105)) ≡ true)
   -- "P8 destination S32_u6_t: 200564, no blanks, M3, offset 0, west."
   pub p8 : read_destination S32_u6_t
       ≡ Read (record { latitude = record { 0 = pos 200564 }; message = M3; blanks = 0; south = false; hundred = false; west = true; sixty = false })
@@ -125,8 +125,8 @@ pub record BenchValues : Type 0 where
       × (read_destination 4LLLLL
       ≡ Read (record { latitude = record { 0 = neg_ℤ (pos 240000) }; message = Emergency; blanks = 5; south = true; hundred = false; west = false; sixty = false }))
   -- "P10 hop N0_cALL_1, heard, last: 9c 60 86 82 98 98 e3."
-  pub p10 : (write_address (made_lem N0_cALL (digit 1 ∷ [])) (Hop true) true ≡ record { refusal = 0; bytes = address })
-      × (read_address address ≡ record { refusal = 0; call = made_lem N0_cALL (digit 1 ∷ []); heard = true; last = true })
+  pub p10 : (write_address (made N0_cALL (digit 1 ∷ [])) (Hop true) true ≡ record { refusal = 0; bytes = address })
+      × (read_address address ≡ record { refusal = 0; call = made N0_cALL (digit 1 ∷ []); heard = true; last = true })
   -- "P11 hops A,B*,C: A and B heard, C not; written A,B*,C."
   pub p11 : (read_text_header line
       ≡ header_accepted (lone capital_s) (lone capital_t) (path_of heard_to_B) 11 2)
@@ -144,20 +144,20 @@ pub record BenchValues : Type 0 where
 
 p11_read_lem : read_text_header line
     ≡ header_accepted (lone capital_s) (lone capital_t) (path_of heard_to_B) 11 2
-unfolding read_text_header read_header_text read_before read_route with_hops unless_refused header_accepted header_of path_of fields on_first first_of others_of text_hops hop_then before_lem read_hop starts_q hop_of read_text read_unstarred parted_lem call_accepted index_of utf8 characters after_lem within is_zero made_lem joined_lem pad_to carried_lem stars_of bit any_of is_heard is_qElement heard_if heard_as call_hop
+unfolding read_text_header read_header_text read_before read_route with_hops unless_refused header_accepted header_of path_of fields on_first first_of others_of text_hops hop_then before read_hop starts_q hop_of read_text read_unstarred parted call_accepted index_of utf8 characters after within is_zero made joined pad_to carried stars_of bit any_of is_heard is_qElement heard_if heard_as call_hop
 p11_read_lem = refl
 
 p11_written_lem : header_text (header_of (lone capital_s) (lone capital_t) (path_of heard_to_B)) ≡ line
-unfolding header_text route_text header_of path_of hops_of hops_text any_of is_heard heard_as call_hop text_of_lem call_part ssid_part with_star made_lem joined_lem pad_to
+unfolding header_text route_text header_of path_of hops_of hops_text any_of is_heard heard_as call_hop text_of call_part ssid_part with_star made joined pad_to
 p11_written_lem = refl
 
 past_Q_read : read_text_header line_past_Q
     ≡ header_accepted (lone capital_s) (lone capital_t) (path_of heard_past_Q) 15 4
-unfolding read_text_header read_header_text read_before read_route with_hops unless_refused header_accepted header_of path_of fields on_first first_of others_of text_hops hop_then before_lem read_hop starts_q is_qName same_bytes hop_named q_hop hop_of read_text read_unstarred parted_lem call_accepted index_of utf8 characters after_lem within is_zero made_lem joined_lem pad_to carried_lem stars_of bit any_of is_heard is_qElement heard_if heard_as call_hop
+unfolding read_text_header read_header_text read_before read_route with_hops unless_refused header_accepted header_of path_of fields on_first first_of others_of text_hops hop_then before read_hop starts_q is_qName same_bytes hop_named q_hop hop_of read_text read_unstarred parted call_accepted index_of utf8 characters after within is_zero made joined pad_to carried stars_of bit any_of is_heard is_qElement heard_if heard_as call_hop
 past_Q_read = refl
 
 past_Q_written : header_text (header_of (lone capital_s) (lone capital_t) (path_of heard_past_Q)) ≡ line_past_Q
-unfolding header_text route_text header_of path_of hops_of hops_text any_of is_heard heard_as call_hop q_hop text_of_lem call_part ssid_part with_star made_lem joined_lem pad_to
+unfolding header_text route_text header_of path_of hops_of hops_text any_of is_heard heard_as call_hop q_hop text_of call_part ssid_part with_star made joined pad_to
 past_Q_written = refl
 
 pub bench_values : BenchValues

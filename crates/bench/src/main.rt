@@ -1,6 +1,7 @@
 // Runs the bench, a table on standard input. Each line asks a question of the crate requests and says what its answer should be:
 // the documents' values, the typesetter's traps, published examples, readings of open points, and recorded answers of the Rust.
 // What fails is said on standard error, by a word at the start of the line: `unread` or `unwritten`.
+#![tactic(auto)]
 mod line;
 mod tell;
 

@@ -8,7 +8,7 @@ use native.Mathlib.Omega.{arith}
 use lib.IntN.{nat_abs}
 use lib.ListN.{length}
 use Rattle.callsign.specs.declared.Callsign.{Callsign}
-use Rattle.callsign.specs.Text.{made_lem, joined_lem}
+use Rattle.callsign.specs.Text.{made, joined}
 use Rattle.callsign.specs.Range.{in_range}
 use Rattle.callsign.proofs.Ranges.{utf8_none, zero_none, blank_is_in_range}
 use Rattle.callsign.proofs.Made.{made_range}
@@ -27,15 +27,15 @@ use Rattle.body.specs.Range.{in_range_as, body_in_range}
 use Rattle.body.specs.Written.{mic_eCall, to_as, written_to}
 use Rattle.body.proofs.Judged.{mic_e_held}
 
-six_short : (l : List ℕ) → length l ≡ 6 → length (joined_lem l []) ≤ 16
-unfolding joined_lem
+six_short : (l : List ℕ) → length l ≡ 6 → length (joined l []) ≤ 16
+unfolding joined
 six_short l h = omega arith
 
 module _ (place : Place) (message : mic-e.Message) (near : place_in_range place ≡ true) where
   abbrev bytes : List ℕ
   bytes = destination_bytes place.latitude.0 place.blanks message place.longitude.0
 
-  built_range : in_range (made_lem bytes []) ≡ true
+  built_range : in_range (made bytes []) ≡ true
   built_range =
       let six = destination_length place.latitude.0 place.blanks message place.longitude.0 in
       let few = reach_few most_latitude (nat_abs place.latitude.0) place.blanks (latitude_near place near) in

@@ -11,7 +11,7 @@ use borrow.Author.Tests.{le-leb, ltb-true, ltb-false, eqb-true, eqb-false}
 use lib.Dec.{eqb, ltb}
 use lib.IntN.{nat_abs}
 use lib.ListN.{length, take, drop, get_or, length-drop}
-use Rattle.laws.specs.Lists.{pad_to, zeros_lem}
+use Rattle.laws.specs.Lists.{pad_to, zeros}
 use Rattle.callsign.specs.declared.Callsign.{Callsign}
 use Rattle.callsign.specs.Range.{call_part, is_blank_call}
 use Rattle.numbers.specs.Sign.{is_on}
@@ -52,8 +52,8 @@ no_report_lem : is_no_report no_report ≡ true
 unfolding is_no_report no_report message_number
 no_report_lem = refl
 
-no_addressee_lem : zeros_lem no_addressee ≡ true
-unfolding zeros_lem no_addressee pad_to
+no_addressee_lem : zeros no_addressee ≡ true
+unfolding zeros no_addressee pad_to
 no_addressee_lem = refl
 
 blank_nine : length no_addressee ≡ addressee_bytes
@@ -88,7 +88,7 @@ pub record Found (size : ℕ) (r : BodyRead) : Type 0 where
 
 blank_found : (n size : ℕ) → Found size (record { refusal = n; body = blank_body })
 unfolding
-    blank_body no_span no_report no_addressee pad_to zeros_lem body_in_range in_range_as is_excepted excepted_as unknown_in_range is_bare is_no_place is_no_letter is_no_report message_number
+    blank_body no_span no_report no_addressee pad_to zeros body_in_range in_range_as is_excepted excepted_as unknown_in_range is_bare is_no_place is_no_letter is_no_report message_number
     no_time is_no_time place_in_range in_reach letters_agree is_on width_of
 blank_found n size =
     record {

@@ -105,16 +105,16 @@ module _ (b : Body) (to : Callsign) (e : position_in_range b ≡ true) (before c
   unfolding position_in_range is_place_alone
   report_is = no_report_is b.report (and_first (is_no_report b.report) (is_no_addressee b) (and_first (is_place_alone b) _ e))
 
-  fits_lem : position_fits b.place ≡ true
-  fits_lem = and_second (time_in_range b.time) _ behind_report
+  fits : position_fits b.place ≡ true
+  fits = and_second (time_in_range b.time) _ behind_report
 
   near : place_in_range b.place ≡ true
   unfolding position_fits
-  near = and_first (place_in_range b.place) (letters_agree b.place && symbols_in_range b.place) fits_lem
+  near = and_first (place_in_range b.place) (letters_agree b.place && symbols_in_range b.place) fits
 
   nineteen : length its_place ≡ 19
   unfolding position_refusal
-  nineteen = position_length b.place (rw fits_lem)
+  nineteen = position_length b.place (rw fits)
 
   first : get_or input (length before) 0 ≡ position_type b.messaging b.time
   unfolding position_bytes

@@ -15,7 +15,7 @@ use Rattle.callsign.specs.Range.{call_part}
 use Rattle.time.specs.declared.Time.{Time}
 use Rattle.position.specs.declared.PositionRead.{PositionRead}
 use Rattle.position.specs.Position.{fixed_bytes, usually, strictly, is_table, refused_position, read_position_by, read_position}
-use Rattle.position.proofs.Strict.{unless, through_unless, table_unless, number_of_lem, table_fault, position_fault, is_fault, either_fault, table_fault_lem, position_fault_lem, position_strictly, position_refused_too, is_sound, position_sound, none_where, table_none}
+use Rattle.position.proofs.Strict.{unless, through_unless, table_unless, number_of, table_fault, position_fault, is_fault, either_fault, table_fault_lem, position_fault_lem, position_strictly, position_refused_too, is_sound, position_sound, none_where, table_none}
 use Rattle.mic_e.specs.declared.Destination.{Destination}
 use Rattle.mic_e.specs.declared.DestinationRead.{DestinationRead}
 use Rattle.mic_e.specs.declared.DestinationRead.TheVariants as destination
@@ -151,7 +151,7 @@ IsBeside n fault = (fault ≡ 0) ⊎ (((n ≡ 9) × (fault ≡ 8)) ⊎ ((n ≡ 1
 
 position_number : (p : PositionRead) (messaging : Bool) (t : Time) (comment : Span) → (position_body p messaging t comment).refusal ≡ p.refusal
 unfolding position_body
-position_number p messaging t comment = number_of_lem (λ (b : BodyRead). b.refusal) p.refusal _ _ refl refl
+position_number p messaging t comment = number_of (λ (b : BodyRead). b.refusal) p.refusal _ _ refl refl
 
 behind_time_beside : (x : TimeAt) (s : List ℕ) (messaging : Bool) → ((behind_time usually x s messaging).refusal ≡ 0 → ⊥) → IsBeside (behind_time usually x s messaging).refusal (behind_time_fault x s)
 unfolding behind_time behind_time_fault position_from

@@ -71,8 +71,8 @@ unfolding message_bytes
 message_front_long addressee nine = omega (arith, addressee_10 addressee nine)
 
 module _ (addressee text identifier : List ℕ) (nine : length addressee ≡ addressee_bytes) (fits : message_refusal text identifier ≡ 0) (beside : Callsign) (before : List ℕ) where
-  abbrev whole_lem : List ℕ
-  whole_lem = message_text addressee text identifier
+  abbrev whole : List ℕ
+  whole = message_text addressee text identifier
 
   fine : (is_text text ≡ true) × (identifier_refusal identifier ≡ 0)
   unfolding message_refusal
@@ -84,8 +84,8 @@ module _ (addressee text identifier : List ℕ) (nine : length addressee ≡ add
   unfolding message_bytes message_text message_body
   message_back =
       let at : length before + 1 + 10 ≡ length before + length (message_bytes addressee) = omega (arith, message_front_long addressee nine) in
-      colon_reads beside (input colon before whole_lem) (length before) (starts colon before whole_lem) (its_type colon before whole_lem)
-      ∙ rw (rest colon before whole_lem, message_reads_back addressee text identifier nine fine.0 (identifier_at_most_5 identifier fine.1), at)
+      colon_reads beside (input colon before whole) (length before) (starts colon before whole) (its_type colon before whole)
+      ∙ rw (rest colon before whole, message_reads_back addressee text identifier nine fine.0 (identifier_at_most_5 identifier fine.1), at)
 
 module _ (t : Time) (text : List ℕ) (timed : is_status_time t ≡ true) (fits : is_status_text t text ≡ true) (beside : Callsign) (before : List ℕ) where
   abbrev stated : List ℕ
@@ -170,20 +170,20 @@ module _ (s : List ℕ) (from : ℕ) (h : from < length s) where
     abbrev m : MessageRead
     m = read_message behind
 
-    abbrev made_lem : Body
-    made_lem = body_with Message (record { at = from + 1 + 10; len = m.text }) (identifier_span (from + 1 + 10 + m.text) m.identifier) no_time m.addressee
+    abbrev made : Body
+    made = body_with Message (record { at = from + 1 + 10; len = m.text }) (identifier_span (from + 1 + 10 + m.text) m.identifier) no_time m.addressee
 
-    text_shown : spanned made_lem.comment s ≡ text_at behind
+    text_shown : spanned made.comment s ≡ text_at behind
     text_shown = ap (take m.text) (sym (drop-drop 10 (from + 1) s))
 
-    number_shown : spanned made_lem.identifier s ≡ identifier_at behind
+    number_shown : spanned made.identifier s ≡ identifier_at behind
     number_shown =
         let at : from + 1 + 10 + m.text + 1 ≡ from + 1 + (10 + m.text + 1) = omega arith in
         identifier_shown s (from + 1 + 10 + m.text) m.identifier
         ∙ ap (λ (n : ℕ). take m.identifier (drop n s)) at
         ∙ ap (take m.identifier) (sym (drop-drop (10 + m.text + 1) (from + 1) s))
 
-    message_whole : TextIs Message s from made_lem
+    message_whole : TextIs Message s from made
     unfolding body_bytes bytes_as message_bytes tail_bytes tail_as body_refusal refusal_as message_text
     message_whole =
         record {
@@ -217,7 +217,7 @@ module _ (s : List ℕ) (from : ℕ) (h : from < length s) where
   abbrev pub TextOr18 : Kind → BodyRead → Type 0
   TextOr18 kind r = ((r.refusal ≡ 0) × TextIs kind s from r.body) ⊎ (r ≡ body_refused 18)
 
-  message_taken : (first : get_or s from 0 ≡ colon) (z : (read_message behind).refusal ≡ 0) → message_body (read_message behind) (from + 1) ≡ body_accepted (made_lem first z)
+  message_taken : (first : get_or s from 0 ≡ colon) (z : (read_message behind).refusal ≡ 0) → message_body (read_message behind) (from + 1) ≡ body_accepted (made first z)
   unfolding message_body
   message_taken first z = rw (eq-eqb (read_message behind).refusal 0 z)
 

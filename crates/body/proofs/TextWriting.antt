@@ -11,11 +11,11 @@ use borrow.Author.Tests.{not-true, not-false}
 use lib.Dec.{leb}
 use lib.ListN.{length, replicate}
 use Rattle.laws.specs.Bytes.{colon, greater}
-use Rattle.laws.specs.Lists.{pad_to, zeros_lem}
+use Rattle.laws.specs.Lists.{pad_to, zeros}
 use Rattle.laws.proofs.Lists.{drop_replicate}
 use Rattle.buffer.specs.declared.Answer.{Answer}
 use Rattle.buffer.specs.Wrote.{ends, wrote}
-use Rattle.buffer.specs.Filled.{Filled, filled_lem, added}
+use Rattle.buffer.specs.Filled.{Filled, filled, added}
 use Rattle.buffer.proofs.Answers.{refusal_is, bytes_are, reported_is}
 use Rattle.callsign.specs.declared.Callsign.{Callsign}
 use Rattle.time.specs.Time.{is_no_time, time_text}
@@ -31,8 +31,8 @@ use Rattle.body.proofs.Writing.{refused_is, accepted_is, no_tail, behind_type, t
 -- ---- a message: the refusal of its identifier's writer is the judgement
 
 -- the addressee and its colon, put behind the type byte
-front_put : (k : ℕ) (front bytes : List ℕ) (n : ℕ) → length front ≡ 10 → filled_lem bytes n ≡ added (filled_lem (k ∷ behind_type) 1) front
-    → filled_lem bytes n ≡ filled_lem (pad_to most_fixed 0 (k ∷ front)) (length (k ∷ front))
+front_put : (k : ℕ) (front bytes : List ℕ) (n : ℕ) → length front ≡ 10 → filled bytes n ≡ added (filled (k ∷ behind_type) 1) front
+    → filled bytes n ≡ filled (pad_to most_fixed 0 (k ∷ front)) (length (k ∷ front))
 unfolding added pad_to
 front_put k front bytes n ten put = put ∙ rw ten
 
@@ -74,7 +74,7 @@ module _ (addressee : List ℕ) (to : Callsign) (text identifier : List ℕ) (x 
       unfolding message_refusal written_or
       as_written_lem = rw (← k, not-false x l, identifier_fine)
 
-      pub message_written : (front bytes : List ℕ) (n : ℕ) → front ≡ addressee_text addressee → length addressee ≡ addressee_bytes → filled_lem bytes n ≡ added (filled_lem (colon ∷ behind_type) 1) front
+      pub message_written : (front bytes : List ℕ) (n : ℕ) → front ≡ addressee_text addressee → length addressee ≡ addressee_bytes → filled bytes n ≡ added (filled (colon ∷ behind_type) 1) front
           → record { refusal = 0; to = to; bytes = bytes; tail = tail; len = n; tail_len = a.reported } ≡ as_message
       unfolding written_as message_bytes
       message_written front bytes n q nine put =
@@ -93,7 +93,7 @@ front_padded : (k : ℕ) (x : List ℕ) → length x ≤ 26 → k ∷ (x ++ repl
 unfolding pad_to
 front_padded k x h = let n : 26 - length x ≡ 27 - length (k ∷ x) = omega arith in ap (λ (m : ℕ). (k ∷ x) ++ replicate m 0) n
 
-module _ (b : Body) (to : Callsign) (text : List ℕ) (u : Bool) (e : u ≡ is_bare b) (f : not u ≡ false) (v : Bool) (g : v ≡ zeros_lem b.addressee) (h : not v ≡ false)
+module _ (b : Body) (to : Callsign) (text : List ℕ) (u : Bool) (e : u ≡ is_bare b) (f : not u ≡ false) (v : Bool) (g : v ≡ zeros b.addressee) (h : not v ≡ false)
     (a : Answer) (left : List ℕ) (w : ends a left ≡ wrote (status_time_refusal b.time) (time_text b.time) behind_type) where
   abbrev as_status : BodyWritten
   as_status = written_or (status_text_refusal b.time text) to (status_bytes b.time) []

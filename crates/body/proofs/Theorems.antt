@@ -9,7 +9,7 @@ use native.Mathlib.Omega.{arith}
 use lib.IntN.{ℤ, pos, nat_abs}
 use lib.ListN.{length, take, drop, get_or}
 use lib.Seq.{take_at}
-use Rattle.laws.specs.Lists.{pad_to, zeros_lem}
+use Rattle.laws.specs.Lists.{pad_to, zeros}
 use Rattle.laws.specs.Bytes.{colon, greater}
 use Rattle.laws.proofs.Tests.{passed, picked}
 use Rattle.callsign.specs.declared.Callsign.{Callsign}
@@ -111,7 +111,7 @@ blank_inner_edges = read_inner_edges usually blank_call [] 0
 
 -- the blank body is in range, beside any destination
 pub blank_range : (to : Callsign) → body_in_range blank_body to ≡ true
-unfolding blank_body no_report no_addressee pad_to zeros_lem body_in_range in_range_as unknown_in_range is_bare is_no_place is_no_letter is_no_report message_number no_time is_no_time
+unfolding blank_body no_report no_addressee pad_to zeros body_in_range in_range_as unknown_in_range is_bare is_no_place is_no_letter is_no_report message_number no_time is_no_time
 blank_range to = refl
 
 -- ---- what is written

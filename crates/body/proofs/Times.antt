@@ -101,9 +101,9 @@ module _ (s : List ℕ) (at : ℕ) where
   after_time Stated to = status_time (read_status (drop at s)) refl
   after_time Other to = blank_time 0
 
-absent_lem : is_present no_time ≡ false
+absent : is_present no_time ≡ false
 unfolding is_present no_time
-absent_lem = refl
+absent = refl
 
 module _ (to : Callsign) (s : List ℕ) (from : ℕ) where
   pub read_time_lem : TimeOf s (from + 1) (read_body to s from)
@@ -117,6 +117,6 @@ module _ (to : Callsign) (s : List ℕ) (from : ℕ) where
   pub read_time_kept : is_present (read_body to s from).body.time ≡ true → take time_bytes (drop (from + 1) s) ≡ time_text (read_body to s from).body.time
   read_time_kept h =
       ⊎_elim
-      (λ n. absurd (false≢true (sym absent_lem ∙ sym (ap is_present n) ∙ h)))
+      (λ n. absurd (false≢true (sym absent ∙ sym (ap is_present n) ∙ h)))
       (λ e. sym (time_is_kept (take time_bytes (drop (from + 1) s)) (read_body to s from).body.time e))
       read_time_lem

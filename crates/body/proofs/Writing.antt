@@ -25,7 +25,7 @@ use Rattle.buffer.specs.declared.Answer.{Answer}
 use Rattle.buffer.specs.Wrote.{ends, wrote}
 use Rattle.buffer.proofs.Answers.{refusal_is, bytes_are, reported_is}
 use Rattle.callsign.specs.declared.Callsign.{Callsign}
-use Rattle.callsign.specs.Text.{made_lem}
+use Rattle.callsign.specs.Text.{made}
 use Rattle.callsign.specs.Range.{is_blank_call}
 use Rattle.callsign.specs.Address.{ssid_of, ssid_text}
 use Rattle.time.specs.declared.Time.{Time}
@@ -273,14 +273,14 @@ module _ (place : Place) (report : Report) (w : Answer) (last : List ℕ)
     unfolding information_refusal
     takes = rw inside
 
-    after_lem : last ++ [] ≡ info ++ replicate 18 0
-    after_lem =
+    after : last ++ [] ≡ info ++ replicate 18 0
+    after =
         append-nil last ∙ bytes_are w last info behind_type (information_refusal (information_of place report)) e takes room
         ∙ ap (λ (n : ℕ). info ++ drop n behind_type) (information_length (information_of place report))
 
     pub report_written : (call : List ℕ) (to : Callsign) (k : ℕ)
         → call ≡ destination_bytes place.latitude.0 place.blanks report.message place.longitude.0
-        → to ≡ made_lem (take 6 call) (ssid_text (ssid_of 0))
+        → to ≡ made (take 6 call) (ssid_text (ssid_of 0))
         → k ≡ cond report.current backquote apostrophe
         → record { refusal = 0; to = to; bytes = k ∷ (last ++ []); tail = replicate most_tail 0; len = 9; tail_len = 0 }
         ≡ cond out unwritten (written_as 0 (mic_eCall place report) (mic_eBytes place report) [])
@@ -288,7 +288,7 @@ module _ (place : Place) (report : Report) (w : Answer) (last : List ℕ)
     report_written call to k c t q =
         let six = destination_length place.latitude.0 place.blanks report.message place.longitude.0 in
         let whole : take 6 call ≡ call = ap (λ (n : ℕ). take n call) (sym (ap length c ∙ six)) ∙ take-length call in
-        rw (inside, t, whole, c, ← q, after_lem, information_length (information_of place report))
+        rw (inside, t, whole, c, ← q, after, information_length (information_of place report))
 
 -- the destination's refusal, and its bytes without one
 module _ (latitude : ℤ) (blanks : ℕ) (message : mic-e.Message) (longitude : ℤ) (d : DestinationWritten) (q : d ≡ write_destination latitude blanks message longitude) where

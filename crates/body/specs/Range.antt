@@ -5,7 +5,7 @@
 -- comment, a text or an identifier stands is not judged.
 -- Assumes nothing.
 use Rattle.std.specs.Prelude.{Bool, false, not, ◌&&◌, eqb, leb, ltb, nat_abs}
-use Rattle.laws.specs.Lists.{zeros_lem}
+use Rattle.laws.specs.Lists.{zeros}
 use Rattle.lonlat.specs.Angle.{most_longitude}
 use Rattle.callsign.specs.declared.Callsign.{Callsign}
 use Rattle.callsign.specs.Range.{is_blank_call}
@@ -46,7 +46,7 @@ is_no_report m =
 
 -- no addressee: nine zeros
 abbrev pub is_no_addressee : Body → Bool
-is_no_addressee b = zeros_lem b.addressee
+is_no_addressee b = zeros b.addressee
 
 -- neither a report nor an addressee
 unfoldable pub is_place_alone : Body → Bool

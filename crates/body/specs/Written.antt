@@ -5,7 +5,7 @@ use Rattle.std.specs.Prelude.{ℕ, zero, suc, Bool, cond, List, [], ◌∷◌, �
 use Rattle.laws.specs.Bytes.{bang, equals, slash, at_sign, backquote, apostrophe, colon, greater}
 use Rattle.laws.specs.Lists.{pad_to}
 use Rattle.callsign.specs.declared.Callsign.{Callsign}
-use Rattle.callsign.specs.Text.{made_lem, blank_call}
+use Rattle.callsign.specs.Text.{made, blank_call}
 use Rattle.time.specs.declared.Time.{Time}
 use Rattle.time.specs.Time.{is_present, time_text}
 use Rattle.position.specs.declared.Place.{Place}
@@ -26,7 +26,7 @@ use Rattle.body.specs.Range.{body_in_range}
 
 -- "the destination is built by value": six characters, no SSID
 unfoldable pub mic_eCall : Place → Report → Callsign
-mic_eCall place report = made_lem (destination_bytes place.latitude.0 place.blanks report.message place.longitude.0) []
+mic_eCall place report = made (destination_bytes place.latitude.0 place.blanks report.message place.longitude.0) []
 
 -- by the kind
 unfoldable pub to_as : Kind → Body → Callsign → Callsign

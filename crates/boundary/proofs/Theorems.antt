@@ -7,7 +7,7 @@ use lib.IntN.{pos}
 use lib.ListN.{replicate}
 use Rattle.callsign.specs.declared.Callsign.{Callsign}
 use Rattle.laws.specs.Lists.{pad_to}
-use Rattle.callsign.specs.Text.{blank_call, made_lem, joined_lem}
+use Rattle.callsign.specs.Text.{blank_call, made, joined}
 use Rattle.header.specs.declared.Hop.{Hop}
 use Rattle.header.specs.declared.Header.{Header}
 use Rattle.header.specs.Hop.{heard_as, call_hop}
@@ -67,7 +67,7 @@ all_zero =
 
 -- "A refused decode returns the blank record: Unknown kind, all lengths and numbers 0."
 pub blank_is_zeros : record_in_c blank_record ≡ all_zero
-unfolding record_in_c body_in_c report_in_c blank_record blank_body no_report no_span no_addressee no_time kind_number message_number blank_header header_of path_of blank_hop call_hop heard_as blank_call made_lem joined_lem pad_to
+unfolding record_in_c body_in_c report_in_c blank_record blank_body no_report no_span no_addressee no_time kind_number message_number blank_header header_of path_of blank_hop call_hop heard_as blank_call made joined pad_to
 blank_is_zeros = refl
 
 pub zeros_are_blank : record_meant all_zero ≡ blank_record

@@ -31,8 +31,8 @@ module _ (r : Answer) (o bytes out : List ℕ) where
   front_is k e z h = rw (bytes_are k e z h) (take_at bytes (drop (length bytes) out) r.reported (sym (reported_is k e z h)))
 
   -- a buffer of just their length holds the bytes alone
-  pub filled_lem : (k : ℕ) → ends r o ≡ wrote k bytes out → k ≡ 0 → length bytes ≡ length out → o ≡ bytes
-  filled_lem k e z f =
+  pub filled : (k : ℕ) → ends r o ≡ wrote k bytes out → k ≡ 0 → length bytes ≡ length out → o ≡ bytes
+  filled k e z f =
       let h : length bytes ≤ length out = omega arith in
       let d : length out ≤ length bytes = omega arith in
       bytes_are k e z h ∙ rw (drop_of_length-le out d, append-nil)

@@ -18,12 +18,12 @@ use Rattle.laws.specs.Lists.{together}
 use Rattle.laws.proofs.Lists.{copy_more}
 use Rattle.buffer.specs.declared.Answer.{Answer}
 use Rattle.buffer.specs.Wrote.{Wrote, ends, no_room, done_by, wrote_as, wrote}
-use Rattle.buffer.specs.Filled.{Filled, filled_lem, front_of, added, added_all, shifted_lem}
+use Rattle.buffer.specs.Filled.{Filled, filled, front_of, added, added_all, shifted}
 
 -- ---- a piece that fits, and one that does not
 
 pub added_fits : (f : Filled) (piece : List ℕ) → f.len + length piece ≤ length f.bytes
-    → added f piece ≡ filled_lem (take f.len f.bytes ++ (piece ++ drop (f.len + length piece) f.bytes)) (f.len + length piece)
+    → added f piece ≡ filled (take f.len f.bytes ++ (piece ++ drop (f.len + length piece) f.bytes)) (f.len + length piece)
 unfolding added
 added_fits f piece h = rw (le-leb (f.len + length piece) (length f.bytes) h)
 
@@ -32,8 +32,8 @@ unfolding added
 added_not f piece h = rw (lt-leb (f.len + length piece) (length f.bytes) h)
 
 -- nothing is in the buffer behind its end
-pub no_place_lem : (piece out : List ℕ) (at : ℕ) → length out < at → filled_lem out at ≡ added (filled_lem out at) piece
-no_place_lem piece out at h = sym (added_not (filled_lem out at) piece (omega arith))
+pub no_place_lem : (piece out : List ℕ) (at : ℕ) → length out < at → filled out at ≡ added (filled out at) piece
+no_place_lem piece out at h = sym (added_not (filled out at) piece (omega arith))
 
 -- ---- what stays, and how much is in use
 
@@ -48,7 +48,7 @@ module _ (f : Filled) (piece : List ℕ) where
   added_length = go (leb (f.len + length piece) (length f.bytes)) refl
     where
       go : (t : Bool) → leb (f.len + length piece) (length f.bytes) ≡ t
-          → length (cond t (filled_lem (take f.len f.bytes ++ (piece ++ drop (f.len + length piece) f.bytes)) (f.len + length piece)) f).bytes ≡ length f.bytes
+          → length (cond t (filled (take f.len f.bytes ++ (piece ++ drop (f.len + length piece) f.bytes)) (f.len + length piece)) f).bytes ≡ length f.bytes
       go true e = placed_length (leb-true (f.len + length piece) (length f.bytes) e)
       go false e = refl
 
@@ -76,9 +76,9 @@ added_none f = go (leb f.len (length f.bytes)) refl
     go false e = let past = leb-false f.len (length f.bytes) e in sym (added_not f [] (omega arith))
 
 -- the bytes in use of a buffer that was filled from its start
-pub first_front : (v piece : List ℕ) → length piece ≤ length v → front_of (added (filled_lem v 0) piece) ≡ piece
+pub first_front : (v piece : List ℕ) → length piece ≤ length v → front_of (added (filled v 0) piece) ≡ piece
 unfolding front_of
-first_front v piece h = added_front (filled_lem v 0) piece (omega arith)
+first_front v piece h = added_front (filled v 0) piece (omega arith)
 
 -- ---- one piece after another
 
@@ -101,13 +101,13 @@ both_bytes v l m n h =
 
 pub added_added : (f : Filled) (l m : List ℕ) → f.len + length l + length m ≤ length f.bytes → added (added f l) m ≡ added f (l ++ m)
 added_added f l m h =
-    let g = filled_lem (take f.len f.bytes ++ (l ++ drop (f.len + length l) f.bytes)) (f.len + length l) in
+    let g = filled (take f.len f.bytes ++ (l ++ drop (f.len + length l) f.bytes)) (f.len + length l) in
     let n : length g.bytes ≡ length f.bytes = placed_length f l (omega arith) in
     let p = both_bytes f.bytes l m f.len (omega arith) in
     let q : f.len + length l + length m ≡ f.len + length (l ++ m) = rw (length-append l m) (add_assoc f.len (length l) (length m)) in
     ap (λ (x : Filled). added x m) (added_fits f l (omega arith))
     ∙ added_fits g m (omega arith)
-    ∙ (λ i. filled_lem (p i) (q i))
+    ∙ (λ i. filled (p i) (q i))
     ∙ sym (added_fits f (l ++ m) (omega arith))
 
 -- two pieces that were put one behind the other are one
@@ -152,8 +152,8 @@ all_fits f (p ∷ ps) h =
     all_fits (added f p) ps (omega arith) ∙ added_added f p (together ps) room
 
 -- the bytes in use of a buffer that was filled with them from its start
-pub all_front : (v : List ℕ) (ps : List (List ℕ)) → length (together ps) ≤ length v → front_of (added_all (filled_lem v 0) ps) ≡ together ps
-all_front v ps h = ap front_of (all_fits (filled_lem v 0) ps (omega arith)) ∙ first_front v (together ps) h
+pub all_front : (v : List ℕ) (ps : List (List ℕ)) → length (together ps) ≤ length v → front_of (added_all (filled v 0) ps) ≡ together ps
+all_front v ps h = ap front_of (all_fits (filled v 0) ps (omega arith)) ∙ first_front v (together ps) h
 
 -- ---- a writer lent what stands from the place on
 
@@ -179,57 +179,57 @@ module _ (piece out left : List ℕ) (at k : ℕ) (w : Answer) (h : at ≤ lengt
   place_within = omega (arith, within_buffer w k piece (take (length out - at) (drop at out)) left sent, rest_length)
 
   -- nothing stands behind the rest
-  whole_lem : put_mid at (length out - at) out left ≡ take at out ++ left
-  whole_lem = ap (λ (l : List ℕ). take at out ++ l) (ap (λ (l : List ℕ). left ++ l) (drop_of_length-le (drop at out) {i = length out - at} (omega (arith, length-drop at out))) ∙ append-nil left)
+  whole : put_mid at (length out - at) out left ≡ take at out ++ left
+  whole = ap (λ (l : List ℕ). take at out ++ l) (ap (λ (l : List ℕ). left ++ l) (drop_of_length-le (drop at out) {i = length out - at} (omega (arith, length-drop at out))) ∙ append-nil left)
 
-  left_as : (r : ℕ) (l : List ℕ) → w.reported ≡ r → left ≡ l → filled_lem (put_mid at (length out - at) out left) (at + w.reported) ≡ filled_lem (take at out ++ l) (at + r)
-  left_as r l p q = ap₂ filled_lem (whole_lem ∙ ap (λ (x : List ℕ). take at out ++ x) q) (ap (λ (n : ℕ). at + n) p)
+  left_as : (r : ℕ) (l : List ℕ) → w.reported ≡ r → left ≡ l → filled (put_mid at (length out - at) out left) (at + w.reported) ≡ filled (take at out ++ l) (at + r)
+  left_as r l p q = ap₂ filled (whole ∙ ap (λ (x : List ℕ). take at out ++ x) q) (ap (λ (n : ℕ). at + n) p)
 
   -- a writer that refuses leaves the buffer as it was
-  pub put_refused : (k ≡ 0 → ⊥) → filled_lem (put_mid at (length out - at) out left) (at + w.reported) ≡ filled_lem out at
+  pub put_refused : (k ≡ 0 → ⊥) → filled (put_mid at (length out - at) out left) (at + w.reported) ≡ filled out at
   unfolding wrote wrote_as
   put_refused z = go k z (sent ∙ ap (λ (l : List ℕ). wrote k piece l) (part_to_end out at))
     where
-      go : (k : ℕ) → (k ≡ 0 → ⊥) → ends w left ≡ wrote k piece (drop at out) → filled_lem (put_mid at (length out - at) out left) (at + w.reported) ≡ filled_lem out at
+      go : (k : ℕ) → (k ≡ 0 → ⊥) → ends w left ≡ wrote k piece (drop at out) → filled (put_mid at (length out - at) out left) (at + w.reported) ≡ filled out at
       go zero z e = absurd (z refl)
       go (suc n) z e =
           left_as 0 (drop at out) (ap (λ (x : Wrote). x.answer.reported) e) (ap (λ (x : Wrote). x.buffer) e)
-          ∙ ap₂ filled_lem (take-append-drop at out) (add-zero at)
+          ∙ ap₂ filled (take-append-drop at out) (add-zero at)
 
   -- one that does not: its piece is added
-  pub put_as : k ≡ 0 → filled_lem (put_mid at (length out - at) out left) (at + w.reported) ≡ added (filled_lem out at) piece
+  pub put_as : k ≡ 0 → filled (put_mid at (length out - at) out left) (at + w.reported) ≡ added (filled out at) piece
   unfolding wrote wrote_as
   put_as z = go (ltb (length (drop at out)) (length piece)) refl (sent ∙ ap₂ (λ (n : ℕ) (l : List ℕ). wrote n piece l) z (part_to_end out at))
     where
       go : (t : Bool) → ltb (length (drop at out)) (length piece) ≡ t
           → ends w left ≡ cond t (ends (no_room (length piece)) (drop at out)) (ends (done_by (length piece)) (piece ++ drop (length piece) (drop at out)))
-          → filled_lem (put_mid at (length out - at) out left) (at + w.reported) ≡ added (filled_lem out at) piece
+          → filled (put_mid at (length out - at) out left) (at + w.reported) ≡ added (filled out at) piece
       go true t e =
           left_as 0 (drop at out) (ap (λ (x : Wrote). x.answer.reported) e) (ap (λ (x : Wrote). x.buffer) e)
-          ∙ ap₂ filled_lem (take-append-drop at out) (add-zero at)
-          ∙ sym (added_not (filled_lem out at) piece (omega (arith, ltb-true (length (drop at out)) (length piece) t, length-drop at out)))
+          ∙ ap₂ filled (take-append-drop at out) (add-zero at)
+          ∙ sym (added_not (filled out at) piece (omega (arith, ltb-true (length (drop at out)) (length piece) t, length-drop at out)))
       go false t e =
           left_as (length piece) (piece ++ drop (length piece) (drop at out)) (ap (λ (x : Wrote). x.answer.reported) e) (ap (λ (x : Wrote). x.buffer) e)
-          ∙ ap (λ (l : List ℕ). filled_lem (take at out ++ (piece ++ l)) (at + length piece)) (drop-drop (length piece) at out)
-          ∙ sym (added_fits (filled_lem out at) piece (omega (arith, ltb-false (length (drop at out)) (length piece) t, length-drop at out)))
+          ∙ ap (λ (l : List ℕ). filled (take at out ++ (piece ++ l)) (at + length piece)) (drop-drop (length piece) at out)
+          ∙ sym (added_fits (filled out at) piece (omega (arith, ltb-false (length (drop at out)) (length piece) t, length-drop at out)))
 
 -- ---- one byte
 
-pub byte_stored : (b at : ℕ) (out : List ℕ) → at < length out → filled_lem (set out at b) (at + 1) ≡ added (filled_lem out at) (b ∷ [])
-byte_stored b at out h = rw (set_split out at b h, add-one) (sym (added_fits (filled_lem out at) (b ∷ []) (omega arith) ∙ rw add-one))
+pub byte_stored : (b at : ℕ) (out : List ℕ) → at < length out → filled (set out at b) (at + 1) ≡ added (filled out at) (b ∷ [])
+byte_stored b at out h = rw (set_split out at b h, add-one) (sym (added_fits (filled out at) (b ∷ []) (omega arith) ∙ rw add-one))
 
-pub byte_not : (b at : ℕ) (out : List ℕ) → length out ≤ at → filled_lem out at ≡ added (filled_lem out at) (b ∷ [])
-byte_not b at out h = sym (added_not (filled_lem out at) (b ∷ []) (omega arith))
+pub byte_not : (b at : ℕ) (out : List ℕ) → length out ≤ at → filled out at ≡ added (filled out at) (b ∷ [])
+byte_not b at out h = sym (added_not (filled out at) (b ∷ []) (omega arith))
 
 -- ---- bytes moved to the front, i of them so far
 
 module _ (out : List ℕ) (from to : ℕ) where
-  pub shift_back : to < from → filled_lem out 0 ≡ shifted_lem out from to
-  unfolding shifted_lem
+  pub shift_back : to < from → filled out 0 ≡ shifted out from to
+  unfolding shifted
   shift_back h = rw (lt-leb from to h)
 
-  pub shift_past : from ≤ to → length out < to → filled_lem out 0 ≡ shifted_lem out from to
-  unfolding shifted_lem
+  pub shift_past : from ≤ to → length out < to → filled out 0 ≡ shifted out from to
+  unfolding shifted
   shift_past h k = rw (le-leb from to h, lt-leb to (length out) k)
 
   module _ (h : from ≤ to) (k : to ≤ length out) (i : ℕ) where
@@ -254,6 +254,6 @@ module _ (out : List ℕ) (from to : ℕ) where
         (ap (λ (d : ℕ). set (take i (drop from out) ++ drop i out) i d) (ahead l)
         ∙ copy_more 0 (drop from out) out i (omega (arith, length-drop from out)) (omega arith))
 
-  pub moved_all : (now : List ℕ) (i : ℕ) → from ≤ to → to ≤ length out → i ≡ to - from → now ≡ take i (drop from out) ++ drop i out → filled_lem now (to - from) ≡ shifted_lem out from to
-  unfolding shifted_lem
-  moved_all now i h k e p = rw (le-leb from to h, le-leb to (length out) k) (ap (λ (l : List ℕ). filled_lem l (to - from)) (p ∙ ap (λ (j : ℕ). take j (drop from out) ++ drop j out) e))
+  pub moved_all : (now : List ℕ) (i : ℕ) → from ≤ to → to ≤ length out → i ≡ to - from → now ≡ take i (drop from out) ++ drop i out → filled now (to - from) ≡ shifted out from to
+  unfolding shifted
+  moved_all now i h k e p = rw (le-leb from to h, le-leb to (length out) k) (ap (λ (l : List ℕ). filled l (to - from)) (p ∙ ap (λ (j : ℕ). take j (drop from out) ++ drop j out) e))

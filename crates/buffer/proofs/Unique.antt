@@ -6,7 +6,7 @@ use Prim.Native.Nat.{ℕ}
 use Rattle.laws.proofs.Unique.{one_value}
 use Rattle.buffer.specs.declared.Answer.{Answer}
 use Rattle.buffer.specs.Wrote.{ends, refused_by, no_room, done_by, over_by, wrote}
-use Rattle.buffer.specs.Filled.{Filled, filled_lem, added, shifted_lem}
+use Rattle.buffer.specs.Filled.{Filled, filled, added, shifted}
 use Rattle.buffer.proofs.Wrote.{one_end}
 
 pub unique_refused : (n : ℕ) (r r' : Answer) → r ≡ refused_by n → r' ≡ refused_by n → r ≡ r'
@@ -36,14 +36,14 @@ module _ (r r' : Answer) (o o' : List ℕ) where
 
 module _ (r r' : ℕ) (o o' : List ℕ) where
   -- two answers and two buffers that meet one equation
-  pub one_filled : (l : Filled) → filled_lem o r ≡ l → filled_lem o' r' ≡ l → (r ≡ r') × (o ≡ o')
+  pub one_filled : (l : Filled) → filled o r ≡ l → filled o' r' ≡ l → (r ≡ r') × (o ≡ o')
   one_filled l e e' = (ap (λ (x : Filled). x.len) (e ∙ sym e'), ap (λ (x : Filled). x.bytes) (e ∙ sym e'))
 
-  pub unique_put : (s out : List ℕ) (at : ℕ) → filled_lem o r ≡ added (filled_lem out at) s → filled_lem o' r' ≡ added (filled_lem out at) s → (r ≡ r') × (o ≡ o')
-  unique_put s out at = one_filled (added (filled_lem out at) s)
+  pub unique_put : (s out : List ℕ) (at : ℕ) → filled o r ≡ added (filled out at) s → filled o' r' ≡ added (filled out at) s → (r ≡ r') × (o ≡ o')
+  unique_put s out at = one_filled (added (filled out at) s)
 
-  pub unique_put_byte : (b : ℕ) (out : List ℕ) (at : ℕ) → filled_lem o r ≡ added (filled_lem out at) (b ∷ []) → filled_lem o' r' ≡ added (filled_lem out at) (b ∷ []) → (r ≡ r') × (o ≡ o')
-  unique_put_byte b out at = one_filled (added (filled_lem out at) (b ∷ []))
+  pub unique_put_byte : (b : ℕ) (out : List ℕ) (at : ℕ) → filled o r ≡ added (filled out at) (b ∷ []) → filled o' r' ≡ added (filled out at) (b ∷ []) → (r ≡ r') × (o ≡ o')
+  unique_put_byte b out at = one_filled (added (filled out at) (b ∷ []))
 
-  pub unique_shift : (buffer : List ℕ) (from to : ℕ) → filled_lem o r ≡ shifted_lem buffer from to → filled_lem o' r' ≡ shifted_lem buffer from to → (r ≡ r') × (o ≡ o')
-  unique_shift buffer from to = one_filled (shifted_lem buffer from to)
+  pub unique_shift : (buffer : List ℕ) (from to : ℕ) → filled o r ≡ shifted buffer from to → filled o' r' ≡ shifted buffer from to → (r ≡ r') × (o ≡ o')
+  unique_shift buffer from to = one_filled (shifted buffer from to)

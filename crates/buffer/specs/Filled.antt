@@ -7,8 +7,8 @@ pub record Filled : Type 0 where
   pub bytes : List ℕ
   pub len : ℕ
 
-abbrev pub filled_lem : List ℕ → ℕ → Filled
-filled_lem bytes len = record { bytes = bytes; len = len }
+abbrev pub filled : List ℕ → ℕ → Filled
+filled bytes len = record { bytes = bytes; len = len }
 
 -- the bytes in use
 unfoldable pub front_of : Filled → List ℕ
@@ -18,7 +18,7 @@ front_of f = take f.len f.bytes
 unfoldable pub added : Filled → List ℕ → Filled
 added f piece =
     cond (leb (f.len + length piece) (length f.bytes))
-    (filled_lem (take f.len f.bytes ++ (piece ++ drop (f.len + length piece) f.bytes)) (f.len + length piece))
+    (filled (take f.len f.bytes ++ (piece ++ drop (f.len + length piece) f.bytes)) (f.len + length piece))
     f
 
 -- pieces one behind the other, each as it fits
@@ -27,8 +27,8 @@ added_all f [] = f
 added_all f (piece ∷ pieces) = added_all (added f piece) pieces
 
 -- the bytes from a place up to another at the front, and how many they are; where there are none such, nothing is in use
-unfoldable pub shifted_lem : List ℕ → ℕ → ℕ → Filled
-shifted_lem bytes from to =
+unfoldable pub shifted : List ℕ → ℕ → ℕ → Filled
+shifted bytes from to =
     cond (leb from to && leb to (length bytes))
-    (filled_lem (take (to - from) (drop from bytes) ++ drop (to - from) bytes) (to - from))
-    (filled_lem bytes 0)
+    (filled (take (to - from) (drop from bytes) ++ drop (to - from) bytes) (to - from))
+    (filled bytes 0)

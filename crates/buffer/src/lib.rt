@@ -1,5 +1,7 @@
 // Bytes in a lent buffer: what a writer or lister answers and leaves there, pieces put one behind the other, and those in use
 // moved to the front.
+#![tactic(auto)]
+
 ghost use Rattle.std.specs.Prelude.{◌≡◌, [], ◌∷◌, ◌++◌, ◌+◌, ◌≤◌, length};
 ghost use Rattle.std.proofs.Math.Seq.{paste};
 ghost use Rattle.buffer.specs.Wrote.{refused_by, no_room, done_by, ends, over_by, wrote};

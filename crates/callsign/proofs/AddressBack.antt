@@ -12,10 +12,10 @@ use Rattle.callsign.specs.declared.Field.{Field}
 use Rattle.numbers.specs.declared.Count.{Count}
 use Rattle.numbers.specs.declared.Count.TheVariants.{Is, Over, Bad}
 use Rattle.callsign.specs.Utf8.{ascii}
-use Rattle.callsign.specs.Text.{joined_lem, made_lem, is_zero}
+use Rattle.callsign.specs.Text.{joined, made, is_zero}
 use Rattle.callsign.specs.Range.{in_range, call_part, ssid_part}
 use Rattle.callsign.specs.Address.{ssid_of, heard_of, last_of, Unpacked, malformed, call, onto, are_spaces, unpacked, ssid_text, address_refused, address_of, read_address}
-use Rattle.callsign.specs.Packed.{ssid_number, seventh_of, sent_lem, unwritten_by, packed_as, packed_by, write_address}
+use Rattle.callsign.specs.Packed.{ssid_number, seventh_of, sent, unwritten_by, packed_as, packed_by, write_address}
 use Rattle.callsign.proofs.Unicode.{ascii_utf8}
 use Rattle.callsign.proofs.Numbers.{ssid_small}
 use Rattle.callsign.proofs.Bits.{heard_in, ssid_back, heard_back, last_back}
@@ -30,8 +30,8 @@ unfolding are_spaces
 spaces zero = refl
 spaces (suc k) = spaces k
 
-call_back : (cs : List ℕ) (k : ℕ) → every is_letter_or_digit cs ≡ true → unpacked (map sent_lem cs ++ replicate k 64) ≡ call (map raised cs)
-unfolding unpacked onto last_of sent_lem
+call_back : (cs : List ℕ) (k : ℕ) → every is_letter_or_digit cs ≡ true → unpacked (map sent cs ++ replicate k 64) ≡ call (map raised cs)
+unfolding unpacked onto last_of sent
 call_back [] zero e = refl
 call_back [] (suc k) e = rw (spaces k)
 call_back (c ∷ cs) k e =
@@ -41,21 +41,21 @@ call_back (c ∷ cs) k e =
     rw (half, ne_eqb _ _ low, f.no_space, f.again, f.settled, call_back cs k (every_rest is_letter_or_digit c cs e))
 
 module _ (cs : List ℕ) (s : ℕ) (short : length cs ≤ 6) (good : every is_letter_or_digit cs ≡ true) where
-  bytes_back : read_address (map sent_lem cs ++ replicate (6 - length cs) 64 ++ s ∷ []) ≡ address_as (made_lem (map raised cs) (ssid_text (ssid_of s))) (heard_of s) (last_of s)
+  bytes_back : read_address (map sent cs ++ replicate (6 - length cs) 64 ++ s ∷ []) ≡ address_as (made (map raised cs) (ssid_text (ssid_of s))) (heard_of s) (last_of s)
   unfolding read_address address_of
   bytes_back =
-      let x : List ℕ = map sent_lem cs ++ replicate (6 - length cs) 64 in
+      let x : List ℕ = map sent cs ++ replicate (6 - length cs) 64 in
       let m : length (x ++ s ∷ []) ≡ 7 = length-append x (s ∷ []) ∙ ap (λ (k : ℕ). k + 1) (six_sent cs short) in
       rw (eq-eqb (length (x ++ s ∷ [])) 7 m, take_at x (s ∷ []) 6 (six_sent cs short), get_or_at x s [] 0 6 (six_sent cs short), call_back cs (6 - length cs) good)
 
-packed_back : (cs : List ℕ) (s : ℕ) → (packed_as cs s).refusal ≡ 0 → read_address (packed_as cs s).bytes ≡ address_as (made_lem (map raised cs) (ssid_text (ssid_of s))) (heard_of s) (last_of s)
+packed_back : (cs : List ℕ) (s : ℕ) → (packed_as cs s).refusal ≡ 0 → read_address (packed_as cs s).bytes ≡ address_as (made (map raised cs) (ssid_text (ssid_of s))) (heard_of s) (last_of s)
 unfolding packed_as unwritten_by
 packed_back cs s e = go (ltb 6 (length cs)) (every is_letter_or_digit cs) refl refl e
   where
     go : (p q : Bool) → ltb 6 (length cs) ≡ p → every is_letter_or_digit cs ≡ q
-        → (cond p (unwritten_by 13) (cond (not q) (unwritten_by 13) (record { refusal = 0; bytes = map sent_lem cs ++ replicate (6 - length cs) 64 ++ s ∷ [] }))).refusal ≡ 0
-        → read_address (cond p (unwritten_by 13) (cond (not q) (unwritten_by 13) (record { refusal = 0; bytes = map sent_lem cs ++ replicate (6 - length cs) 64 ++ s ∷ [] }))).bytes
-        ≡ address_as (made_lem (map raised cs) (ssid_text (ssid_of s))) (heard_of s) (last_of s)
+        → (cond p (unwritten_by 13) (cond (not q) (unwritten_by 13) (record { refusal = 0; bytes = map sent cs ++ replicate (6 - length cs) 64 ++ s ∷ [] }))).refusal ≡ 0
+        → read_address (cond p (unwritten_by 13) (cond (not q) (unwritten_by 13) (record { refusal = 0; bytes = map sent cs ++ replicate (6 - length cs) 64 ++ s ∷ [] }))).bytes
+        ≡ address_as (made (map raised cs) (ssid_text (ssid_of s))) (heard_of s) (last_of s)
     go true q h k e = absurd (omega arith)
     go false false h k e = absurd (omega arith)
     go false true h k e = bytes_back cs s (ltb-false 6 (length cs) h) k
@@ -68,10 +68,10 @@ number_in Bad = 0
 
 -- the callsign as an address holds it
 unfoldable pub in_address : Callsign → Callsign
-in_address c = made_lem (map raised (call_part c)) (ssid_text (number_in (ssid_number (ssid_part c))))
+in_address c = made (map raised (call_part c)) (ssid_text (number_in (ssid_number (ssid_part c))))
 
 number_back : (cs : List ℕ) (m : Count) (field : Field) (last : Bool) → ((n : ℕ) → m ≡ Is n → n ≤ 15) → (packed_by cs m field last).refusal ≡ 0
-    → read_address (packed_by cs m field last).bytes ≡ address_as (made_lem (map raised cs) (ssid_text (number_in m))) (heard_in field) last
+    → read_address (packed_by cs m field last).bytes ≡ address_as (made (map raised cs) (ssid_text (number_in m))) (heard_in field) last
 unfolding packed_by unwritten_by number_in
 number_back cs Over field last h e = absurd (omega arith)
 number_back cs Bad field last h e = absurd (omega arith)
@@ -86,7 +86,7 @@ unfolding write_address unwritten_by in_address
 address_back c field last e = go (in_range c) e
   where
     go : (p : Bool) → (cond (not p) (unwritten_by 15) (packed_by (call_part c) (ssid_number (ssid_part c)) field last)).refusal ≡ 0
-        → read_address (cond (not p) (unwritten_by 15) (packed_by (call_part c) (ssid_number (ssid_part c)) field last)).bytes ≡ address_as (made_lem (map raised (call_part c)) (ssid_text (number_in (ssid_number (ssid_part c))))) (heard_in field) last
+        → read_address (cond (not p) (unwritten_by 15) (packed_by (call_part c) (ssid_number (ssid_part c)) field last)).bytes ≡ address_as (made (map raised (call_part c)) (ssid_text (number_in (ssid_number (ssid_part c))))) (heard_in field) last
     go true e = number_back (call_part c) (ssid_number (ssid_part c)) field last (λ n q. ssid_small n (ssid_part c) q) e
     go false e = absurd (omega arith)
 
@@ -114,8 +114,8 @@ unfolding packed_as unwritten_by
 packed_refusal cs s = go (ltb 6 (length cs)) (every is_letter_or_digit cs)
   where
     go : (p q : Bool)
-        → ((cond p (unwritten_by 13) (cond (not q) (unwritten_by 13) (record { refusal = 0; bytes = map sent_lem cs ++ replicate (6 - length cs) 64 ++ s ∷ [] }))).refusal ≡ 0)
-        ⊎ ((cond p (unwritten_by 13) (cond (not q) (unwritten_by 13) (record { refusal = 0; bytes = map sent_lem cs ++ replicate (6 - length cs) 64 ++ s ∷ [] }))).refusal ≡ 13)
+        → ((cond p (unwritten_by 13) (cond (not q) (unwritten_by 13) (record { refusal = 0; bytes = map sent cs ++ replicate (6 - length cs) 64 ++ s ∷ [] }))).refusal ≡ 0)
+        ⊎ ((cond p (unwritten_by 13) (cond (not q) (unwritten_by 13) (record { refusal = 0; bytes = map sent cs ++ replicate (6 - length cs) 64 ++ s ∷ [] }))).refusal ≡ 13)
     go true q = inr refl
     go false true = inl refl
     go false false = inr refl
@@ -147,10 +147,10 @@ Plain : ℕ → Unpacked → Type 0
 Plain n malformed = T true
 Plain n (call cs) = (length cs ≤ n) × (every ascii cs ≡ true)
 
-plain_lem : (bs : List ℕ) → Plain (length bs) (unpacked bs)
+plain : (bs : List ℕ) → Plain (length bs) (unpacked bs)
 unfolding Plain unpacked onto every
-plain_lem [] = (omega arith, refl)
-plain_lem (b ∷ bs) = go (last_of b) (eqb (b / 2) space) (are_spaces bs) (is_letter_or_digit (b / 2)) refl (unpacked bs) (plain_lem bs)
+plain [] = (omega arith, refl)
+plain (b ∷ bs) = go (last_of b) (eqb (b / 2) space) (are_spaces bs) (is_letter_or_digit (b / 2)) refl (unpacked bs) (plain bs)
   where
     go : (p q s r : Bool) → is_letter_or_digit (b / 2) ≡ r → (u : Unpacked) → Plain (length bs) u
         → Plain (suc (length bs)) (cond p malformed (cond q (cond s (call []) malformed) (cond r (onto (raised (b / 2)) u) malformed)))
@@ -166,9 +166,9 @@ fit : ℕ → Bool
 unfolding ssid_text
 fit n = every ascii (ssid_text n) && not (is_zero (ssid_text n)) && leb (length (ssid_text n)) 2
 
-fits_lem : T (all 16 fit)
+fits : T (all 16 fit)
 unfolding fit ssid_text every is_zero
-fits_lem = tt
+fits = tt
 
 record Fit (n : ℕ) : Type 0 where
   plain_text : every ascii (ssid_text n) ≡ true
@@ -177,7 +177,7 @@ record Fit (n : ℕ) : Type 0 where
 
 fit_at : (n : ℕ) → n < 16 → Fit n
 unfolding fit
-fit_at n h = go (every ascii (ssid_text n)) (is_zero (ssid_text n)) (leb (length (ssid_text n)) 2) refl refl refl (all_at 16 fit fits_lem n h)
+fit_at n h = go (every ascii (ssid_text n)) (is_zero (ssid_text n)) (leb (length (ssid_text n)) 2) refl refl refl (all_at 16 fit fits n h)
   where
     go : (x y z : Bool) → every ascii (ssid_text n) ≡ x → is_zero (ssid_text n) ≡ y → leb (length (ssid_text n)) 2 ≡ z → T (x && not y && z) → Fit n
     go true false true a b c t = record { plain_text = a; nonzero = b; short = leb-true (length (ssid_text n)) 2 c }
@@ -185,8 +185,8 @@ fit_at n h = go (every ascii (ssid_text n)) (is_zero (ssid_text n)) (leb (length
     go true true z a b c t = absurd t
     go false y z a b c t = absurd t
 
-joined_short : (a b : List ℕ) → length a ≤ 6 → length b ≤ 2 → length (joined_lem a b) ≤ 16
-unfolding joined_lem
+joined_short : (a b : List ℕ) → length a ≤ 6 → length b ≤ 2 → length (joined a b) ≤ 16
+unfolding joined
 joined_short a [] h k = omega arith
 joined_short a (x ∷ b) h k = omega (arith, length-append a (dash ∷ x ∷ b))
 
@@ -198,7 +198,7 @@ unpacked_range (call cs) s h =
     made_range cs (ssid_text (s / 2 % 16)) (joined_short cs _ h.0 f.short) (ascii_utf8 cs h.1) (ascii_utf8 _ f.plain_text) f.nonzero
 
 plain_six : (b : List ℕ) → length b ≡ 7 → Plain 6 (unpacked (take 6 b))
-plain_six b h = rw (sixth) at (plain_lem (take 6 b))
+plain_six b h = rw (sixth) at (plain (take 6 b))
   where
     sixth : length (take 6 b) ≡ 6
     sixth = length-take-le 6 b (omega arith)

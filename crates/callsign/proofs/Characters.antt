@@ -5,7 +5,7 @@ use borrow.Author.Tests.{eqb-false}
 use Rattle.laws.specs.Bytes.{space, is_letter_or_digit, raised}
 use Rattle.callsign.specs.declared.Callsign.{Callsign}
 use Rattle.callsign.specs.declared.AddressRead.{AddressRead}
-use Rattle.callsign.specs.Text.{made_lem}
+use Rattle.callsign.specs.Text.{made}
 use Rattle.callsign.specs.Address.{ssid_of, heard_of, last_of, Unpacked, malformed, call, onto, are_spaces, unpacked, ssid_text, address_refused, address_of, read_address}
 
 -- ---- one character
@@ -136,7 +136,7 @@ abbrev pub address_as : Callsign → Bool → Bool → AddressRead
 address_as c heard last = record { refusal = 0; call = c; heard = heard; last = last }
 
 pub reads : (s cs : List ℕ) (n : ℕ) (sp : Bool) (i : ℕ) → Sofar s cs n sp i → 6 ≤ i → (b : ℕ) → get_or s 6 0 ≡ b
-    → (c : Callsign) (h l : Bool) → c ≡ made_lem (take n cs) (ssid_text (ssid_of b)) → h ≡ heard_of b → l ≡ last_of b → address_as c h l ≡ read_address s
+    → (c : Callsign) (h l : Bool) → c ≡ made (take n cs) (ssid_text (ssid_of b)) → h ≡ heard_of b → l ≡ last_of b → address_as c h l ≡ read_address s
 unfolding read_address address_of
 reads s cs n sp i so over b is c h l ec eh el =
     let g : length (take 6 s) ≤ i = simp length-take (omega arith) in

@@ -3,7 +3,7 @@
 use Rattle.std.proofs.Common.{◌≡◌, ℕ, ◌+◌, ◌-◌, ◌<◌, ◌≤◌, Bool, true, ◌&&◌, List, ◌++◌, length, get_or, take, drop, replicate, sym, ap, ◌∙◌, arith, drop_of_length-le}
 use mathlib.Core.Bool.{and-true, and_assoc}
 use lib.Seq.{take-append_seam}
-use Rattle.laws.specs.Lists.{every, zeros_lem, pad_to}
+use Rattle.laws.specs.Lists.{every, zeros, pad_to}
 use Rattle.laws.proofs.Lists.{next}
 use Rattle.laws.proofs.Each.{every_take}
 use Rattle.callsign.specs.Utf8.{ascii, utf8}
@@ -31,6 +31,6 @@ text_by_ascii u r t x q e h w =
     w ∙ sym (ascii_utf8 t (ap (every ascii) (sym (take-append_seam t z)) ∙ every_take ascii (length t) (t ++ z) k))
 
 -- a text of ASCII, whose spare bytes alone are left to test
-pub sound_by_ascii : (u r : Bool) (l : List ℕ) (n : ℕ) → u ≡ every ascii l → u ≡ true → r ≡ zeros_lem (drop n l) → r ≡ sound l n
+pub sound_by_ascii : (u r : Bool) (l : List ℕ) (n : ℕ) → u ≡ every ascii l → u ≡ true → r ≡ zeros (drop n l) → r ≡ sound l n
 unfolding sound
 sound_by_ascii u r l n e t q = rw (ascii_utf8 (take n l) (every_take ascii n l (sym e ∙ t))) q

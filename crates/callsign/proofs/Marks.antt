@@ -7,8 +7,8 @@ use Rattle.laws.specs.Lists.{index_of}
 use Rattle.callsign.specs.declared.Callsign.{Callsign}
 use Rattle.callsign.specs.declared.Field.{Field}
 use Rattle.callsign.specs.Utf8.{utf8}
-use Rattle.callsign.specs.Text.{made_lem, marked_as, blank_call, is_zero, call_refused, call_accepted, parted_lem, read_unstarred, read_text}
-use Rattle.callsign.specs.Range.{call_part, ssid_part, text_len, is_dashed, in_range, is_blank_call, text_of_lem}
+use Rattle.callsign.specs.Text.{made, marked_as, blank_call, is_zero, call_refused, call_accepted, parted, read_unstarred, read_text}
+use Rattle.callsign.specs.Range.{call_part, ssid_part, text_len, is_dashed, in_range, is_blank_call, text_of}
 use Rattle.callsign.specs.Address.{ssid_of, Unpacked, malformed, call, unpacked, ssid_text, address_refused, address_of, read_address}
 use Rattle.callsign.specs.Packed.{write_address}
 
@@ -21,8 +21,8 @@ module _ (zero : Bool) (c : Callsign) where
   unfolding marked_as is_blank_call
   mark_of_blank = refl
 
-  pub mark_in_text : text_of_lem (marked_as zero c) ≡ text_of_lem c
-  unfolding marked_as text_of_lem call_part ssid_part
+  pub mark_in_text : text_of (marked_as zero c) ≡ text_of c
+  unfolding marked_as text_of call_part ssid_part
   mark_in_text = refl
 
   pub mark_in_address : (field : Field) (last : Bool) → write_address (marked_as zero c) field last ≡ write_address c field last
@@ -33,8 +33,8 @@ module _ (zero : Bool) (c : Callsign) where
 abbrev pub unmarked_call : Callsign → Callsign
 unmarked_call c = marked_as false c
 
-pub unmarked_made : (a b : List ℕ) → unmarked_call (made_lem a b) ≡ made_lem a b
-unfolding marked_as made_lem
+pub unmarked_made : (a b : List ℕ) → unmarked_call (made a b) ≡ made a b
+unfolding marked_as made
 unmarked_made a b = refl
 
 pub unmarked_address : (b : List ℕ) → unmarked_call (read_address b).call ≡ (read_address b).call
@@ -56,24 +56,24 @@ typed_ssid t = drop (suc (index_of dash t)) t
 unfoldable pub star_off : List ℕ → List ℕ
 star_off s = cond (eqb (get_or s (length s - 1) 0) star) (take (length s - 1) s) s
 
-parted_mark : (a b : List ℕ) (starred : Bool) → (parted_lem a b starred).refusal ≡ 0 → (parted_lem a b starred).call.had_zero_ssid ≡ is_zero b
-unfolding parted_lem call_refused call_accepted made_lem marked_as
+parted_mark : (a b : List ℕ) (starred : Bool) → (parted a b starred).refusal ≡ 0 → (parted a b starred).call.had_zero_ssid ≡ is_zero b
+unfolding parted call_refused call_accepted made marked_as
 parted_mark a b starred = go (eqb (length a) 0) (eqb (length b) 0) (is_zero b)
   where
-    go : (p q z : Bool) → (cond p (call_refused 3) (cond q (call_refused 3) (cond z (call_accepted (marked_as true (made_lem a [])) starred) (call_accepted (made_lem a b) starred)))).refusal ≡ 0
-        → (cond p (call_refused 3) (cond q (call_refused 3) (cond z (call_accepted (marked_as true (made_lem a [])) starred) (call_accepted (made_lem a b) starred)))).call.had_zero_ssid ≡ z
+    go : (p q z : Bool) → (cond p (call_refused 3) (cond q (call_refused 3) (cond z (call_accepted (marked_as true (made a [])) starred) (call_accepted (made a b) starred)))).refusal ≡ 0
+        → (cond p (call_refused 3) (cond q (call_refused 3) (cond z (call_accepted (marked_as true (made a [])) starred) (call_accepted (made a b) starred)))).call.had_zero_ssid ≡ z
     go true q z e = absurd (omega arith)
     go false true z e = absurd (omega arith)
     go false false true e = refl
     go false false false e = refl
 
 unstarred_mark : (t : List ℕ) (starred : Bool) → (read_unstarred t starred).refusal ≡ 0 → (read_unstarred t starred).call.had_zero_ssid ≡ is_zero (typed_ssid t)
-unfolding read_unstarred call_refused call_accepted made_lem typed_ssid is_zero
+unfolding read_unstarred call_refused call_accepted made typed_ssid is_zero
 unstarred_mark t starred = go (ltb 16 (length t)) (utf8 t) (eqb (index_of dash t) (length t)) refl
   where
     go : (p q d : Bool) → eqb (index_of dash t) (length t) ≡ d
-        → (cond p (call_refused 4) (cond (not q) (call_refused 3) (cond d (call_accepted (made_lem t []) starred) (parted_lem (take (index_of dash t) t) (drop (suc (index_of dash t)) t) starred)))).refusal ≡ 0
-        → (cond p (call_refused 4) (cond (not q) (call_refused 3) (cond d (call_accepted (made_lem t []) starred) (parted_lem (take (index_of dash t) t) (drop (suc (index_of dash t)) t) starred)))).call.had_zero_ssid
+        → (cond p (call_refused 4) (cond (not q) (call_refused 3) (cond d (call_accepted (made t []) starred) (parted (take (index_of dash t) t) (drop (suc (index_of dash t)) t) starred)))).refusal ≡ 0
+        → (cond p (call_refused 4) (cond (not q) (call_refused 3) (cond d (call_accepted (made t []) starred) (parted (take (index_of dash t) t) (drop (suc (index_of dash t)) t) starred)))).call.had_zero_ssid
         ≡ is_zero (drop (suc (index_of dash t)) t)
     go true q d f e = absurd (omega arith)
     go false false d f e = absurd (omega arith)

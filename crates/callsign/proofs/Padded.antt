@@ -3,7 +3,7 @@
 use Rattle.std.proofs.Common.{◌≡◌, ℕ, zero, suc, ◌+◌, ◌-◌, ◌<◌, ◌≤◌, Bool, true, ◌&&◌, eqb, List, [], ◌∷◌, ◌++◌, length, get_or, take, drop, set, replicate, sym, refl, ap, ◌∙◌, arith, length-set, drop_of_length-le, eq-eqb}
 use mathlib.Core.Bool.{and-true, and_assoc}
 use native.Mathlib.Nat.{sub-zero, suc-sub-suc}
-use Rattle.laws.specs.Lists.{zeros_lem, pad_to}
+use Rattle.laws.specs.Lists.{zeros, pad_to}
 use Rattle.laws.proofs.Lists.{next, copy_more, drop_replicate}
 
 -- ---- a copy
@@ -46,20 +46,20 @@ alike [] k = true
 alike (x ∷ l) [] = true
 alike (x ∷ l) (y ∷ k) = eqb x y && alike l k
 
-zeros_alike : (l : List ℕ) (m : ℕ) → length l ≡ m → zeros_lem l ≡ alike l (replicate m 0)
-unfolding zeros_lem
+zeros_alike : (l : List ℕ) (m : ℕ) → length l ≡ m → zeros l ≡ alike l (replicate m 0)
+unfolding zeros
 zeros_alike [] m e = refl
 zeros_alike (x ∷ l) zero e = absurd (omega arith)
 zeros_alike (x ∷ l) (suc m) e = ap (λ (b : Bool). eqb x 0 && b) (zeros_alike l m (omega arith))
 
-kept_alike : (n : ℕ) (l : List ℕ) (m : ℕ) → length l ≡ m → zeros_lem (drop n l) ≡ alike l (pad_to m 0 (take n l))
+kept_alike : (n : ℕ) (l : List ℕ) (m : ℕ) → length l ≡ m → zeros (drop n l) ≡ alike l (pad_to m 0 (take n l))
 unfolding pad_to
 kept_alike zero l m e = rw sub-zero (zeros_alike l m e)
-kept_alike (suc n) [] m e = unfold zeros_lem in refl
+kept_alike (suc n) [] m e = unfold zeros in refl
 kept_alike (suc n) (x ∷ l) zero e = absurd (omega arith)
 kept_alike (suc n) (x ∷ l) (suc m) e = rw (suc-sub-suc, eq-eqb x x refl) (kept_alike n l m (omega arith))
 
-pub alike_start : (n : ℕ) (l k : List ℕ) (m : ℕ) → length l ≡ m → k ≡ pad_to m 0 (take n l) → zeros_lem (drop n l) ≡ alike l k
+pub alike_start : (n : ℕ) (l k : List ℕ) (m : ℕ) → length l ≡ m → k ≡ pad_to m 0 (take n l) → zeros (drop n l) ≡ alike l k
 alike_start n l k m e q = rw q (kept_alike n l m e)
 
 pub alike_more : (b fine : Bool) (l k : List ℕ) (i : ℕ) → i < length l → i < length k → b ≡ (fine && alike (drop i l) (drop i k))

@@ -5,12 +5,12 @@ use mathlib.Core.Bool.{and-true, and-false, and_assoc}
 use borrow.Author.Tests.{eqb-false, lt-leb, not-true, not-false}
 use lib.Seq.{append_snoc}
 use Rattle.laws.specs.Bytes.{star, dash, digit0}
-use Rattle.laws.specs.Lists.{zeros_lem}
+use Rattle.laws.specs.Lists.{zeros}
 use Rattle.laws.proofs.Tests.{and_both}
 use Rattle.callsign.specs.declared.Callsign.{Callsign}
 use Rattle.callsign.specs.Utf8.{utf8, characters}
-use Rattle.callsign.specs.Text.{joined_lem, is_zero}
-use Rattle.callsign.specs.Range.{call_part, ssid_part, text_len, is_dashed, in_range, is_blank_call, range_refusal, text_of_lem, with_star, sound}
+use Rattle.callsign.specs.Text.{joined, is_zero}
+use Rattle.callsign.specs.Range.{call_part, ssid_part, text_len, is_dashed, in_range, is_blank_call, range_refusal, text_of, with_star, sound}
 use Rattle.callsign.proofs.Unicode.{utf8_split}
 
 -- ---- an SSID that is `0` alone
@@ -54,8 +54,8 @@ module _ (c : Callsign) (k : c.ssid_len ≡ 0) where
   unfolding in_range call_part sound
   bare_range = simp (bare_length, bare_ssid, bare_dashed, utf8_none, zero_none, and-true) (and_assoc (leb c.call_len 16) _ _)
 
-  pub bare_text : text_of_lem c ≡ take (text_len c) c.text
-  unfolding text_of_lem joined_lem call_part
+  pub bare_text : text_of c ≡ take (text_len c) c.text
+  unfolding text_of joined call_part
   bare_text = rw (bare_ssid, bare_length)
 
 -- ---- a callsign with one
@@ -130,25 +130,25 @@ module _ (c : Callsign) where
         range_dash d = simp (full_dashed c k, ne_eqb (get_or c.text c.call_len 0) dash d, and-false)
 
         module _ (long : length c.text ≡ 16) (d : get_or c.text c.call_len 0 ≡ dash) where
-          fits_lem : c.call_len + 1 + c.ssid_len ≤ 16
-          fits_lem = omega arith
+          fits : c.call_len + 1 + c.ssid_len ≤ 16
+          fits = omega arith
 
           pub range_zero : c.ssid_len ≡ 1 → get_or c.text (c.call_len + 1) 0 ≡ digit0 → false ≡ in_range c
           unfolding in_range
           range_zero o z =
-              simp (zero_alone (ssid_part c) (ssid_length c k long fits_lem ∙ o) (ssid_first c k long fits_lem ∙ z), and-false)
+              simp (zero_alone (ssid_part c) (ssid_length c k long fits ∙ o) (ssid_first c k long fits ∙ z), and-false)
 
           kept : (r : Bool) → is_zero (ssid_part c) ≡ false → r ≡ sound c.text (c.call_len + 1 + c.ssid_len) → r ≡ in_range c
           unfolding in_range sound
           kept r z q =
-              q ∙ rw (full_utf8 c k long fits_lem d)
-              (simp (full_length c k, le-leb (c.call_len + 1 + c.ssid_len) 16 fits_lem, z, full_dashed c k, eq-eqb (get_or c.text c.call_len 0) dash d, and-true))
+              q ∙ rw (full_utf8 c k long fits d)
+              (simp (full_length c k, le-leb (c.call_len + 1 + c.ssid_len) 16 fits, z, full_dashed c k, eq-eqb (get_or c.text c.call_len 0) dash d, and-true))
 
           pub range_one : (r : Bool) → c.ssid_len ≡ 1 → (get_or c.text (c.call_len + 1) 0 ≡ digit0 → ⊥) → r ≡ sound c.text (c.call_len + 1 + c.ssid_len) → r ≡ in_range c
-          range_one r o z q = kept r (not_zero (ssid_part c) (λ a b. z (sym (ssid_first c k long fits_lem) ∙ b))) q
+          range_one r o z q = kept r (not_zero (ssid_part c) (λ a b. z (sym (ssid_first c k long fits) ∙ b))) q
 
           pub range_more : (r : Bool) → (c.ssid_len ≡ 1 → ⊥) → r ≡ sound c.text (c.call_len + 1 + c.ssid_len) → r ≡ in_range c
-          range_more r o q = kept r (not_zero (ssid_part c) (λ a b. o (sym (ssid_length c k long fits_lem) ∙ a))) q
+          range_more r o q = kept r (not_zero (ssid_part c) (λ a b. o (sym (ssid_length c k long fits) ∙ a))) q
 
 -- ---- what being in range gives, and what gives it
 
@@ -158,7 +158,7 @@ pub record Ranged (c : Callsign) : Type 0 where
   pub ssid : utf8 (ssid_part c) ≡ true
   pub nonzero : is_zero (ssid_part c) ≡ false
   pub dashed : is_dashed c ≡ true
-  pub spare : zeros_lem (drop (text_len c) c.text) ≡ true
+  pub spare : zeros (drop (text_len c) c.text) ≡ true
 
 pub to_range : (c : Callsign) → Ranged c → in_range c ≡ true
 unfolding in_range
@@ -167,7 +167,7 @@ to_range c r = rw (le-leb (text_len c) 16 r.size, r.call, r.ssid, r.nonzero, r.d
 pub from_range : (c : Callsign) → in_range c ≡ true → Ranged c
 unfolding in_range
 from_range c e =
-    let t₅ = and_both _ (zeros_lem (drop (text_len c) c.text)) e in
+    let t₅ = and_both _ (zeros (drop (text_len c) c.text)) e in
     let t₄ = and_both _ (is_dashed c) t₅.0 in
     let t₃ = and_both _ (not (is_zero (ssid_part c))) t₄.0 in
     let t₂ = and_both _ (utf8 (ssid_part c)) t₃.0 in
@@ -190,8 +190,8 @@ unfolding range_refusal
 rejected c e = rw e
 
 -- the text in use is what is written
-pub joined_full : (a b : List ℕ) → (length b ≡ 0 → ⊥) → joined_lem a b ≡ a ++ dash ∷ b
-unfolding joined_lem
+pub joined_full : (a b : List ℕ) → (length b ≡ 0 → ⊥) → joined a b ≡ a ++ dash ∷ b
+unfolding joined
 joined_full a [] h = absurd (h refl)
 joined_full a (x ∷ b) h = refl
 
@@ -203,16 +203,16 @@ module _ (c : Callsign) (e : in_range c ≡ true) where
   full_dash k = eqb-true (get_or c.text c.call_len 0) dash (sym (full_dashed c k) ∙ (from_range c e).dashed)
 
   module _ (long : length c.text ≡ 16) where
-    full_text : (c.ssid_len ≡ 0 → ⊥) → text_of_lem c ≡ take (text_len c) c.text
-    unfolding text_of_lem
+    full_text : (c.ssid_len ≡ 0 → ⊥) → text_of c ≡ take (text_len c) c.text
+    unfolding text_of
     full_text k =
         joined_full (call_part c) (ssid_part c) (λ z. k (sym (ssid_length c k long (full_fits k)) ∙ z))
         ∙ sym (ap (λ (n : ℕ). take n c.text) (full_length c k) ∙ full_split c k long (full_fits k) (full_dash k))
 
-    pub text_in_use : text_of_lem c ≡ take (text_len c) c.text
+    pub text_in_use : text_of c ≡ take (text_len c) c.text
     text_in_use = go (eqb c.ssid_len 0) refl
       where
-        go : (b : Bool) → eqb c.ssid_len 0 ≡ b → text_of_lem c ≡ take (text_len c) c.text
+        go : (b : Bool) → eqb c.ssid_len 0 ≡ b → text_of c ≡ take (text_len c) c.text
         go true q = bare_text c (eqb-true c.ssid_len 0 q)
         go false q = full_text (eqb-false c.ssid_len 0 q)
 
@@ -221,30 +221,30 @@ module _ (c : Callsign) (e : in_range c ≡ true) where
 take_le : (n : ℕ) (l : List ℕ) → length (take n l) ≤ n
 take_le n l = rw length-take (omega arith)
 
-joined_le : (a b : List ℕ) → length (joined_lem a b) ≤ length a + 1 + length b
-unfolding joined_lem
+joined_le : (a b : List ℕ) → length (joined a b) ≤ length a + 1 + length b
+unfolding joined
 joined_le a [] = omega arith
 joined_le a (x ∷ b) = rw (length-append a (dash ∷ x ∷ b)) (omega arith)
 
-text_le : (c : Callsign) → length (text_of_lem c) ≤ c.call_len + 1 + c.ssid_len
-unfolding text_of_lem call_part ssid_part
+text_le : (c : Callsign) → length (text_of c) ≤ c.call_len + 1 + c.ssid_len
+unfolding text_of call_part ssid_part
 text_le c =
     let a = take_le c.call_len c.text in
     let b = take_le c.ssid_len (drop (c.call_len + 1) c.text) in
     let j = joined_le (call_part c) (ssid_part c) in
     omega arith
 
-pub text_short : (c : Callsign) → in_range c ≡ true → length (text_of_lem c) ≤ 16
+pub text_short : (c : Callsign) → in_range c ≡ true → length (text_of c) ≤ 16
 text_short c e = go (eqb c.ssid_len 0) refl (from_range c e).size
   where
-    go : (b : Bool) → eqb c.ssid_len 0 ≡ b → text_len c ≤ 16 → length (text_of_lem c) ≤ 16
+    go : (b : Bool) → eqb c.ssid_len 0 ≡ b → text_len c ≤ 16 → length (text_of c) ≤ 16
     go true q m = let k = take_le (text_len c) c.text in rw (bare_text c (eqb-true c.ssid_len 0 q)) (omega arith)
     go false q m = let k = full_length c (eqb-false c.ssid_len 0 q) in let x = text_le c in omega arith
 
 -- with its star
-pub star_short : (c : Callsign) (starred : Bool) → in_range c ≡ true → length (with_star (text_of_lem c) starred) ≤ 17
+pub star_short : (c : Callsign) (starred : Bool) → in_range c ≡ true → length (with_star (text_of c) starred) ≤ 17
 unfolding with_star
-star_short c true e = let m = text_short c e in rw (length-append (text_of_lem c) (star ∷ [])) (omega arith)
+star_short c true e = let m = text_short c e in rw (length-append (text_of c) (star ∷ [])) (omega arith)
 star_short c false e = let m = text_short c e in omega arith
 
 -- ---- how many bytes of any callsign's text are shown
@@ -269,8 +269,8 @@ module _ (c : Callsign) where
 pub blank_is_in_range : (c : Callsign) → is_blank_call c ≡ true → in_range c ≡ true
 unfolding is_blank_call sound utf8 characters
 blank_is_in_range c e =
-    let b = and_both (eqb c.call_len 0) (eqb c.ssid_len 0 && zeros_lem c.text) e in
-    let d = and_both (eqb c.ssid_len 0) (zeros_lem c.text) b.1 in
+    let b = and_both (eqb c.call_len 0) (eqb c.ssid_len 0 && zeros c.text) e in
+    let d = and_both (eqb c.ssid_len 0) (zeros c.text) b.1 in
     let n = eqb-true c.call_len 0 b.0 in
     sym (range_bare c (omega arith) true (eqb-true c.ssid_len 0 d.0) (rw (n, d.1)))
 

@@ -17,7 +17,7 @@ use Rattle.callsign.specs.declared.Field.{Field}
 use Rattle.numbers.specs.declared.Count.{Count}
 use Rattle.numbers.specs.declared.Count.TheVariants.{Is, Over, Bad}
 use Rattle.callsign.specs.Range.{in_range, call_part, ssid_part}
-use Rattle.callsign.specs.Packed.{sent_lem, ssid_number, seventh_of, unwritten_by, packed_as, packed_by, write_address}
+use Rattle.callsign.specs.Packed.{sent, ssid_number, seventh_of, unwritten_by, packed_as, packed_by, write_address}
 use Rattle.callsign.proofs.Ranges.{bare_ssid, length_over, from_range, found_in_range}
 use Rattle.callsign.proofs.Numbers.{ssid_small}
 
@@ -63,14 +63,14 @@ raises c e =
     go true false z w v t h a b d f = absurd t
     go false y z w v t h a b d f = absurd (false≢true h)
 
-shifted_lem : (d u : ℕ) → is_letter_or_digit d ≡ true → u ≡ raised d → u * 2 % 256 ≡ sent_lem d
-unfolding sent_lem
-shifted_lem d u e q = let n = (raises d e).ascii in omega arith
+shifted : (d u : ℕ) → is_letter_or_digit d ≡ true → u ≡ raised d → u * 2 % 256 ≡ sent d
+unfolding sent
+shifted d u e q = let n = (raises d e).ascii in omega arith
 
 -- ---- a loop's state: i characters are sent, and spaces stand behind them
 
 -- the characters of a call and the spaces behind them are six bytes
-pub six_sent : (cs : List ℕ) → length cs ≤ 6 → length (map sent_lem cs ++ replicate (6 - length cs) 64) ≡ 6
+pub six_sent : (cs : List ℕ) → length cs ≤ 6 → length (map sent cs ++ replicate (6 - length cs) 64) ≡ 6
 six_sent cs h = rw (length-append, length-map, length-replicate) (omega arith)
 
 pub record Sent (cs bytes : List ℕ) (i : ℕ) : Type 0 where
@@ -78,24 +78,24 @@ pub record Sent (cs bytes : List ℕ) (i : ℕ) : Type 0 where
   pub inside : i ≤ length cs
   pub seven : length bytes ≡ 7
   pub good : every is_letter_or_digit (take i cs) ≡ true
-  pub is : bytes ≡ map sent_lem (take i cs) ++ replicate (7 - i) 64
+  pub is : bytes ≡ map sent (take i cs) ++ replicate (7 - i) 64
 
 pub start : (cs : List ℕ) → length cs ≤ 6 → Sent cs (replicate 7 64) 0
 unfolding every
 start cs h = record { short = h; inside = omega arith; seven = refl; good = refl; is = refl }
 
 module _ (cs bytes : List ℕ) (i : ℕ) (so : Sent cs bytes i) where
-  front : length (map sent_lem (take i cs)) ≡ i
-  front = length-map (take i cs) sent_lem ∙ length-take-le i cs so.inside
+  front : length (map sent (take i cs)) ≡ i
+  front = length-map (take i cs) sent ∙ length-take-le i cs so.inside
 
   module _ (more : i < length cs) where
-    pub goes : (v : ℕ) → is_letter_or_digit (get_or cs i 0) ≡ true → v ≡ sent_lem (get_or cs i 0) → Sent cs (set bytes i v) (i + 1)
+    pub goes : (v : ℕ) → is_letter_or_digit (get_or cs i 0) ≡ true → v ≡ sent (get_or cs i 0) → Sent cs (set bytes i v) (i + 1)
     goes v e ev =
         let d = get_or cs i 0 in
         let n : take (i + 1) cs ≡ take i cs ++ (d ∷ []) = ap (λ (k : ℕ). take k cs) (add-one i) ∙ take-suc cs i 0 more in
         let q : 7 - i ≡ suc (7 - (i + 1)) = omega (arith, so.short) in
         let rest : List ℕ = replicate (7 - (i + 1)) 64 in
-        let p : List ℕ = map sent_lem (take i cs) in
+        let p : List ℕ = map sent (take i cs) in
         let b : bytes ≡ p ++ 64 ∷ rest = so.is ∙ ap (λ (k : ℕ). p ++ replicate k 64) q in
         record {
           short = so.short;
@@ -103,7 +103,7 @@ module _ (cs bytes : List ℕ) (i : ℕ) (so : Sent cs bytes i) where
           seven = length-set bytes i v ∙ so.seven;
           good = ap (every is_letter_or_digit) n ∙ every_snoc is_letter_or_digit (take i cs) d so.good e;
           is = ap (λ (l : List ℕ). set l i v) b ∙ set_at p 64 rest v i front ∙ ap (λ (w : ℕ). p ++ w ∷ rest) ev
-              ∙ sym (append_snoc p (sent_lem d) rest) ∙ ap (λ (l : List ℕ). l ++ rest) (sym (ap (map sent_lem) n ∙ map-append sent_lem (take i cs) (d ∷ [])));
+              ∙ sym (append_snoc p (sent d) rest) ∙ ap (λ (l : List ℕ). l ++ rest) (sym (ap (map sent) n ∙ map-append sent (take i cs) (d ∷ [])));
         }
 
     bad : is_letter_or_digit (get_or cs i 0) ≡ false → every is_letter_or_digit cs ≡ false
@@ -113,7 +113,7 @@ module _ (cs bytes : List ℕ) (i : ℕ) (so : Sent cs bytes i) where
     pub sends : (l : Bool) (u : ℕ) → l ≡ is_letter_or_digit (get_or cs i 0) → not l ≡ false → u ≡ raised (get_or cs i 0) → Sent cs (set bytes i (u * 2 % 256)) (i + 1)
     sends l u q n r =
         let e : is_letter_or_digit (get_or cs i 0) ≡ true = sym q ∙ not-false l n in
-        goes (u * 2 % 256) e (shifted_lem (get_or cs i 0) u e r)
+        goes (u * 2 % 256) e (shifted (get_or cs i 0) u e r)
 
     pub not_sent : (r : AddressWritten) (s : ℕ) (l : Bool) → l ≡ is_letter_or_digit (get_or cs i 0) → not l ≡ true → r ≡ unwritten_by 13 → r ≡ packed_as cs s
     unfolding packed_as
@@ -123,12 +123,12 @@ module _ (cs bytes : List ℕ) (i : ℕ) (so : Sent cs bytes i) where
     all_good : every is_letter_or_digit cs ≡ true
     all_good = ap (every is_letter_or_digit) (sym (take_all i cs over)) ∙ so.good
 
-    closed : (v : ℕ) → set bytes 6 v ≡ map sent_lem cs ++ replicate (6 - length cs) 64 ++ v ∷ []
+    closed : (v : ℕ) → set bytes 6 v ≡ map sent cs ++ replicate (6 - length cs) 64 ++ v ∷ []
     closed v =
-        let p : List ℕ = map sent_lem cs in
+        let p : List ℕ = map sent cs in
         let r : List ℕ = replicate (6 - length cs) 64 in
         let q : 7 - i ≡ (6 - length cs) + 1 = omega (arith, so.short, so.inside) in
-        let z : bytes ≡ (p ++ r) ++ 64 ∷ [] = so.is ∙ ap (λ (l : List ℕ). map sent_lem l ++ replicate (7 - i) 64) (take_all i cs over)
+        let z : bytes ≡ (p ++ r) ++ 64 ∷ [] = so.is ∙ ap (λ (l : List ℕ). map sent l ++ replicate (7 - i) 64) (take_all i cs over)
         ∙ ap (λ (k : ℕ). p ++ replicate k 64) q ∙ ap (λ (l : List ℕ). p ++ l) (sym (replicate-append-replicate (6 - length cs) 1 64)) ∙ sym (append_assoc p r (64 ∷ [])) in
         ap (λ (l : List ℕ). set l 6 v) z ∙ set_at (p ++ r) 64 [] v 6 (six_sent cs so.short)
 

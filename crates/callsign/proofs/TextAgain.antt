@@ -7,8 +7,8 @@ use Rattle.laws.specs.Bytes.{star, dash, digit0}
 use Rattle.laws.specs.Lists.{index_of}
 use Rattle.callsign.specs.declared.CallRead.{CallRead}
 use Rattle.callsign.specs.Utf8.{utf8}
-use Rattle.callsign.specs.Text.{made_lem, marked_as, is_zero, call_refused, call_accepted, parted_lem, read_unstarred, read_text}
-use Rattle.callsign.specs.Range.{text_of_lem, with_star}
+use Rattle.callsign.specs.Text.{made, marked_as, is_zero, call_refused, call_accepted, parted, read_unstarred, read_text}
+use Rattle.callsign.specs.Range.{text_of, with_star}
 use Rattle.callsign.proofs.Ranges.{joined_full}
 use Rattle.callsign.proofs.Made.{made_written}
 use Rattle.callsign.proofs.Marks.{mark_in_text, unmarked_call, unmarked_made}
@@ -18,7 +18,7 @@ use Rattle.callsign.proofs.TextBack.{Seen, refused, bare, zeroed, full, seen, si
 
 -- the star is reported, and changes nothing else
 star_apart : (t : List ℕ) (starred b : Bool) → (read_unstarred t starred).refusal ≡ 0 → read_unstarred t b ≡ call_accepted (read_unstarred t starred).call b
-unfolding read_unstarred parted_lem call_refused call_accepted
+unfolding read_unstarred parted call_refused call_accepted
 star_apart t starred b = go (ltb 16 (length t)) (utf8 t) (eqb (index_of dash t) (length t)) (eqb (length call) 0) (eqb (length ssid) 0) (is_zero ssid)
   where
     call : List ℕ
@@ -31,8 +31,8 @@ star_apart t starred b = go (ltb 16 (length t)) (utf8 t) (eqb (index_of dash t) 
     read p q d x y z b =
         cond p (call_refused 4)
         (cond (not q) (call_refused 3)
-        (cond d (call_accepted (made_lem t []) b)
-        (cond x (call_refused 3) (cond y (call_refused 3) (cond z (call_accepted (marked_as true (made_lem call [])) b) (call_accepted (made_lem call ssid) b))))))
+        (cond d (call_accepted (made t []) b)
+        (cond x (call_refused 3) (cond y (call_refused 3) (cond z (call_accepted (marked_as true (made call [])) b) (call_accepted (made call ssid) b))))))
 
     go : (p q d x y z : Bool) → (read p q d x y z starred).refusal ≡ 0 → read p q d x y z b ≡ call_accepted (read p q d x y z starred).call b
     go true q d x y z e = absurd (omega arith)
@@ -44,19 +44,19 @@ star_apart t starred b = go (ltb 16 (length t)) (utf8 t) (eqb (index_of dash t) 
     go false true false false false false e = refl
 
 -- a text without a dash
-all_call : (t : List ℕ) (b : Bool) → index_of dash t ≡ length t → length t ≤ 16 → utf8 t ≡ true → read_unstarred t b ≡ call_accepted (made_lem t []) b
+all_call : (t : List ℕ) (b : Bool) → index_of dash t ≡ length t → length t ≤ 16 → utf8 t ≡ true → read_unstarred t b ≡ call_accepted (made t []) b
 unfolding read_unstarred
 all_call t b d h v = rw (le-ltb 16 (length t) h, v, eq-eqb (index_of dash t) (length t) d)
 
 seen_again : (t : List ℕ) (starred : Bool) (r : CallRead) → Seen t starred r → r ≡ read_unstarred t starred → r.refusal ≡ 0 → (b : Bool)
-    → read_unstarred (text_of_lem r.call) b ≡ call_accepted (unmarked_call r.call) b
+    → read_unstarred (text_of r.call) b ≡ call_accepted (unmarked_call r.call) b
 unfolding call_refused call_accepted
 seen_again t starred r (refused n h m) e z b = absurd (omega arith)
 seen_again t starred r (bare h v) e z b = rw (bare_written t, unmarked_made t []) (star_apart t starred b (sym (ap (λ (x : CallRead). x.refusal) e)) ∙ ap (λ (x : CallRead). call_accepted x.call b) (sym e))
 seen_again t starred r (zeroed a e first h v) q z b =
-    rw (mark_in_text true (made_lem a []), bare_written a) (all_call a b first (omega (arith, ap length e, length-append a (dash ∷ digit0 ∷ []))) (sides t a (digit0 ∷ []) e v).0 ∙ unfold marked_as made_lem in refl)
+    rw (mark_in_text true (made a []), bare_written a) (all_call a b first (omega (arith, ap length e, length-append a (dash ∷ digit0 ∷ []))) (sides t a (digit0 ∷ []) e v).0 ∙ unfold marked_as made in refl)
 seen_again t starred r (full a c e k n h v) q z b =
-    let w : text_of_lem (made_lem a c) ≡ t = made_written a c ∙ joined_full a c k ∙ sym e in
+    let w : text_of (made a c) ≡ t = made_written a c ∙ joined_full a c k ∙ sym e in
     rw (w, unmarked_made a c) (star_apart t starred b (sym (ap (λ (x : CallRead). x.refusal) q)) ∙ ap (λ (x : CallRead). call_accepted x.call b) (sym q))
 
 -- ---- a text
@@ -79,18 +79,18 @@ unfolding with_star
 read_again t true e = read_starred t
 read_again t false e = read_unstarred_lem t e
 
-pub text_again : (s : List ℕ) → (read_text s).refusal ≡ 0 → ends_in_star (text_of_lem (read_text s).call) ≡ false → (b : Bool)
-    → read_text (with_star (text_of_lem (read_text s).call) b) ≡ call_accepted (unmarked_call (read_text s).call) b
+pub text_again : (s : List ℕ) → (read_text s).refusal ≡ 0 → ends_in_star (text_of (read_text s).call) ≡ false → (b : Bool)
+    → read_text (with_star (text_of (read_text s).call) b) ≡ call_accepted (unmarked_call (read_text s).call) b
 unfolding read_text
 text_again s = go (eqb (get_or s (length s - 1) 0) star)
   where
-    one : (t : List ℕ) (starred : Bool) → (read_unstarred t starred).refusal ≡ 0 → ends_in_star (text_of_lem (read_unstarred t starred).call) ≡ false → (b : Bool)
-        → read_text (with_star (text_of_lem (read_unstarred t starred).call) b) ≡ call_accepted (unmarked_call (read_unstarred t starred).call) b
-    one t starred z e b = read_again (text_of_lem (read_unstarred t starred).call) b e ∙ seen_again t starred _ (seen t starred) refl z b
+    one : (t : List ℕ) (starred : Bool) → (read_unstarred t starred).refusal ≡ 0 → ends_in_star (text_of (read_unstarred t starred).call) ≡ false → (b : Bool)
+        → read_text (with_star (text_of (read_unstarred t starred).call) b) ≡ call_accepted (unmarked_call (read_unstarred t starred).call) b
+    one t starred z e b = read_again (text_of (read_unstarred t starred).call) b e ∙ seen_again t starred _ (seen t starred) refl z b
 
     go : (p : Bool) → (cond p (read_unstarred (take (length s - 1) s) true) (read_unstarred s false)).refusal ≡ 0
-        → ends_in_star (text_of_lem (cond p (read_unstarred (take (length s - 1) s) true) (read_unstarred s false)).call) ≡ false → (b : Bool)
-        → read_text (with_star (text_of_lem (cond p (read_unstarred (take (length s - 1) s) true) (read_unstarred s false)).call) b)
+        → ends_in_star (text_of (cond p (read_unstarred (take (length s - 1) s) true) (read_unstarred s false)).call) ≡ false → (b : Bool)
+        → read_text (with_star (text_of (cond p (read_unstarred (take (length s - 1) s) true) (read_unstarred s false)).call) b)
         ≡ call_accepted (unmarked_call (cond p (read_unstarred (take (length s - 1) s) true) (read_unstarred s false)).call) b
     go true = one (take (length s - 1) s) true
     go false = one s false

@@ -8,44 +8,44 @@ use Rattle.laws.proofs.Lists.{part_length}
 use Rattle.laws.proofs.Places.{index_split, index_le}
 use Rattle.callsign.specs.declared.CallRead.{CallRead}
 use Rattle.callsign.specs.Utf8.{characters, utf8}
-use Rattle.callsign.specs.Text.{joined_lem, call_as, made_lem, marked_as, is_zero, call_refused, call_accepted, parted_lem, read_unstarred, read_text}
+use Rattle.callsign.specs.Text.{joined, call_as, made, marked_as, is_zero, call_refused, call_accepted, parted, read_unstarred, read_text}
 use Rattle.callsign.proofs.Ranges.{zero_alone, not_zero, joined_full}
 
 -- ---- the two sides of a dash
 
 module _ (a b : List ℕ) (starred : Bool) where
-  parted_left : length a ≡ 0 → parted_lem a b starred ≡ call_refused 3
-  unfolding parted_lem
+  parted_left : length a ≡ 0 → parted a b starred ≡ call_refused 3
+  unfolding parted
   parted_left h = rw (eq-eqb (length a) 0 h)
 
   module _ (h : length a ≡ 0 → ⊥) where
-    parted_right : length b ≡ 0 → parted_lem a b starred ≡ call_refused 3
-    unfolding parted_lem
+    parted_right : length b ≡ 0 → parted a b starred ≡ call_refused 3
+    unfolding parted
     parted_right k = rw (ne_eqb (length a) 0 h, eq-eqb (length b) 0 k)
 
     module _ (k : length b ≡ 0 → ⊥) where
-      parted_zero : is_zero b ≡ true → parted_lem a b starred ≡ call_accepted (marked_as true (made_lem a [])) starred
-      unfolding parted_lem
+      parted_zero : is_zero b ≡ true → parted a b starred ≡ call_accepted (marked_as true (made a [])) starred
+      unfolding parted
       parted_zero z = rw (ne_eqb (length a) 0 h, ne_eqb (length b) 0 k, z)
 
-      parted_kept : is_zero b ≡ false → parted_lem a b starred ≡ call_accepted (made_lem a b) starred
-      unfolding parted_lem
+      parted_kept : is_zero b ≡ false → parted a b starred ≡ call_accepted (made a b) starred
+      unfolding parted
       parted_kept z = rw (ne_eqb (length a) 0 h, ne_eqb (length b) 0 k, z)
 
 module _ (r : CallRead) (a x : List ℕ) (n : ℕ) (starred : Bool) (e : length a ≡ n) where
-  accepted_bare : (z : Bool) → x ≡ pad_to 16 0 a → r ≡ call_accepted (call_as x n 0 z) starred → r ≡ call_accepted (marked_as z (made_lem a [])) starred
-  unfolding made_lem marked_as joined_lem
+  accepted_bare : (z : Bool) → x ≡ pad_to 16 0 a → r ≡ call_accepted (call_as x n 0 z) starred → r ≡ call_accepted (marked_as z (made a [])) starred
+  unfolding made marked_as joined
   accepted_bare z q w = w ∙ rw (q, ← e)
 
   accepted_full : (b : List ℕ) (k : ℕ) → (length b ≡ 0 → ⊥) → length b ≡ k → x ≡ pad_to 16 0 (a ++ dash ∷ b)
-      → r ≡ call_accepted (call_as x n k false) starred → r ≡ call_accepted (made_lem a b) starred
-  unfolding made_lem
+      → r ≡ call_accepted (call_as x n k false) starred → r ≡ call_accepted (made a b) starred
+  unfolding made
   accepted_full b k h f q w = w ∙ rw (joined_full a b h, q, ← e, ← f)
 
 -- ---- the text without its star
 
 module _ (t : List ℕ) (starred : Bool) where
-  short : length t ≤ 16 → read_unstarred t starred ≡ cond (not (utf8 t)) (call_refused 3) (cond (eqb (index_of dash t) (length t)) (call_accepted (made_lem t []) starred) (parted_lem (take (index_of dash t) t) (drop (suc (index_of dash t)) t) starred))
+  short : length t ≤ 16 → read_unstarred t starred ≡ cond (not (utf8 t)) (call_refused 3) (cond (eqb (index_of dash t) (length t)) (call_accepted (made t []) starred) (parted (take (index_of dash t) t) (drop (suc (index_of dash t)) t) starred))
   unfolding read_unstarred
   short h = rw (le-ltb 16 (length t) h)
 
@@ -61,7 +61,7 @@ text_there t u e n = sym e ∙ not-false u n
 
 module _ (t : List ℕ) (starred : Bool) (d : ℕ) (h : length t ≤ 16) (valid : utf8 t ≡ true) (f : d ≡ index_of dash t) where
   pub undashed : (r : CallRead) (x : List ℕ) → d ≡ length t → x ≡ pad_to 16 0 t → r ≡ call_accepted (call_as x (length t) 0 false) starred → r ≡ read_unstarred t starred
-  unfolding made_lem marked_as
+  unfolding made marked_as
   undashed r x w q s =
       accepted_bare r t x (length t) starred refl false q s ∙ sym (short t starred h ∙ rw (valid, eq-eqb (index_of dash t) (length t) (sym f ∙ w)))
 
@@ -72,7 +72,7 @@ module _ (t : List ℕ) (starred : Bool) (d : ℕ) (h : length t ≤ 16) (valid 
     call_length : length (take (index_of dash t) t) ≡ d
     call_length = rw (length-take-le (index_of dash t) t (index_le dash t)) (sym f)
 
-    at_parts : read_unstarred t starred ≡ parted_lem (take (index_of dash t) t) (drop (suc (index_of dash t)) t) starred
+    at_parts : read_unstarred t starred ≡ parted (take (index_of dash t) t) (drop (suc (index_of dash t)) t) starred
     at_parts = short t starred h ∙ rw (valid, ne_eqb (index_of dash t) (length t) (λ k. i (f ∙ k)))
 
     pub no_call : (r : CallRead) → d ≡ 0 → r ≡ call_refused 3 → r ≡ read_unstarred t starred

@@ -3,16 +3,16 @@
 -- Assumes nothing.
 use Rattle.std.proofs.Common.{◌≡◌, ℕ, Bool, true, false, ◌⊎◌, List, [], ◌∷◌, refl}
 use Rattle.laws.specs.Bytes.{within, raised}
-use Rattle.laws.specs.Lists.{every, pad_to, zeros_lem}
-use Rattle.numbers.specs.Numbers.{number_after, number_of_lem, count_of, read_count}
+use Rattle.laws.specs.Lists.{every, pad_to, zeros}
+use Rattle.numbers.specs.Numbers.{number_after, number_of, count_of, read_count}
 use Rattle.callsign.specs.declared.Callsign.{Callsign}
 use Rattle.callsign.specs.declared.Field.{Field}
 use Rattle.callsign.specs.declared.Field.TheVariants.{Hop}
-use Rattle.callsign.specs.Utf8.{after_lem, characters, utf8}
-use Rattle.callsign.specs.Text.{joined_lem, made_lem, marked_as, is_zero, call_accepted, read_text}
-use Rattle.callsign.specs.Range.{call_part, ssid_part, text_len, is_dashed, in_range, range_refusal, text_of_lem, with_star}
+use Rattle.callsign.specs.Utf8.{after, characters, utf8}
+use Rattle.callsign.specs.Text.{joined, made, marked_as, is_zero, call_accepted, read_text}
+use Rattle.callsign.specs.Range.{call_part, ssid_part, text_len, is_dashed, in_range, range_refusal, text_of, with_star}
 use Rattle.callsign.specs.Address.{ssid_of, heard_of, last_of, onto, are_spaces, unpacked, ssid_text, address_of, read_address}
-use Rattle.callsign.specs.Packed.{ssid_number, bit, upper_bits, seventh_of, sent_lem, packed_as, packed_by, write_address}
+use Rattle.callsign.specs.Packed.{ssid_number, bit, upper_bits, seventh_of, sent, packed_as, packed_by, write_address}
 use Rattle.callsign.proofs.Ranges.{accepted}
 use Rattle.callsign.proofs.Bits.{heard_in}
 use Rattle.callsign.proofs.Characters.{address_as}
@@ -49,8 +49,8 @@ pub text_is_kept : (s : List ℕ) → (read_text s).refusal ≡ 0 → text.as_re
 text_is_kept = text.text_back
 
 -- a callsign that was read, written with a star or without one, reads back without its mark, unless its text ends in a star
-pub text_reads_back : (s : List ℕ) → (read_text s).refusal ≡ 0 → again.ends_in_star (text_of_lem (read_text s).call) ≡ false → (b : Bool)
-    → read_text (with_star (text_of_lem (read_text s).call) b) ≡ call_accepted (marks.unmarked_call (read_text s).call) b
+pub text_reads_back : (s : List ℕ) → (read_text s).refusal ≡ 0 → again.ends_in_star (text_of (read_text s).call) ≡ false → (b : Bool)
+    → read_text (with_star (text_of (read_text s).call) b) ≡ call_accepted (marks.unmarked_call (read_text s).call) b
 text_reads_back = again.text_again
 
 -- ---- document 02, R-2: the mark of a dropped `0`
@@ -64,7 +64,7 @@ pub address_has_no_mark : (b : List ℕ) → marks.unmarked_call (read_address b
 address_has_no_mark = marks.unmarked_address
 
 -- the writers do not look at it
-pub marks_move_no_text : (zero : Bool) (c : Callsign) → (range_refusal (marked_as zero c) ≡ range_refusal c) × (text_of_lem (marked_as zero c) ≡ text_of_lem c)
+pub marks_move_no_text : (zero : Bool) (c : Callsign) → (range_refusal (marked_as zero c) ≡ range_refusal c) × (text_of (marked_as zero c) ≡ text_of c)
 unfolding range_refusal
 marks_move_no_text zero c = (rw (marks.mark_in_range zero c), marks.mark_in_text zero c)
 
@@ -74,15 +74,15 @@ marks_move_no_address = marks.mark_in_address
 -- ---- P10: hop N0_cALL_1, heard, last
 
 abbrev pub N0_cALL_1 : Callsign
-N0_cALL_1 = made_lem (78 ∷ 48 ∷ 67 ∷ 65 ∷ 76 ∷ 76 ∷ []) (49 ∷ [])
+N0_cALL_1 = made (78 ∷ 48 ∷ 67 ∷ 65 ∷ 76 ∷ 76 ∷ []) (49 ∷ [])
 
 abbrev pub p10_bytes : List ℕ
 p10_bytes = 0x9c ∷ 0x60 ∷ 0x86 ∷ 0x82 ∷ 0x98 ∷ 0x98 ∷ 0xe3 ∷ []
 
 pub P10 : write_address N0_cALL_1 (Hop true) true ≡ record { refusal = 0; bytes = p10_bytes }
-unfolding write_address in_range text_len call_part ssid_part is_dashed utf8 characters after_lem within zeros_lem is_zero made_lem joined_lem pad_to ssid_number read_count count_of number_of_lem number_after every packed_by packed_as sent_lem raised seventh_of upper_bits bit
+unfolding write_address in_range text_len call_part ssid_part is_dashed utf8 characters after within zeros is_zero made joined pad_to ssid_number read_count count_of number_of number_after every packed_by packed_as sent raised seventh_of upper_bits bit
 P10 = refl
 
 pub p10_read : read_address p10_bytes ≡ address_as N0_cALL_1 true true
-unfolding read_address address_of unpacked onto are_spaces last_of heard_of ssid_of ssid_text within raised made_lem joined_lem pad_to
+unfolding read_address address_of unpacked onto are_spaces last_of heard_of ssid_of ssid_text within raised made joined pad_to
 p10_read = refl

@@ -8,7 +8,7 @@ use Rattle.laws.specs.Lists.{every}
 use Rattle.laws.proofs.Each.{every_first, every_rest}
 use Rattle.laws.proofs.Every.{all, all_at, and_left, and_right}
 use Rattle.laws.proofs.Lists.{next}
-use Rattle.callsign.specs.Utf8.{Span, tail, never_lem, after_lem, ascii, owed, characters, utf8}
+use Rattle.callsign.specs.Utf8.{Span, tail, never, after, ascii, owed, characters, utf8}
 
 -- ---- the table
 
@@ -32,14 +32,14 @@ same_eq (r ∷ rs) (q ∷ qs) t =
 
 -- every byte from lo to hi, but not `but`, is followed by l
 abbrev pub table : ℕ → ℕ → ℕ → List Span → Bool
-unfolding after_lem within
-table lo hi but l = all 256 (λ b. not (within lo hi b && not (eqb b but)) || same (after_lem b) l)
+unfolding after within
+table lo hi but l = all 256 (λ b. not (within lo hi b && not (eqb b but)) || same (after b) l)
 
-pub after_at : (lo hi but : ℕ) (l : List Span) → T (table lo hi but l) → (b : ℕ) → b < 256 → lo ≤ b → b ≤ hi → (b ≡ but → ⊥) → l ≡ after_lem b
-unfolding after_lem within
-after_at lo hi but l t b f h k n = sym (same_eq (after_lem b) l (go (within lo hi b && not (eqb b but)) (rw (le-leb lo b h, le-leb b hi k, ne_eqb b but n) refl) (all_at 256 (λ (x : ℕ). not (within lo hi x && not (eqb x but)) || same (after_lem x) l) t b f)))
+pub after_at : (lo hi but : ℕ) (l : List Span) → T (table lo hi but l) → (b : ℕ) → b < 256 → lo ≤ b → b ≤ hi → (b ≡ but → ⊥) → l ≡ after b
+unfolding after within
+after_at lo hi but l t b f h k n = sym (same_eq (after b) l (go (within lo hi b && not (eqb b but)) (rw (le-leb lo b h, le-leb b hi k, ne_eqb b but n) refl) (all_at 256 (λ (x : ℕ). not (within lo hi x && not (eqb x but)) || same (after x) l) t b f)))
   where
-    go : (p : Bool) → p ≡ true → T (not p || same (after_lem b) l) → T (same (after_lem b) l)
+    go : (p : Bool) → p ≡ true → T (not p || same (after b) l) → T (same (after b) l)
     go true e t = t
     go false e t = absurd (false≢true e)
 
@@ -50,8 +50,8 @@ unfolding owed
 owed_tails zero = refl
 owed_tails (suc n) = refl
 
-pub ascii_after : (b : ℕ) → b < 0x80 → after_lem b ≡ []
-unfolding after_lem within
+pub ascii_after : (b : ℕ) → b < 0x80 → after b ≡ []
+unfolding after within
 ascii_after b h = rw (le-leb 0 b (omega arith), le-leb b 0x7f (omega arith))
 
 below_span : (n lo hi b : ℕ) (l : List ℕ) → (n ≡ 0 → ⊥) → b < lo → characters (owed n lo hi) (b ∷ l) ≡ false
@@ -93,14 +93,14 @@ module _ (t : List ℕ) (n lo hi i : ℕ) (h : i < length t) (e : utf8 t ≡ cha
       span_passed k = here ∙ in_span n lo hi (get_or t i 0) (drop (i + 1) t) z j k
 
   module _ (z : n ≡ 0) where
-    between : utf8 t ≡ characters (after_lem (get_or t i 0)) (drop (i + 1) t)
+    between : utf8 t ≡ characters (after (get_or t i 0)) (drop (i + 1) t)
     unfolding characters
     between = here ∙ none_owed n lo hi (get_or t i 0 ∷ drop (i + 1) t) z
 
     pub ascii_passed : get_or t i 0 < 0x80 → utf8 t ≡ characters (owed n lo hi) (drop (i + 1) t)
     ascii_passed k = between ∙ ap (λ (rs : List Span). characters rs (drop (i + 1) t)) (ascii_after (get_or t i 0) k) ∙ sym (none_owed n lo hi (drop (i + 1) t) z)
 
-    pub first_passed : (m lo' hi' : ℕ) → owed m lo' hi' ≡ after_lem (get_or t i 0) → utf8 t ≡ characters (owed m lo' hi') (drop (i + 1) t)
+    pub first_passed : (m lo' hi' : ℕ) → owed m lo' hi' ≡ after (get_or t i 0) → utf8 t ≡ characters (owed m lo' hi') (drop (i + 1) t)
     first_passed m lo' hi' q = between ∙ ap (λ (rs : List Span). characters rs (drop (i + 1) t)) (sym q)
 
 at_end : (n lo hi : ℕ) → characters (owed n lo hi) [] ≡ eqb n 0
@@ -165,8 +165,8 @@ module _ (b : ℕ) (h : b < 0x80) where
   tails : (rs : List Span) → apart b rs ≡ true → apart b (tail ∷ rs) ≡ true
   tails rs q = high 0x80 0xbf rs (omega arith) q
 
-  apart_after : (x : ℕ) → apart b (after_lem x) ≡ true
-  unfolding after_lem
+  apart_after : (x : ℕ) → apart b (after x) ≡ true
+  unfolding after
   apart_after x =
       let one : apart b (tail ∷ []) ≡ true = tails [] (apart_none b) in
       let two : apart b (tail ∷ tail ∷ []) ≡ true = tails _ one in
@@ -179,12 +179,12 @@ module _ (b : ℕ) (h : b < 0x80) where
       (apart_pick b (within 0xf0 0xf0 x) _ _ (high 0x90 0xbf _ (omega arith) two)
       (apart_pick b (within 0xf1 0xf3 x) _ _ (tails _ two)
       (apart_pick b (within 0xf4 0xf4 x) _ _ (high 0x80 0x8f _ (omega arith) two)
-      (apart_one b never_lem [] not_never (apart_none b))))))))))
+      (apart_one b never [] not_never (apart_none b))))))))))
 
   split : (rs : List Span) (x y : List ℕ) → apart b rs ≡ true → characters rs (x ++ b ∷ y) ≡ (characters rs x && utf8 y)
   unfolding characters utf8 apart
   split [] [] y e = ap (λ (rs : List Span). characters rs y) (ascii_after b h)
-  split [] (c ∷ x) y e = split (after_lem c) x y (apart_after c)
+  split [] (c ∷ x) y e = split (after c) x y (apart_after c)
   split (r ∷ rs) [] y e = first (within r.0 r.1 b) (characters rs y) (apart b rs) e
     where
       first : (p q a : Bool) → (not p && a) ≡ true → (p && q) ≡ false

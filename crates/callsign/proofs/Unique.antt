@@ -11,8 +11,8 @@ use Rattle.callsign.specs.declared.CallRead.{CallRead}
 use Rattle.callsign.specs.declared.AddressRead.{AddressRead}
 use Rattle.callsign.specs.declared.AddressWritten.{AddressWritten}
 use Rattle.callsign.specs.declared.Field.{Field}
-use Rattle.callsign.specs.Text.{blank_call, made_lem, read_text}
-use Rattle.callsign.specs.Range.{text_len, in_range, is_blank_call, range_refusal, text_of_lem, with_star}
+use Rattle.callsign.specs.Text.{blank_call, made, read_text}
+use Rattle.callsign.specs.Range.{text_len, in_range, is_blank_call, range_refusal, text_of, with_star}
 use Rattle.callsign.specs.Address.{ssid_of, heard_of, last_of, ssid_text, read_address}
 use Rattle.callsign.specs.Packed.{write_address}
 
@@ -32,10 +32,10 @@ pub unique_is_blank : (c : Callsign) (r r' : Bool) → r ≡ is_blank_call c →
 unique_is_blank c r r' = one_value r r' (is_blank_call c)
 
 pub unique_write_text : (c : Callsign) (starred : Bool) (out o o' : List ℕ) (r r' : Answer)
-    → ends r o ≡ wrote (range_refusal c) (with_star (text_of_lem c) starred) out
-    → ends r' o' ≡ wrote (range_refusal c) (with_star (text_of_lem c) starred) out
+    → ends r o ≡ wrote (range_refusal c) (with_star (text_of c) starred) out
+    → ends r' o' ≡ wrote (range_refusal c) (with_star (text_of c) starred) out
     → (r ≡ r') × (o ≡ o')
-unique_write_text c starred out o o' r r' e e' = one_end r r' o o' (wrote (range_refusal c) (with_star (text_of_lem c) starred) out) e e'
+unique_write_text c starred out o o' r r' e e' = one_end r r' o o' (wrote (range_refusal c) (with_star (text_of c) starred) out) e e'
 
 pub unique_last : (b : ℕ) (r r' : Bool) → r ≡ last_of b → r' ≡ last_of b → r ≡ r'
 unique_last b r r' = one_value r r' (last_of b)
@@ -53,8 +53,8 @@ pub unique_capital : (c r r' : ℕ) → r ≡ raised c → r' ≡ raised c → r
 unique_capital c r r' = one_value r r' (raised c)
 
 pub unique_address_call : (call : List ℕ) (len seventh : ℕ) (r r' : Callsign)
-    → r ≡ made_lem (take len call) (ssid_text (ssid_of seventh)) → r' ≡ made_lem (take len call) (ssid_text (ssid_of seventh)) → r ≡ r'
-unique_address_call call len seventh r r' = one_value r r' (made_lem (take len call) (ssid_text (ssid_of seventh)))
+    → r ≡ made (take len call) (ssid_text (ssid_of seventh)) → r' ≡ made (take len call) (ssid_text (ssid_of seventh)) → r ≡ r'
+unique_address_call call len seventh r r' = one_value r r' (made (take len call) (ssid_text (ssid_of seventh)))
 
 pub unique_read_address : (b : List ℕ) (r r' : AddressRead) → r ≡ read_address b → r' ≡ read_address b → r ≡ r'
 unique_read_address b r r' = one_value r r' (read_address b)

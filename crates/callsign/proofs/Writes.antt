@@ -7,7 +7,7 @@ use Rattle.buffer.specs.Wrote.{Wrote, ends, refused_by, over_by, wrote}
 use Rattle.buffer.specs.declared.Answer.{Answer}
 use Rattle.buffer.proofs.Wrote.{not_over, passed_on}
 use Rattle.callsign.specs.declared.Callsign.{Callsign}
-use Rattle.callsign.specs.Range.{text_len, in_range, range_refusal, text_of_lem, with_star}
+use Rattle.callsign.specs.Range.{text_len, in_range, range_refusal, text_of, with_star}
 use Rattle.callsign.proofs.Ranges.{from_range, found_in_range, text_in_use, accepted, rejected}
 
 -- ---- the star
@@ -29,16 +29,16 @@ short_prefix l n m e h = rw (length-take-le n l (omega arith)) h
 -- ---- the range in front
 
 module _ (c : Callsign) (u : Bool) (e : u ≡ in_range c) (starred : Bool) (out : List ℕ) where
-  pub text_refused : (r : Answer) → not u ≡ true → r ≡ refused_by 15 → ends r out ≡ wrote (range_refusal c) (with_star (text_of_lem c) starred) out
+  pub text_refused : (r : Answer) → not u ≡ true → r ≡ refused_by 15 → ends r out ≡ wrote (range_refusal c) (with_star (text_of c) starred) out
   text_refused r h q =
-      passed_on r 15 (range_refusal c) (with_star (text_of_lem c) starred) out q (λ z. omega arith) (rejected c (sym e ∙ not-true u h))
+      passed_on r 15 (range_refusal c) (with_star (text_of c) starred) out q (λ z. omega arith) (rejected c (sym e ∙ not-true u h))
 
   module _ (h : not u ≡ false) (long : length c.text ≡ 16) where
     in_range_lem : in_range c ≡ true
     in_range_lem = found_in_range c u e h
 
-    pub text_written : (w : Wrote) (n : ℕ) → n ≡ min (text_len c) 16 → w ≡ wrote 0 (with_star (take n c.text) starred) out → w ≡ wrote (range_refusal c) (with_star (text_of_lem c) starred) out
+    pub text_written : (w : Wrote) (n : ℕ) → n ≡ min (text_len c) 16 → w ≡ wrote 0 (with_star (take n c.text) starred) out → w ≡ wrote (range_refusal c) (with_star (text_of c) starred) out
     text_written w n q r =
         let k : text_len c ≡ n = omega (arith, (from_range c in_range_lem).size) in
         r ∙ ap (λ (l : List ℕ). wrote 0 (with_star l starred) out) (ap (λ (m : ℕ). take m c.text) (sym k) ∙ sym (text_in_use c in_range_lem long))
-        ∙ ap (λ (k : ℕ). wrote k (with_star (text_of_lem c) starred) out) (sym (accepted c in_range_lem))
+        ∙ ap (λ (k : ℕ). wrote k (with_star (text_of c) starred) out) (sym (accepted c in_range_lem))

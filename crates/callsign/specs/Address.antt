@@ -6,7 +6,7 @@
 -- Assumes nothing.
 use Rattle.std.specs.Prelude.{ℕ, ◌+◌, ◌*◌, ◌/◌, ◌%◌, Bool, true, false, cond, ◌&&◌, List, [], ◌∷◌, length, take, ◌==◌, nat_lt, slice_index}
 use Rattle.laws.specs.Bytes.{space, digit0, is_letter_or_digit, raised}
-use Rattle.callsign.specs.Text.{made_lem, blank_call}
+use Rattle.callsign.specs.Text.{made, blank_call}
 use Rattle.callsign.specs.declared.AddressRead.{AddressRead}
 
 -- ---- the bits
@@ -64,7 +64,7 @@ address_refused n = record { refusal = n; call = blank_call; heard = false; last
 -- the call and the seventh byte
 unfoldable pub address_of : Unpacked → ℕ → AddressRead
 address_of malformed s = address_refused 3
-address_of (call cs) s = record { refusal = 0; call = made_lem cs (ssid_text (ssid_of s)); heard = heard_of s; last = last_of s }
+address_of (call cs) s = record { refusal = 0; call = made cs (ssid_text (ssid_of s)); heard = heard_of s; last = last_of s }
 
 -- "An AX.25 address is 7 bytes"
 unfoldable pub read_address : List ℕ → AddressRead

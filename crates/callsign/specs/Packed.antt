@@ -39,8 +39,8 @@ unfoldable pub seventh_of : Field → ℕ → Bool → ℕ
 seventh_of field ssid last = upper_bits field * 32 + ssid * 2 + bit last
 
 -- a character as it is sent: raised, and shifted left by one
-unfoldable pub sent_lem : ℕ → ℕ
-sent_lem c = raised c * 2
+unfoldable pub sent : ℕ → ℕ
+sent c = raised c * 2
 
 -- a refusal: no bytes
 unfoldable pub unwritten_by : ℕ → AddressWritten
@@ -51,7 +51,7 @@ unfoldable pub packed_as : List ℕ → ℕ → AddressWritten
 packed_as call seventh =
     cond (nat_lt 6 (length call)) (unwritten_by 13)
     (cond (not (every is_letter_or_digit call)) (unwritten_by 13)
-    (record { refusal = 0; bytes = map sent_lem call ++ replicate (6 - length call) (space * 2) ++ seventh ∷ [] }))
+    (record { refusal = 0; bytes = map sent call ++ replicate (6 - length call) (space * 2) ++ seventh ∷ [] }))
 
 -- the call with the SSID's number
 unfoldable pub packed_by : List ℕ → Count → Field → Bool → AddressWritten

@@ -4,9 +4,9 @@
 -- Assumes nothing.
 use Rattle.std.specs.Prelude.{ℕ, ◌+◌, Bool, true, false, cond, not, ◌&&◌, List, [], ◌∷◌, ◌++◌, take, drop, ◌==◌, nat_le, slice_index}
 use Rattle.laws.specs.Bytes.{star, dash}
-use Rattle.laws.specs.Lists.{zeros_lem}
+use Rattle.laws.specs.Lists.{zeros}
 use Rattle.callsign.specs.Utf8.{utf8}
-use Rattle.callsign.specs.Text.{joined_lem, is_zero}
+use Rattle.callsign.specs.Text.{joined, is_zero}
 use Rattle.callsign.specs.declared.Callsign.{Callsign}
 
 -- the call's bytes
@@ -33,11 +33,11 @@ in_range c =
     && utf8 (ssid_part c)
     && not (is_zero (ssid_part c))
     && is_dashed c
-    && zeros_lem (drop (text_len c) c.text)
+    && zeros (drop (text_len c) c.text)
 
 -- no call, no SSID, no byte
 unfoldable pub is_blank_call : Callsign → Bool
-is_blank_call c = c.call_len == 0 && (c.ssid_len == 0 && zeros_lem c.text)
+is_blank_call c = c.call_len == 0 && (c.ssid_len == 0 && zeros c.text)
 
 -- 15 for a callsign out of range
 unfoldable pub range_refusal : Callsign → ℕ
@@ -46,8 +46,8 @@ range_refusal c = cond (in_range c) 0 15
 -- ---- the text written
 
 -- call, dash and SSID
-unfoldable pub text_of_lem : Callsign → List ℕ
-text_of_lem c = joined_lem (call_part c) (ssid_part c)
+unfoldable pub text_of : Callsign → List ℕ
+text_of c = joined (call_part c) (ssid_part c)
 
 -- a star behind it, or none
 unfoldable pub with_star : List ℕ → Bool → List ℕ
@@ -56,4 +56,4 @@ with_star l false = l
 
 -- the first n bytes are UTF-8 and the others zero: for the contract of a private function
 unfoldable pub sound : List ℕ → ℕ → Bool
-sound text n = utf8 (take n text) && zeros_lem (drop n text)
+sound text n = utf8 (take n text) && zeros (drop n text)

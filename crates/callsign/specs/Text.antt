@@ -11,17 +11,17 @@ use Rattle.callsign.specs.declared.Callsign.{Callsign}
 use Rattle.callsign.specs.declared.CallRead.{CallRead}
 
 -- call and SSID as they are written, with a dash between them where there is an SSID
-unfoldable pub joined_lem : List ℕ → List ℕ → List ℕ
-joined_lem call [] = call
-joined_lem call (x ∷ ssid) = call ++ dash ∷ x ∷ ssid
+unfoldable pub joined : List ℕ → List ℕ → List ℕ
+joined call [] = call
+joined call (x ∷ ssid) = call ++ dash ∷ x ∷ ssid
 
 -- "`String` and `Vec` become a 16-byte array with two lengths"; and R-2's mark
 abbrev pub call_as : List ℕ → ℕ → ℕ → Bool → Callsign
 call_as text n k zero = record { text = text; call_len = n; ssid_len = k; had_zero_ssid = zero }
 
 -- the record of a call and an SSID, without the mark
-unfoldable pub made_lem : List ℕ → List ℕ → Callsign
-made_lem call ssid = call_as (pad_to 16 0 (joined_lem call ssid)) (length call) (length ssid) false
+unfoldable pub made : List ℕ → List ℕ → Callsign
+made call ssid = call_as (pad_to 16 0 (joined call ssid)) (length call) (length ssid) false
 
 -- a callsign with the mark set, or with it taken off
 unfoldable pub marked_as : Bool → Callsign → Callsign
@@ -29,7 +29,7 @@ marked_as zero c = call_as c.text c.call_len c.ssid_len zero
 
 -- the callsign with nothing in it
 unfoldable pub blank_call : Callsign
-blank_call = made_lem [] []
+blank_call = made [] []
 
 -- an SSID that is `0` alone
 unfoldable pub is_zero : List ℕ → Bool
@@ -46,20 +46,20 @@ unfoldable pub call_accepted : Callsign → Bool → CallRead
 call_accepted c starred = record { refusal = 0; call = c; starred = starred }
 
 -- the two sides of the first dash
-unfoldable pub parted_lem : List ℕ → List ℕ → Bool → CallRead
-parted_lem call ssid starred =
+unfoldable pub parted : List ℕ → List ℕ → Bool → CallRead
+parted call ssid starred =
     cond (length call == 0) (call_refused 3)
     (cond (length ssid == 0) (call_refused 3)
-    (cond (is_zero ssid) (call_accepted (marked_as true (made_lem call [])) starred)
-    (call_accepted (made_lem call ssid) starred)))
+    (cond (is_zero ssid) (call_accepted (marked_as true (made call [])) starred)
+    (call_accepted (made call ssid) starred)))
 
 -- the text without its star
 unfoldable pub read_unstarred : List ℕ → Bool → CallRead
 read_unstarred t starred =
     cond (nat_lt 16 (length t)) (call_refused 4)
     (cond (not (utf8 t)) (call_refused 3)
-    (cond (index_of dash t == length t) (call_accepted (made_lem t []) starred)
-    (parted_lem (take (index_of dash t) t) (drop (suc (index_of dash t)) t) starred)))
+    (cond (index_of dash t == length t) (call_accepted (made t []) starred)
+    (parted (take (index_of dash t) t) (drop (suc (index_of dash t)) t) starred)))
 
 -- "one trailing `*` is removed and reported"; an empty text ends in none
 unfoldable pub read_text : List ℕ → CallRead

@@ -12,13 +12,13 @@ abbrev pub tail : Span
 tail = (0x80, 0xbf)
 
 -- a range that holds no byte
-abbrev pub never_lem : Span
-never_lem = (1, 0)
+abbrev pub never : Span
+never = (1, 0)
 
 -- the ranges of the bytes that follow a first byte, line by line as "UTF8-1" to "UTF8-4" have them;
 -- what starts no character is followed by nothing
-unfoldable pub after_lem : ℕ → List Span
-after_lem b =
+unfoldable pub after : ℕ → List Span
+after b =
     cond (within 0x00 0x7f b) []
     (cond (within 0xc2 0xdf b) (tail ∷ [])
     (cond (within 0xe0 0xe0 b) ((0xa0, 0xbf) ∷ tail ∷ [])
@@ -28,12 +28,12 @@ after_lem b =
     (cond (within 0xf0 0xf0 b) ((0x90, 0xbf) ∷ tail ∷ tail ∷ [])
     (cond (within 0xf1 0xf3 b) (tail ∷ tail ∷ tail ∷ [])
     (cond (within 0xf4 0xf4 b) ((0x80, 0x8f) ∷ tail ∷ tail ∷ [])
-    (never_lem ∷ [])))))))))
+    (never ∷ [])))))))))
 
 -- bytes in the given ranges, and then characters
 unfoldable pub characters : List Span → List ℕ → Bool
 characters [] [] = true
-characters [] (b ∷ l) = characters (after_lem b) l
+characters [] (b ∷ l) = characters (after b) l
 characters (r ∷ rs) [] = false
 characters (r ∷ rs) (b ∷ l) = within r.0 r.1 b && characters rs l
 

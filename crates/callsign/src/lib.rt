@@ -1,5 +1,6 @@
 // One callsign: its text read and written, its UTF-8 judged, and its AX.25 address unpacked and packed by
 // shifts and masks.
+#![tactic(auto)]
 ghost use Rattle.std.specs.Prelude.{◌≡◌, ◌<◌, ◌≤◌, min, true, length, take, drop};
 ghost use Rattle.laws.specs.Bytes.{is_letter_or_digit, raised};
 ghost use Rattle.laws.specs.Lists.{every, pad_to, zeros};

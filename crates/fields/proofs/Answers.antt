@@ -3,7 +3,7 @@
 use Rattle.std.proofs.Common.{◌≡◌, ℕ, ◌*◌, ◌/◌, ◌≤◌, Bool, true, false, cond, ltb, List, [], ◌++◌, length, take, drop, replicate, ap, ◌∙◌, arith, le-ltb}
 use Rattle.buffer.specs.Wrote.{Wrote, ends, refused_by, no_room, done_by, wrote, wrote_as}
 use Rattle.buffer.specs.declared.Answer.{Answer}
-use Rattle.buffer.specs.Filled.{Filled, filled_lem, front_of, added}
+use Rattle.buffer.specs.Filled.{Filled, filled, front_of, added}
 use Rattle.buffer.proofs.Wrote.{refused_as}
 use Rattle.buffer.proofs.Filled.{added_len, first_front}
 use Rattle.mic_e.specs.declared.Field.{Field}
@@ -12,10 +12,10 @@ use Rattle.fields.specs.Lists.{listed}
 use Rattle.fields.proofs.Stored.{length_flat}
 
 -- the bytes found, three for each field, stand at the front of the buffer that they were found in
-module _ (fields : List Field) (n : ℕ) (found : List ℕ) (few : length fields ≤ 36) (e : filled_lem found n ≡ added (filled_lem (replicate 108 0) 0) (flat fields)) where
+module _ (fields : List Field) (n : ℕ) (found : List ℕ) (few : length fields ≤ 36) (e : filled found n ≡ added (filled (replicate 108 0) 0) (flat fields)) where
   pub found_count : n ≡ 3 * length fields
   found_count =
-      let l = added_len (filled_lem (replicate 108 0) 0) (flat fields) (omega (arith, length_flat fields)) in
+      let l = added_len (filled (replicate 108 0) 0) (flat fields) (omega (arith, length_flat fields)) in
       omega (arith, ap (λ (x : Filled). x.len) e, length_flat fields)
 
   pub found_bytes : take n found ≡ flat fields
@@ -25,15 +25,15 @@ module _ (fields : List Field) (n : ℕ) (found : List ℕ) (few : length fields
 -- what the writer answered, with the fields counted
 module _ (fields : List Field) (n : ℕ) (bytes out o : List ℕ) (r : Answer) (count : n ≡ 3 * length fields) (same : bytes ≡ flat fields)
     (e : ends r o ≡ wrote 0 bytes out) where
-  whole_lem : ends r o ≡ cond (ltb (length out) (length (flat fields))) (ends (no_room (length (flat fields))) out) (ends (done_by (length (flat fields))) (flat fields ++ drop (length (flat fields)) out))
+  whole : ends r o ≡ cond (ltb (length out) (length (flat fields))) (ends (no_room (length (flat fields))) out) (ends (done_by (length (flat fields))) (flat fields ++ drop (length (flat fields)) out))
   unfolding wrote wrote_as
-  whole_lem = e ∙ rw same
+  whole = e ∙ rw same
 
   pub counted : r.refusal ≡ 0 → (q : Answer) → q ≡ done_by (n / 3) → ends q o ≡ listed 0 fields out
   unfolding listed wrote_as
   counted z q d =
       let k : n / 3 ≡ length fields = omega arith in
-      rw (d, k) (go (ltb (length out) (length (flat fields))) whole_lem)
+      rw (d, k) (go (ltb (length out) (length (flat fields))) whole)
     where
       go : (t : Bool) → ends r o ≡ cond t (ends (no_room (length (flat fields))) out) (ends (done_by (length (flat fields))) (flat fields ++ drop (length (flat fields)) out))
           → ends (done_by (length fields)) o ≡ cond t (ends (no_room (length (flat fields))) out) (ends (done_by (length fields)) (flat fields ++ drop (length (flat fields)) out))
@@ -42,7 +42,7 @@ module _ (fields : List Field) (n : ℕ) (bytes out o : List ℕ) (r : Answer) (
 
   pub short : (r.refusal ≡ 0 → ⊥) → ends r o ≡ listed 0 fields out
   unfolding listed wrote_as
-  short z = go (ltb (length out) (length (flat fields))) whole_lem
+  short z = go (ltb (length out) (length (flat fields))) whole
     where
       go : (t : Bool) → ends r o ≡ cond t (ends (no_room (length (flat fields))) out) (ends (done_by (length (flat fields))) (flat fields ++ drop (length (flat fields)) out))
           → ends r o ≡ cond t (ends (no_room (length (flat fields))) out) (ends (done_by (length fields)) (flat fields ++ drop (length (flat fields)) out))

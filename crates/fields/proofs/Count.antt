@@ -6,7 +6,7 @@ use mathlib.Core.List.Memᴰ
 use mathlib.Core.List.{Memᴰ}
 use borrow.Author.Tests.{eqb-false}
 use Rattle.laws.proofs.Tests.{bool_cases}
-use Rattle.fields.specs.Each.{each_lem, cell, row, all_fields}
+use Rattle.fields.specs.Each.{each, cell, row, all_fields}
 use Rattle.fields.proofs.Each.{each_same, each_none, cell_none, row_none}
 use Rattle.fields.specs.Search.{fields_of, third_at}
 use Rattle.fields.specs.declared.Third.{Third}
@@ -26,23 +26,23 @@ module _ {A : Type 0} where
   unfolding without
   without_other j f k h = rw (ne_eqb k j h)
 
-  part : (j : ℕ) (f : ℕ → List A) (n : ℕ) → length (each_lem n f) ≤ length (f j) + length (each_lem n (without j f))
-  unfolding each_lem
+  part : (j : ℕ) (f : ℕ → List A) (n : ℕ) → length (each n f) ≤ length (f j) + length (each n (without j f))
+  unfolding each
   part j f zero = omega arith
   part j f (suc n) = ⊎_elim here (other (part j f n)) (bool_cases (eqb n j))
     where
-      here : eqb n j ≡ true → length (each_lem n f ++ f n) ≤ length (f j) + length (each_lem n (without j f) ++ without j f n)
+      here : eqb n j ≡ true → length (each n f ++ f n) ≤ length (f j) + length (each n (without j f) ++ without j f n)
       here e =
           let q : n ≡ j = eqb-true n j e in
           let same = each_same n f (without j f) (λ k l. sym (without_other j f k (λ (z : k ≡ j). omega arith))) in
-          omega (arith, length-append (each_lem n f) (f n), length-append (each_lem n (without j f)) (without j f n), ap length same, ap (λ (k : ℕ). length (f k)) q)
+          omega (arith, length-append (each n f) (f n), length-append (each n (without j f)) (without j f n), ap length same, ap (λ (k : ℕ). length (f k)) q)
 
-      other : length (each_lem n f) ≤ length (f j) + length (each_lem n (without j f)) → eqb n j ≡ false → length (each_lem n f ++ f n) ≤ length (f j) + length (each_lem n (without j f) ++ without j f n)
+      other : length (each n f) ≤ length (f j) + length (each n (without j f)) → eqb n j ≡ false → length (each n f ++ f n) ≤ length (f j) + length (each n (without j f) ++ without j f n)
       other ih e =
-          omega (arith, length-append (each_lem n f) (f n), length-append (each_lem n (without j f)) (without j f n), ap length (without_other j f n (eqb-false n j e)))
+          omega (arith, length-append (each n f) (f n), length-append (each n (without j f)) (without j f n), ap length (without_other j f n (eqb-false n j e)))
 
   -- something at the places of a list only, and at most m there
-  pub few : (js : List ℕ) (n m : ℕ) (f : ℕ → List A) → ((k : ℕ) → length (f k) ≤ m) → ((k : ℕ) → k < n → Memᴰ k js ⊎ (f k ≡ [])) → length (each_lem n f) ≤ length js * m
+  pub few : (js : List ℕ) (n m : ℕ) (f : ℕ → List A) → ((k : ℕ) → length (f k) ≤ m) → ((k : ℕ) → k < n → Memᴰ k js ⊎ (f k ≡ [])) → length (each n f) ≤ length js * m
   few [] n m f h g = omega (arith, ap length (each_none n f (λ k l. ⊎_elim (λ q. absurd (Memᴰ.not-nil q)) (λ e. e) (g k l))))
   few (j ∷ js) n m f h g =
       rw suc-mul

@@ -1,27 +1,27 @@
--- Laws of `each_lem`, `cell` and `row`: nothing anywhere, something at one place only, and places that may be left out.
+-- Laws of `each`, `cell` and `row`: nothing anywhere, something at one place only, and places that may be left out.
 -- Assumes nothing.
 use Rattle.std.proofs.Common.{◌≡◌, ℕ, zero, suc, ◌<◌, ◌≤◌, Bool, true, ◌≢◌, List, [], ◌∷◌, length, refl, ◌∙◌, ⊎_elim, append-nil, le_of_suc-le-suc, not-suc-le-zero, eq-or-lt_of_le, arith, length-append}
 use Rattle.laws.proofs.Tests.{not_so}
-use Rattle.fields.specs.Each.{each_lem, field_lem, cell, row, all_fields}
+use Rattle.fields.specs.Each.{each, field, cell, row, all_fields}
 
 le_zero : (m : ℕ) → m ≤ 0 → m ≡ 0
 le_zero m h = omega arith
 
 module _ {A : Type 0} where
-  pub each_same : (n : ℕ) (f g : ℕ → List A) → ((k : ℕ) → k < n → f k ≡ g k) → each_lem n f ≡ each_lem n g
-  unfolding each_lem
+  pub each_same : (n : ℕ) (f g : ℕ → List A) → ((k : ℕ) → k < n → f k ≡ g k) → each n f ≡ each n g
+  unfolding each
   each_same zero f g h = refl
   each_same (suc n) f g h = rw (each_same n f g (λ k l. h k (omega arith)), h n (omega arith))
 
   -- nothing at any place: nothing
-  pub each_none : (n : ℕ) (f : ℕ → List A) → ((k : ℕ) → k < n → f k ≡ []) → each_lem n f ≡ []
-  unfolding each_lem
+  pub each_none : (n : ℕ) (f : ℕ → List A) → ((k : ℕ) → k < n → f k ≡ []) → each n f ≡ []
+  unfolding each
   each_none zero f h = refl
   each_none (suc n) f h = rw (each_none n f (λ k l. h k (omega arith)), h n (omega arith))
 
   -- nothing but at one place: what stands there
-  each_one : (n m : ℕ) (f : ℕ → List A) → m < n → ((k : ℕ) → k < n → k ≢ m → f k ≡ []) → each_lem n f ≡ f m
-  unfolding each_lem
+  each_one : (n m : ℕ) (f : ℕ → List A) → m < n → ((k : ℕ) → k < n → k ≢ m → f k ≡ []) → each n f ≡ f m
+  unfolding each
   each_one zero m f l h = absurd (not-suc-le-zero l)
   each_one (suc n) m f l h =
       ⊎_elim
@@ -30,8 +30,8 @@ module _ {A : Type 0} where
       (eq-or-lt_of_le (le_of_suc-le-suc l))
 
   -- nothing from m on: what stands before
-  pub each_top : (m n : ℕ) (f : ℕ → List A) → m ≤ n → ((k : ℕ) → m ≤ k → k < n → f k ≡ []) → each_lem n f ≡ each_lem m f
-  unfolding each_lem
+  pub each_top : (m n : ℕ) (f : ℕ → List A) → m ≤ n → ((k : ℕ) → m ≤ k → k < n → f k ≡ []) → each n f ≡ each m f
+  unfolding each
   each_top m zero f l h = rw (le_zero m l)
   each_top m (suc n) f l h =
       ⊎_elim
@@ -40,8 +40,8 @@ module _ {A : Type 0} where
       (eq-or-lt_of_le l)
 
   -- more places: no less
-  pub each_mono : (m n : ℕ) (f : ℕ → List A) → m ≤ n → length (each_lem m f) ≤ length (each_lem n f)
-  unfolding each_lem
+  pub each_mono : (m n : ℕ) (f : ℕ → List A) → m ≤ n → length (each m f) ≤ length (each n f)
+  unfolding each
   each_mono m zero f h = rw (le_zero m h) (omega arith)
   each_mono m (suc n) f h =
       ⊎_elim
@@ -55,7 +55,7 @@ module _ (test : ℕ → ℕ → ℕ → Bool) (a b : ℕ) where
   unfolding cell
   cell_none h = each_none 256 _ (λ c l. rw (not_so (test a b c) (h c l)))
 
-  pub cell_one : (m : ℕ) → m < 256 → test a b m ≡ true → ((c : ℕ) → c < 256 → test a b c ≡ true → c ≡ m) → cell test a b ≡ field_lem a b m ∷ []
+  pub cell_one : (m : ℕ) → m < 256 → test a b m ≡ true → ((c : ℕ) → c < 256 → test a b c ≡ true → c ≡ m) → cell test a b ≡ field a b m ∷ []
   unfolding cell
   cell_one m l t h = each_one 256 m _ l (λ c q n. rw (not_so (test a b c) (λ e. n (h c q e)))) ∙ rw t
 

@@ -4,8 +4,8 @@ use Rattle.std.proofs.Common.{◌≡◌, ℕ, ◌+◌, ◌-◌, ◌*◌, ◌%◌
 use mathlib.Core.Bool.{false≢true}
 use Rattle.laws.proofs.Tests.{bool_cases, and_both}
 use Rattle.numbers.specs.Sign.{signed_of}
-use Rattle.mic_e.specs.Motion.{degrees_lem, read_motion}
-use Rattle.mic_e.specs.Longitude.{offset_of, size_of_lem, read_longitude}
+use Rattle.mic_e.specs.Motion.{degrees, read_motion}
+use Rattle.mic_e.specs.Longitude.{offset_of, size_of, read_longitude}
 use Rattle.mic_e.specs.declared.Motion.{Motion}
 use Rattle.mic_e.specs.declared.Motion.TheVariants.{Read as Motion-read, Refused as Motion-refused}
 use Rattle.mic_e.specs.declared.LongitudeField.{LongitudeField}
@@ -49,11 +49,11 @@ course_left t b = cond (leb (100 * ((b - 28) % 10)) t) (t - 100 * ((b - 28) % 10
 
 module _ (s t a b c : ℕ) (byte : c < 256) (h : Moves s t a b c) where
   pub course_plain : 100 * ((b - 28) % 10) ≤ t → c ≡ t - 100 * ((b - 28) % 10) + 28
-  unfolding degrees_lem
+  unfolding degrees
   course_plain k = ⊎_elim (λ u. omega arith) (λ u. omega arith) (less_if_split 400 (100 * ((b - 28) % 10) + (c - 28)))
 
   pub course_round : t < 100 * ((b - 28) % 10) → c ≡ t + 400 - 100 * ((b - 28) % 10) + 28
-  unfolding degrees_lem
+  unfolding degrees
   course_round k = ⊎_elim (λ u. omega arith) (λ u. omega arith) (less_if_split 400 (100 * ((b - 28) % 10) + (c - 28)))
 
   pub course_left_lem : c ≡ course_left t b + 28
@@ -99,24 +99,24 @@ module _ (m : ℕ) (hundred : Bool) (a b c : ℕ) where
   hit_longitude h = longitude_is (pos m) (read_longitude hundred false a b c) (lies_reads hundred false a b c m h)
 
 -- the third byte is what the first two leave to the size
-pub size_left : (m offset a b c : ℕ) → Lies m offset a b c → c ≡ m - size_of_lem offset a b 28 + 28
-unfolding size_of_lem
+pub size_left : (m offset a b c : ℕ) → Lies m offset a b c → c ≡ m - size_of offset a b 28 + 28
+unfolding size_of
 size_left m offset a b c h = omega arith
 
 -- ---- the size under two bytes
 
 -- a field that lies so has a base under its two bytes, and one under its first alone
 module _ (m : ℕ) (hundred : Bool) (a b c : ℕ) (h : Lies m (offset_of hundred) a b c) where
-  pub base_two : base_of hundred a b ≡ Size (size_of_lem (offset_of hundred) a b 28)
-  unfolding base_of base_in signed_of size_of_lem
+  pub base_two : base_of hundred a b ≡ Size (size_of (offset_of hundred) a b 28)
+  unfolding base_of base_in signed_of size_of
   base_two =
-      rw (lies_reads hundred false a b 28 (size_of_lem (offset_of hundred) a b 28)
+      rw (lies_reads hundred false a b 28 (size_of (offset_of hundred) a b 28)
       (record { a_from = h.a_from; b_from = h.b_from; c_from = omega arith; degrees_to = h.degrees_to; size_is = refl; size_to = omega (arith, h.size_is, h.size_to) }))
 
-  pub base_first : base_of hundred a 28 ≡ Size (size_of_lem (offset_of hundred) a 28 28)
-  unfolding base_of base_in signed_of size_of_lem
+  pub base_first : base_of hundred a 28 ≡ Size (size_of (offset_of hundred) a 28 28)
+  unfolding base_of base_in signed_of size_of
   base_first =
-      rw (lies_reads hundred false a 28 28 (size_of_lem (offset_of hundred) a 28 28)
+      rw (lies_reads hundred false a 28 28 (size_of (offset_of hundred) a 28 28)
       (record { a_from = h.a_from; b_from = omega arith; c_from = omega arith; degrees_to = h.degrees_to; size_is = refl; size_to = omega (arith, h.size_is, h.size_to, less_if_le 60 (28 - 28)) }))
 
 -- a base, and what two bytes that have it are
@@ -124,7 +124,7 @@ pub record Based (hundred : Bool) (a b n : ℕ) : Type 0 where
   pub a_from : 28 ≤ a
   pub b_from : 28 ≤ b
   pub degrees_to : a - 28 + offset_of hundred ≤ 255
-  pub base_is : size_of_lem (offset_of hundred) a b 28 ≡ n
+  pub base_is : size_of (offset_of hundred) a b 28 ≡ n
 
 based : (hundred : Bool) (a b n : ℕ) (f : LongitudeField) → read_longitude hundred false a b 28 ≡ f → base_in f ≡ Size n → Based hundred a b n
 unfolding base_in signed_of

@@ -8,11 +8,11 @@ use borrow.Author.Tests.{eqb-false}
 use Rattle.laws.proofs.Every.{all_at}
 use Rattle.laws.proofs.Tests.{bool_cases}
 use Rattle.mic_e.specs.Turn.{less_if}
-use Rattle.mic_e.specs.Longitude.{offset_of, wrapped, size_of_lem}
+use Rattle.mic_e.specs.Longitude.{offset_of, wrapped, size_of}
 use Rattle.mic_e.specs.declared.Field.{Field}
 use Rattle.mic_e.proofs.LongitudeFacts.{Lies}
 use Rattle.mic_e.proofs.Turn.{less_if_split, wrapped_plain, wrapped_mid, wrapped_high, wrapped_past}
-use Rattle.fields.specs.Each.{each_lem, row, all_fields, cell}
+use Rattle.fields.specs.Each.{each, row, all_fields, cell}
 use Rattle.fields.specs.Search.{hits}
 use Rattle.fields.specs.declared.Target.TheVariants.{Lying, Moving}
 use Rattle.fields.proofs.Each.{row_none}
@@ -80,16 +80,16 @@ twelve q h = leb→le _ _ (all_at 60 (λ k. leb (most k + most (k + 60) + most (
 
 -- a list is no longer than three others that share out what stands at each place
 each_three : (n : ℕ) (f g h k : ℕ → List Field) → ((a : ℕ) → a < n → length (f a) ≤ length (g a) + length (h a) + length (k a))
-    → length (each_lem n f) ≤ length (each_lem n g) + length (each_lem n h) + length (each_lem n k)
-unfolding each_lem
+    → length (each n f) ≤ length (each n g) + length (each n h) + length (each n k)
+unfolding each
 each_three zero f g h k le = omega arith
 each_three (suc n) f g h k le =
     omega (
       arith,
-      length-append (each_lem n f) (f n),
-      length-append (each_lem n g) (g n),
-      length-append (each_lem n h) (h n),
-      length-append (each_lem n k) (k n),
+      length-append (each n f) (f n),
+      length-append (each n g) (g n),
+      length-append (each n h) (h n),
+      length-append (each n k) (k n),
       each_three n f g h k (λ a l. le a (omega arith)),
       le n (omega arith),
     )
@@ -115,7 +115,7 @@ wrapped_two x =
 module _ (m : ℕ) (hundred : Bool) where
   longitude_cell : (a b : ℕ) → length (cell (hits (Lying m hundred)) a b) ≤ 1
   longitude_cell a b =
-      cell_few (hits (Lying m hundred)) a b (m - size_of_lem (offset_of hundred) a b 28) (λ c l q. size_left m (offset_of hundred) a b c (longitude_hit m hundred a b c q))
+      cell_few (hits (Lying m hundred)) a b (m - size_of (offset_of hundred) a b 28) (λ c l q. size_left m (offset_of hundred) a b c (longitude_hit m hundred a b c q))
 
   both : ℕ → List ℕ
   both d = (28 + d - offset_of hundred) ∷ (28 + other d - offset_of hundred) ∷ []
@@ -136,7 +136,7 @@ module _ (m : ℕ) (hundred : Bool) where
   wide a = wrapped (a - 28 + offset_of hundred)
 
   second : (a b c : ℕ) → c < 256 → Lies m (offset_of hundred) a b c → Memᴰ b (seconds ((m - 6000 * wide a) / 100))
-  unfolding wide size_of_lem
+  unfolding wide size_of
   second a b c l h =
       two_ways b (less_if 60 (b - 28)) ((m - 6000 * wide a) / 100) (omega arith) (omega arith)
       (⊎_elim (λ q. inl (omega arith)) (λ q. inr (omega arith, omega arith)) (less_if_split 60 (b - 28)))
@@ -181,12 +181,12 @@ module _ (m : ℕ) (hundred : Bool) where
           (member a (both (m / 6000 - i)))
       go false e = inr refl
 
-  part_few : (i : ℕ) → length (each_lem 256 (part i)) ≤ 2 * most (q + 60 * i)
+  part_few : (i : ℕ) → length (each 256 (part i)) ≤ 2 * most (q + 60 * i)
   part_few i = rw (both_two (m / 6000 - i)) at (few (both (m / 6000 - i)) 256 (most (q + 60 * i)) (part i) (part_most i) (λ a l. stands i a))
 
   -- what begins a field has degrees at most two short
   close : (a b c : ℕ) → b < 256 → c < 256 → Lies m (offset_of hundred) a b c → (wide a ≤ m / 6000) × (m / 6000 ≤ wide a + 2)
-  unfolding wide size_of_lem
+  unfolding wide size_of
   close a b c k l h = (omega arith, ⊎_elim (λ q. omega arith) (λ q. omega arith) (less_if_split 60 (b - 28)))
 
   shared : (a : ℕ) → length (row (hits (Lying m hundred)) a) ≤ length (part 0 a) + length (part 1 a) + length (part 2 a)

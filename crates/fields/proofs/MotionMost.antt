@@ -4,7 +4,7 @@ use Rattle.std.proofs.Common.{◌≡◌, ℕ, ◌+◌, ◌-◌, ◌*◌, ◌/◌
 use mathlib.Core.List.Memᴰ
 use mathlib.Core.List.{Memᴰ}
 use Rattle.laws.proofs.Tests.{bool_cases}
-use Rattle.mic_e.specs.Motion.{knots, degrees_lem}
+use Rattle.mic_e.specs.Motion.{knots, degrees}
 use Rattle.mic_e.proofs.MotionFacts.{Moves}
 use Rattle.mic_e.proofs.Turn.{less_if_split}
 use Rattle.fields.specs.Each.{cell, row, all_fields}
@@ -26,7 +26,7 @@ module _ (s t : ℕ) where
 
   -- past a base the second byte has six values
   turn : (base a b c : ℕ) → c < 256 → Moves s t a b c → b ≡ base + (b - 28) % 10 → Memᴰ b (turns base)
-  unfolding turns degrees_lem
+  unfolding turns degrees
   turn base a b c l h e =
       ⊎_elim
       (λ q. Memᴰ.append_right (near base (t / 100)) (near_mem base b ((b - 28) % 10) ((t + 400) / 100) e (omega arith) (omega arith)))

@@ -6,7 +6,7 @@ use mathlib.Core.Path.{fun_ext}
 use mathlib.Core.List.Memᴰ
 use mathlib.Core.List.{Memᴰ}
 use Rattle.mic_e.specs.declared.Field.{Field}
-use Rattle.fields.specs.Each.{each_lem, field_lem, cell, row, all_fields}
+use Rattle.fields.specs.Each.{each, field, cell, row, all_fields}
 
 -- ---- kept of all the every_field
 
@@ -17,7 +17,7 @@ keep p (x ∷ xs) = cond (p x) (x ∷ keep p xs) (keep p xs)
 
 -- all the every_field of bytes, in ascending order
 unfoldable pub every_field : List Field
-every_field = each_lem 256 (λ a. each_lem 256 (λ b. each_lem 256 (λ d. field_lem a b d ∷ [])))
+every_field = each 256 (λ a. each 256 (λ b. each 256 (λ d. field a b d ∷ [])))
 
 module _ {A : Type 0} (p : A → Bool) where
   keep_append : (xs ys : List A) → keep p (xs ++ ys) ≡ keep p xs ++ keep p ys
@@ -29,30 +29,30 @@ module _ {A : Type 0} (p : A → Bool) where
       step true e = rw e
       step false e = e
 
-  keep_each : (n : ℕ) (f : ℕ → List A) → keep p (each_lem n f) ≡ each_lem n (λ k. keep p (f k))
-  unfolding keep each_lem
+  keep_each : (n : ℕ) (f : ℕ → List A) → keep p (each n f) ≡ each n (λ k. keep p (f k))
+  unfolding keep each
   keep_each zero f = refl
-  keep_each (suc n) f = keep_append (each_lem n f) (f n) ∙ rw (keep_each n f)
+  keep_each (suc n) f = keep_append (each n f) (f n) ∙ rw (keep_each n f)
 
 pub kept : (test : ℕ → ℕ → ℕ → Bool) → all_fields test ≡ keep (λ t. test t.first t.second t.third) every_field
 unfolding keep every_field all_fields row cell
-kept test = sym (keep_each _ 256 _ ∙ ap (each_lem 256) (fun_ext (λ a. keep_each _ 256 _ ∙ ap (each_lem 256) (fun_ext (λ b. keep_each _ 256 _)))))
+kept test = sym (keep_each _ 256 _ ∙ ap (each 256) (fun_ext (λ a. keep_each _ 256 _ ∙ ap (each 256) (fun_ext (λ b. keep_each _ 256 _)))))
 
 -- ---- members
 
 module _ {A : Type 0} where
-  mem_each : (n : ℕ) (f : ℕ → List A) (x : A) → Memᴰ x (each_lem n f) → (k : ℕ) × (k < n) × Memᴰ x (f k)
-  unfolding each_lem
+  mem_each : (n : ℕ) (f : ℕ → List A) (x : A) → Memᴰ x (each n f) → (k : ℕ) × (k < n) × Memᴰ x (f k)
+  unfolding each
   mem_each zero f x m = absurd (Memᴰ.not-nil m)
   mem_each (suc n) f x m =
-      ⊎_elim (λ l. let r = mem_each n f x l in (r.0, omega arith, r.2)) (λ l. (n, omega arith, l)) (Memᴰ.append_cases (each_lem n f) m)
+      ⊎_elim (λ l. let r = mem_each n f x l in (r.0, omega arith, r.2)) (λ l. (n, omega arith, l)) (Memᴰ.append_cases (each n f) m)
 
-  each_mem : (n : ℕ) (f : ℕ → List A) (k : ℕ) (x : A) → k < n → Memᴰ x (f k) → Memᴰ x (each_lem n f)
-  unfolding each_lem
+  each_mem : (n : ℕ) (f : ℕ → List A) (k : ℕ) (x : A) → k < n → Memᴰ x (f k) → Memᴰ x (each n f)
+  unfolding each
   each_mem zero f k x l m = absurd (not-suc-le-zero l)
   each_mem (suc n) f k x l m =
       ⊎_elim
-      (λ e. Memᴰ.append_right (each_lem n f) (subst (λ (j : ℕ). Memᴰ x (f j)) e m))
+      (λ e. Memᴰ.append_right (each n f) (subst (λ (j : ℕ). Memᴰ x (f j)) e m))
       (λ s. Memᴰ.append_left (f n) (each_mem n f k x s m))
       (eq-or-lt_of_le (le_of_suc-le-suc l))
 
@@ -70,7 +70,7 @@ module _ (test : ℕ → ℕ → ℕ → Bool) where
       let ma = mem_each 256 _ t m in
       let mb = mem_each 256 _ t ma.2 in
       let md = mem_each 256 _ t mb.2 in
-      let r = held (test ma.0 mb.0 md.0) (field_lem ma.0 mb.0 md.0) md.2 in
+      let r = held (test ma.0 mb.0 md.0) (field ma.0 mb.0 md.0) md.2 in
       rw r.0 (record { first_byte = ma.1; second_byte = mb.1; third_byte = md.1; passes = r.1 })
     where
       held : (b : Bool) (x : Field) → Memᴰ t (cond b (x ∷ []) []) → (t ≡ x) × (b ≡ true)
@@ -100,15 +100,15 @@ within_append n k m [] [] p q = omega arith
 within_append n k m [] (y ∷ ys) p q = (omega arith, q.1)
 within_append n k m (x ∷ xs) ys p q = (p.0, within_append (suc (value x)) k m xs ys p.1 q)
 
-within_each : (lo : ℕ → ℕ) (n : ℕ) (f : ℕ → List Field) → ((k : ℕ) → k < n → Within (lo k) (lo (suc k)) (f k)) → Within (lo 0) (lo n) (each_lem n f)
-unfolding each_lem Within
+within_each : (lo : ℕ → ℕ) (n : ℕ) (f : ℕ → List Field) → ((k : ℕ) → k < n → Within (lo k) (lo (suc k)) (f k)) → Within (lo 0) (lo n) (each n f)
+unfolding each Within
 within_each lo zero f h = omega arith
-within_each lo (suc n) f h = within_append (lo 0) (lo n) (lo (suc n)) (each_lem n f) (f n) (within_each lo n f (λ k l. h k (omega arith))) (h n (omega arith))
+within_each lo (suc n) f h = within_append (lo 0) (lo n) (lo (suc n)) (each n f) (f n) (within_each lo n f (λ k l. h k (omega arith))) (h n (omega arith))
 
 within_cast : (n n' m m' : ℕ) (xs : List Field) → n ≡ n' → m ≡ m' → Within n m xs → Within n' m' xs
 within_cast n n' m m' xs p q h = subst (λ (k : ℕ). Within k m' xs) p (subst (λ (k : ℕ). Within n k xs) q h)
 
-one : (a b d : ℕ) (t : Bool) → Within (65536 * a + 256 * b + d) (65536 * a + 256 * b + suc d) (cond t (field_lem a b d ∷ []) [])
+one : (a b d : ℕ) (t : Bool) → Within (65536 * a + 256 * b + d) (65536 * a + 256 * b + suc d) (cond t (field a b d ∷ []) [])
 unfolding Within
 one a b d true = (omega arith, omega arith)
 one a b d false = omega arith

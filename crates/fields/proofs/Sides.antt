@@ -5,7 +5,7 @@ use mathlib.Core.Path.{fun_ext}
 use mathlib.Core.Bool.{false≢true}
 use Rattle.numbers.specs.Sign.{is_on}
 use Rattle.numbers.proofs.Sign.{size_signed, on_signed, on_rejoined}
-use Rattle.mic_e.specs.Longitude.{offset_of, size_of_lem, read_longitude}
+use Rattle.mic_e.specs.Longitude.{offset_of, size_of, read_longitude}
 use Rattle.mic_e.proofs.LongitudeFacts.{Lies, reads_lies, lies_reads}
 use Rattle.fields.specs.Each.{all_fields}
 use Rattle.fields.specs.Lists.{is_longitude, longitude_fields}
@@ -23,8 +23,8 @@ module _ (hundred west : Bool) (z : ℤ) where
   lies_to : (a b c : ℕ) → is_longitude z (read_longitude hundred west a b c) ≡ true → Lies (nat_abs z) (offset_of hundred) a b c × (is_on west z ≡ true)
   lies_to a b c e =
       let h = reads_lies hundred west a b c (record { 0 = z }) (is_longitude_lem z (read_longitude hundred west a b c) e) in
-      let n : nat_abs z ≡ size_of_lem (offset_of hundred) a b c = ap nat_abs h.1 ∙ size_signed west (size_of_lem (offset_of hundred) a b c) in
-      (rw n h.0, rw h.1 (on_signed west (size_of_lem (offset_of hundred) a b c)))
+      let n : nat_abs z ≡ size_of (offset_of hundred) a b c = ap nat_abs h.1 ∙ size_signed west (size_of (offset_of hundred) a b c) in
+      (rw n h.0, rw h.1 (on_signed west (size_of (offset_of hundred) a b c)))
 
   pub on_side_lem : is_on west z ≡ true → longitude_fields hundred west z ≡ all_fields (hits (Lying (nat_abs z) hundred))
   unfolding longitude_fields

@@ -3,7 +3,7 @@
 use Rattle.std.proofs.Common.{◌≡◌, ℕ, ◌+◌, ◌-◌, ◌*◌, ◌/◌, ◌<◌, ◌≤◌, Bool, true, false, cond, eqb, ltb, refl, ⊎_elim, arith, ltb-false, ltb-true, eqb-true}
 use borrow.Author.Tests.{eqb-false}
 use Rattle.mic_e.specs.Turn.{less_if}
-use Rattle.mic_e.specs.Longitude.{offset_of, size_of_lem}
+use Rattle.mic_e.specs.Longitude.{offset_of, size_of}
 use Rattle.mic_e.proofs.LongitudeFacts.{Lies}
 use Rattle.mic_e.proofs.Turn.{less_if_le, less_if_split}
 use Rattle.fields.specs.Search.{span_from, ten_from, Spans}
@@ -52,7 +52,7 @@ pub record Band (m low b : ℕ) : Type 0 where
   pub to : b < (m - low) / 100 + 89
 
 pub in_band_lem : (m : ℕ) (hundred : Bool) (a b c low : ℕ) → b < 256 → c < 256 → Based hundred a 28 low → Lies m (offset_of hundred) a b c → Band m low b
-unfolding size_of_lem
+unfolding size_of
 in_band_lem m hundred a b c low k l base h =
     let z : less_if 60 (28 - 28) ≤ 28 - 28 = less_if_le 60 (28 - 28) in
     ⊎_elim

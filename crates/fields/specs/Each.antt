@@ -4,23 +4,23 @@ use Rattle.std.specs.Prelude.{ℕ, zero, suc, Bool, cond, List, [], ◌∷◌, �
 use Rattle.mic_e.specs.declared.Field.{Field}
 
 -- f 0, f 1 and so on up to f (n - 1), one after the other
-unfoldable pub each_lem : {A : Type 0} → ℕ → (ℕ → List A) → List A
-each_lem zero f = []
-each_lem (suc n) f = each_lem n f ++ f n
+unfoldable pub each : {A : Type 0} → ℕ → (ℕ → List A) → List A
+each zero f = []
+each (suc n) f = each n f ++ f n
 
 -- a field by its three bytes
-abbrev pub field_lem : ℕ → ℕ → ℕ → Field
-field_lem a b c = record { first = a; second = b; third = c }
+abbrev pub field : ℕ → ℕ → ℕ → Field
+field a b c = record { first = a; second = b; third = c }
 
 -- the fields that begin with the bytes a and b; with the byte a; all
 unfoldable pub cell : (ℕ → ℕ → ℕ → Bool) → ℕ → ℕ → List Field
-cell test a b = each_lem 256 (λ c. cond (test a b c) (field_lem a b c ∷ []) [])
+cell test a b = each 256 (λ c. cond (test a b c) (field a b c ∷ []) [])
 
 unfoldable pub row : (ℕ → ℕ → ℕ → Bool) → ℕ → List Field
-row test a = each_lem 256 (λ b. cell test a b)
+row test a = each 256 (λ b. cell test a b)
 
 unfoldable pub all_fields : (ℕ → ℕ → ℕ → Bool) → List Field
-all_fields test = each_lem 256 (λ a. row test a)
+all_fields test = each 256 (λ a. row test a)
 
 -- the bytes of a list of fields
 unfoldable pub flat : List Field → List ℕ

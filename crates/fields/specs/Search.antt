@@ -7,7 +7,7 @@ use Rattle.mic_e.specs.Longitude.{read_longitude}
 use Rattle.mic_e.specs.declared.Field.{Field}
 use Rattle.mic_e.specs.declared.LongitudeField.{LongitudeField}
 use Rattle.mic_e.specs.declared.LongitudeField.TheVariants.{Read as Lies, Refused as Lost}
-use Rattle.fields.specs.Each.{field_lem, cell}
+use Rattle.fields.specs.Each.{field, cell}
 use Rattle.fields.specs.Lists.{is_motion, is_longitude}
 use Rattle.fields.specs.declared.Target.{Target}
 use Rattle.fields.specs.declared.Target.TheVariants.{Moving, Lying}
@@ -24,7 +24,7 @@ hits (Lying size hundred) = λ a b c. is_longitude (pos size) (read_longitude hu
 
 -- the one field, or none
 unfoldable pub fields_of : ℕ → ℕ → Third → List Field
-fields_of a b (At c) = field_lem a b c ∷ []
+fields_of a b (At c) = field a b c ∷ []
 fields_of a b Nowhere = []
 
 -- the third byte that is z more than 28, if it is one and the field passes

@@ -1,6 +1,7 @@
 // All the fields of three bytes that read as a speed and course, or as a longitude: not the writer's only. One call makes
 // 256 tests of a first byte and at most 378 of a pair (6 first bytes with 63 second bytes each; for motion 60), one pass
 // in all.
+#![tactic(auto)]
 ghost use Rattle.std.specs.Prelude.{◌≡◌, ◌+◌, ◌*◌, ◌≤◌, length};
 ghost use Rattle.buffer.specs.Wrote.{ends};
 ghost use Rattle.buffer.specs.Filled.{filled, added};

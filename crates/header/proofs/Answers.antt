@@ -12,11 +12,11 @@ use borrow.Author.Tests.{eqb-true, eqb-false, le-leb}
 use lib.ListN.{length, take, drop, get_or, replicate, length-drop, get_or-append}
 use lib.Seq.{take_at, drop_at}
 use Rattle.laws.specs.Bytes.{colon, greater}
-use Rattle.laws.specs.Lists.{index_of, every, pad_to, zeros_lem}
+use Rattle.laws.specs.Lists.{index_of, every, pad_to, zeros}
 use Rattle.laws.proofs.Each.{every_replicate}
 use Rattle.laws.proofs.Places.{index_le}
 use Rattle.callsign.specs.declared.Callsign.{Callsign}
-use Rattle.callsign.specs.Text.{joined_lem, made_lem, blank_call, read_text}
+use Rattle.callsign.specs.Text.{joined, made, blank_call, read_text}
 use Rattle.callsign.specs.Address.{read_address}
 use Rattle.callsign.specs.Range.{in_range, is_blank_call}
 use Rattle.callsign.proofs.Made.{blank_range}
@@ -25,7 +25,7 @@ use Rattle.header.specs.declared.Hop.{Hop}
 use Rattle.header.specs.declared.HeaderRead.{HeaderRead}
 use Rattle.header.specs.Hop.{heard_as, call_hop, is_heard, is_qElement}
 use Rattle.header.specs.Header.{most_bytes, Hops, blank_hop, path_of, hops_of, header_of, blank_header, header_refused, header_accepted, unless_refused, with_hops}
-use Rattle.header.specs.Text.{fields, first_of, others_of, stars_of, carried_lem, read_route, read_before, read_header_text, read_text_header}
+use Rattle.header.specs.Text.{fields, first_of, others_of, stars_of, carried, read_route, read_before, read_header_text, read_text_header}
 use Rattle.header.specs.Frame.{starts_with_pair, with_pair, read_source, read_frame_header}
 use Rattle.header.specs.Range.{hop_in_range, is_blank, is_blank_header, path_in_range, header_in_range}
 use Rattle.header.proofs.Typed.{is_set, heard_then_set, set_then_heard}
@@ -41,7 +41,7 @@ pub data Answered (ok : ℕ → Type 0) (kept : List Hop → ℕ → Type 0) (s 
 -- of a text: carried back, and as typed
 pub record Starred (l : List Hop) (stars : ℕ) : Type 0 where
   pub typed : List Hop
-  pub back : l ≡ carried_lem typed
+  pub back : l ≡ carried typed
   pub number : stars ≡ stars_of typed
 
 -- of a frame: none
@@ -64,10 +64,10 @@ two_in_text = record { low = omega arith; high = omega arith }
 
 module _ (s : List ℕ) where
   hops_answered : (from to : Callsign) (body : ℕ) {w : Hops} → in_range from ≡ true → in_range to ≡ true → body ≤ length s → Sound InText 8 w
-      → Answered InText Starred s (with_hops w (λ l. header_accepted from to (path_of (carried_lem l)) body (stars_of l)))
+      → Answered InText Starred s (with_hops w (λ l. header_accepted from to (path_of (carried l)) body (stars_of l)))
   unfolding with_hops
   hops_answered from to body a b m (none n p) = no n p
-  hops_answered from to body a b m (some l k q) = let c = length_carried l in yes from to (carried_lem l) body (stars_of l) a b (omega arith) (carried_range l q) m (record { typed = l; back = refl; number = refl })
+  hops_answered from to body a b m (some l k q) = let c = length_carried l in yes from to (carried l) body (stars_of l) a b (omega arith) (carried_range l q) m (record { typed = l; back = refl; number = refl })
 
   route_answered : (from : Callsign) (t : List ℕ) (body : ℕ) → in_range from ≡ true → body ≤ length s → Answered InText Starred s (read_route from t body)
   unfolding read_route
@@ -143,7 +143,7 @@ module _ (s : List ℕ) where
 -- ---- what every such answer has
 
 blanks : (k : ℕ) → every is_blank (replicate k blank_hop) ≡ true
-unfolding is_blank is_blank_call blank_hop call_hop heard_as blank_call made_lem joined_lem pad_to zeros_lem
+unfolding is_blank is_blank_call blank_hop call_hop heard_as blank_call made joined pad_to zeros
 blanks k = every_replicate is_blank blank_hop refl k
 
 pub path_range : (l : List Hop) → length l ≤ 8 → every hop_in_range l ≡ true → path_in_range (path_of l) ≡ true
@@ -157,7 +157,7 @@ header_range from to l a b m q = rw (a, b) (path_range l m q)
 
 pub blank_is_blank : is_blank_header blank_header ≡ true
 unfolding is_blank_header blank_header header_of path_of pad_to
-blank_is_blank = unfold is_blank_call blank_call made_lem joined_lem zeros_lem in blanks 8
+blank_is_blank = unfold is_blank_call blank_call made joined zeros in blanks 8
 
 pub blank_header_range : header_in_range blank_header ≡ true
 unfolding blank_header every
@@ -194,7 +194,7 @@ module _ (ok : ℕ → Type 0) (s : List ℕ) (i : ℕ) (d : Hop) where
   answered_heard (yes from to l body stars a b m q k t) h e =
       let c = length_carried t.typed in
       let z : i < length t.typed = omega (arith, ap length t.back) in
-      let f : is_heard (get_or (carried_lem t.typed) i d) ≡ true = rw (← t.back) (rw (get_or-append l (replicate (8 - length l) blank_hop) d i h) at e) in
+      let f : is_heard (get_or (carried t.typed) i d) ≡ true = rw (← t.back) (rw (get_or-append l (replicate (8 - length l) blank_hop) d i h) at e) in
       rw t.number (heard_then_set t.typed i d z f)
 
   pub answered_set : {r : HeaderRead} → Answered ok Starred s r → i < r.header.path.count → is_qElement (get_or r.header.path.hops i d) ≡ false → (j : ℕ) → i ≤ j → is_set r.stars j ≡ true
@@ -204,7 +204,7 @@ module _ (ok : ℕ → Type 0) (s : List ℕ) (i : ℕ) (d : Hop) where
   answered_set (yes from to l body stars a b m q k t) h c j o e =
       let y = length_carried t.typed in
       let z : i < length t.typed = omega (arith, ap length t.back) in
-      let w : is_qElement (get_or (carried_lem t.typed) i d) ≡ false = rw (← t.back) (rw (get_or-append l (replicate (8 - length l) blank_hop) d i h) at c) in
+      let w : is_qElement (get_or (carried t.typed) i d) ≡ false = rw (← t.back) (rw (get_or-append l (replicate (8 - length l) blank_hop) d i h) at c) in
       let f : is_heard (get_or l i d) ≡ true = rw t.back (set_then_heard t.typed i d z w j o (rw t.number at e)) in
       rw (get_or-append l (replicate (8 - length l) blank_hop) d i h) f
 

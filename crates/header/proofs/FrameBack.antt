@@ -22,7 +22,7 @@ use Rattle.callsign.proofs.Theorems.{address_reads_back}
 use Rattle.header.specs.declared.Hop.{Hop}
 use Rattle.header.specs.declared.Header.{Header}
 use Rattle.header.specs.Hop.{call_hop, is_heard, calls_of}
-use Rattle.header.specs.Header.{most_bytes, these, before_lem, path_of, hops_of, header_accepted, unless_refused, with_hops}
+use Rattle.header.specs.Header.{most_bytes, these, before, path_of, hops_of, header_accepted, unless_refused, with_hops}
 use Rattle.header.specs.Frame.{pair, starts_with_pair, address_hop, address_then, frame_hops, with_pair, read_source, read_frame_header, is_none, hop_addresses, addresses, first_refusal, address_bytes, header_frame}
 use Rattle.header.specs.Range.{header_in_range, frame_refusal}
 use Rattle.header.proofs.InRange.{route_calls}
@@ -36,7 +36,7 @@ in_frame h = call_hop (in_address h.call) (is_heard h)
 -- ---- hops
 
 hop_back : (h : Hop) (last : Bool) (k : ℕ) (x : List ℕ) → (write_address h.call (HopField (is_heard h)) last).refusal ≡ 0
-    → frame_hops (suc k) ((write_address h.call (HopField (is_heard h)) last).bytes ++ x) ≡ before_lem (in_frame h) (cond last (these []) (frame_hops k x))
+    → frame_hops (suc k) ((write_address h.call (HopField (is_heard h)) last).bytes ++ x) ≡ before (in_frame h) (cond last (these []) (frame_hops k x))
 unfolding frame_hops address_then address_hop in_frame heard_in
 hop_back h last k x z =
     let a = write_address h.call (HopField (is_heard h)) last in
@@ -46,7 +46,7 @@ hop_back h last k x z =
 
 pub hops_back : (h : Hop) (l : List Hop) (k : ℕ) (x : List ℕ) → length (h ∷ l) ≤ k → first_refusal (hop_addresses (h ∷ l)) ≡ 0
     → frame_hops k (address_bytes (hop_addresses (h ∷ l)) ++ x) ≡ these (map in_frame (h ∷ l))
-unfolding address_bytes hop_addresses before_lem is_none
+unfolding address_bytes hop_addresses before is_none
 hops_back h l zero x m z = absurd (omega arith)
 hops_back h [] (suc k) x m z =
     let a = write_address h.call (HopField (is_heard h)) true in
@@ -55,7 +55,7 @@ hops_back h (h' ∷ l) (suc k) x m z =
     let a = write_address h.call (HopField (is_heard h)) false in
     let p = first_none a (hop_addresses (h' ∷ l)) z in
     rw (append_assoc a.bytes (address_bytes (hop_addresses (h' ∷ l))) x)
-    (hop_back h false k (address_bytes (hop_addresses (h' ∷ l)) ++ x) p.0 ∙ ap (before_lem (in_frame h)) (hops_back h' l k x (le_of_suc-le-suc m) p.1))
+    (hop_back h false k (address_bytes (hop_addresses (h' ∷ l)) ++ x) p.0 ∙ ap (before (in_frame h)) (hops_back h' l k x (le_of_suc-le-suc m) p.1))
 
 -- ---- the whole frame
 

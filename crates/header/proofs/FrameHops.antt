@@ -13,13 +13,13 @@ use lib.Seq.{drop-drop}
 use Rattle.laws.specs.Bytes.{space, is_letter_or_digit, raised}
 use Rattle.callsign.specs.declared.Callsign.{Callsign}
 use Rattle.callsign.specs.declared.AddressRead.{AddressRead}
-use Rattle.callsign.specs.Text.{made_lem}
+use Rattle.callsign.specs.Text.{made}
 use Rattle.callsign.specs.Address.{ssid_of, heard_of, last_of, ssid_text, address_refused, read_address}
 use Rattle.callsign.proofs.Characters.{Sofar, start, stops_odd, goes_space, stops_late, stops_other, goes_character, reads, address_as, seven_at, byte_at}
 use Rattle.header.specs.declared.Hop.{Hop}
 use Rattle.header.specs.declared.PathRead.{PathRead}
 use Rattle.header.specs.Hop.{call_hop}
-use Rattle.header.specs.Header.{Hops, refused, these, before_lem, blank_hop}
+use Rattle.header.specs.Header.{Hops, refused, these, before, blank_hop}
 use Rattle.header.specs.Frame.{address_hop, address_then, frame_hops}
 use Rattle.header.specs.Private.{path_refused, frame_read}
 use Rattle.header.proofs.Hops.{flag_as}
@@ -72,7 +72,7 @@ module _ (s : List ℕ) (at : ℕ) (call : List ℕ) (n : ℕ) (sp : Bool) (i : 
             sofar = goes_character _ call n sp i g.sofar more _ there b (sym el ∙ t) e (sym ek ∙ not-false k w) u eu;
           }
 
-  pub spelt : 6 ≤ i → (c : Callsign) (h l : Bool) → c ≡ made_lem (take n call) (ssid_text (ssid_of (get_or s (at + 6) 0))) → h ≡ heard_of (get_or s (at + 6) 0) → l ≡ last_of (get_or s (at + 6) 0)
+  pub spelt : 6 ≤ i → (c : Callsign) (h l : Bool) → c ≡ made (take n call) (ssid_text (ssid_of (get_or s (at + 6) 0))) → h ≡ heard_of (get_or s (at + 6) 0) → l ≡ last_of (get_or s (at + 6) 0)
       → address_as c h l ≡ read_address (take 7 (drop at s))
   spelt over c h l ec eh el = reads _ call n sp i g.sofar over _ (byte_at s at 6 (omega arith)) c h l ec eh el
 
@@ -126,7 +126,7 @@ module _ (s : List ℕ) (hops : List Hop) (count at : ℕ) (g : Walking s hops c
       goes later e =
           let w = g.few in
           let b : record { call = c; kind = bool_byte h } ≡ call_hop c h = rw (flag_as h) in
-          going_more _ _ hops count g.going (omega arith) (record { call = c; kind = bool_byte h }) later (next room (address_as c h l) q ∙ ap (before_lem (call_hop c h)) e ∙ ap (λ (x : Hop). before_lem x later) (sym b))
+          going_more _ _ hops count g.going (omega arith) (record { call = c; kind = bool_byte h }) later (next room (address_as c h l) q ∙ ap (before (call_hop c h)) e ∙ ap (λ (x : Hop). before x later) (sym b))
 
       pub walk_on : l ≡ false → Walking s (set hops count (record { call = c; kind = bool_byte h })) (count + 1) (at + 7)
       walk_on e = record { few = let w = g.few in omega arith; within = room; going = goes _ (rw e) }

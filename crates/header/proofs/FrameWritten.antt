@@ -27,8 +27,8 @@ use Rattle.header.specs.Hop.{is_heard, is_qElement, calls_of}
 use Rattle.header.specs.Header.{hops_of}
 use Rattle.header.specs.Frame.{pair, is_none, hop_addresses, addresses, first_refusal, address_bytes, header_frame}
 use Rattle.header.specs.Range.{hop_in_range, header_in_range, frame_refusal}
-use Rattle.header.specs.Private.{Piece, Building, is_tidy, is_tidy_hop, building, plain_lem, address_piece, end_address_pieces, hop_address_piece, hop_address_pieces, with_piece, with_pieces, frame_pieces, is_sought, up_to}
-use Rattle.header.proofs.Pieces.{bytes_of_lem, greatest, size_of_lem, sizes, bytes_append, greatest_append, sizes_append, sizes_accepted, put_out}
+use Rattle.header.specs.Private.{Piece, Building, is_tidy, is_tidy_hop, building, plain, address_piece, end_address_pieces, hop_address_piece, hop_address_pieces, with_piece, with_pieces, frame_pieces, is_sought, up_to}
+use Rattle.header.proofs.Pieces.{bytes_of, greatest, size_of, sizes, bytes_append, greatest_append, sizes_append, sizes_accepted, put_out}
 use Rattle.header.proofs.Putting.{all_put, none_left}
 use Rattle.header.proofs.InRange.{untidy_hop, tidy_hop, tidy_q, tidy_count, judged_tidy, path_tidy, untidy_out, tidy_range}
 
@@ -121,14 +121,14 @@ addresses_judged h =
 unfoldable address_pieces : Header → List Piece
 address_pieces h = end_address_pieces h.to h.from (is_none (calls_of (hops_of h.path))) ++ hop_address_pieces (hops_of h.path)
 
-with_pair_lem : (h : Header) → frame_pieces h ≡ address_pieces h ++ plain_lem pair ∷ []
+with_pair_lem : (h : Header) → frame_pieces h ≡ address_pieces h ++ plain pair ∷ []
 unfolding frame_pieces address_pieces
 with_pair_lem h = refl
 
 pub frame_judged : (h : Header) → is_tidy h.path ≡ true → greatest (frame_pieces h) ≡ frame_refusal h
 unfolding frame_refusal greatest
 frame_judged h e =
-    rw (with_pair_lem h, tidy_range h e, greatest_append (address_pieces h) (plain_lem pair ∷ []))
+    rw (with_pair_lem h, tidy_range h e, greatest_append (address_pieces h) (plain pair ∷ []))
     (go (in_range h.from) (in_range h.to) (every hop_in_range (hops_of h.path)) (unfold address_pieces in (addresses_judged h).is))
   where
     go : (a b d : Bool) → greatest (address_pieces h) ≡ cond (b && (a && d)) (first_refusal (addresses h)) 15
@@ -141,41 +141,41 @@ frame_judged h e =
 
 -- ---- bytes
 
-hops_spelled : (l : List Hop) → bytes_of_lem (hop_address_pieces l) ≡ address_bytes (hop_addresses (calls_of l))
-unfolding hop_address_pieces hop_address_piece bytes_of_lem calls_of
+hops_spelled : (l : List Hop) → bytes_of (hop_address_pieces l) ≡ address_bytes (hop_addresses (calls_of l))
+unfolding hop_address_pieces hop_address_piece bytes_of calls_of
 hops_spelled [] = unfold hop_addresses address_bytes in refl
 hops_spelled (h ∷ l) = go (is_qElement h) (hops_spelled l)
   where
-    go : (q : Bool) → bytes_of_lem (hop_address_pieces l) ≡ address_bytes (hop_addresses (calls_of l))
-        → cond q [] (write_address h.call (HopField (is_heard h)) (is_none (calls_of l))).bytes ++ bytes_of_lem (hop_address_pieces l) ≡ address_bytes (hop_addresses (cond q (calls_of l) (h ∷ calls_of l)))
+    go : (q : Bool) → bytes_of (hop_address_pieces l) ≡ address_bytes (hop_addresses (calls_of l))
+        → cond q [] (write_address h.call (HopField (is_heard h)) (is_none (calls_of l))).bytes ++ bytes_of (hop_address_pieces l) ≡ address_bytes (hop_addresses (cond q (calls_of l) (h ∷ calls_of l)))
     go true r = r
     go false r = unfold hop_addresses address_bytes in ap (λ (x : List ℕ). (write_address h.call (HopField (is_heard h)) (is_none (calls_of l))).bytes ++ x) r
 
-pub frame_spelled : (h : Header) → bytes_of_lem (frame_pieces h) ≡ header_frame h
-unfolding address_pieces bytes_of_lem header_frame addresses address_bytes
-frame_spelled h = rw (with_pair_lem h) (bytes_append (address_pieces h) (plain_lem pair ∷ []) ∙ rw (hops_spelled (hops_of h.path)))
+pub frame_spelled : (h : Header) → bytes_of (frame_pieces h) ≡ header_frame h
+unfolding address_pieces bytes_of header_frame addresses address_bytes
+frame_spelled h = rw (with_pair_lem h) (bytes_append (address_pieces h) (plain pair ∷ []) ∙ rw (hops_spelled (hops_of h.path)))
 
 -- ---- how many
 
-address_size : (c : Callsign) (field : Field) (last : Bool) → size_of_lem (address_piece (write_address c field last)) ≤ 7
-unfolding size_of_lem
+address_size : (c : Callsign) (field : Field) (last : Bool) → size_of (address_piece (write_address c field last)) ≤ 7
+unfolding size_of
 address_size c field last = go (eqb (write_address c field last).refusal 0) refl
   where
     go : (b : Bool) → eqb (write_address c field last).refusal 0 ≡ b → cond b (length (write_address c field last).bytes) 0 ≤ 7
     go true e = omega (arith, address_seven c field last (eqb-true _ 0 e))
     go false e = omega arith
 
-hop_size : (h : Hop) (last : Bool) → size_of_lem (hop_address_piece h last) ≤ 7
+hop_size : (h : Hop) (last : Bool) → size_of (hop_address_piece h last) ≤ 7
 unfolding hop_address_piece
 hop_size h last = go (is_tidy_hop h) (is_qElement h) (address_size h.call (HopField (is_heard h)) last)
   where
     a : AddressWritten
     a = write_address h.call (HopField (is_heard h)) last
 
-    go : (t q : Bool) → size_of_lem (address_piece a) ≤ 7 → size_of_lem (record { refusal = cond t (cond q 0 a.refusal) 15; bytes = cond q [] a.bytes }) ≤ 7
-    go true true r = unfold size_of_lem in omega arith
+    go : (t q : Bool) → size_of (address_piece a) ≤ 7 → size_of (record { refusal = cond t (cond q 0 a.refusal) 15; bytes = cond q [] a.bytes }) ≤ 7
+    go true true r = unfold size_of in omega arith
     go true false r = r
-    go false q r = unfold size_of_lem in omega arith
+    go false q r = unfold size_of in omega arith
 
 hops_size : (l : List Hop) → sizes (hop_address_pieces l) ≤ 7 * length l
 unfolding hop_address_pieces sizes
@@ -183,7 +183,7 @@ hops_size [] = omega arith
 hops_size (h ∷ l) = omega (arith, hop_size h (is_none (calls_of l)), hops_size l)
 
 pub frame_size : (h : Header) → is_tidy h.path ≡ true → sizes (frame_pieces h) ≤ 72
-unfolding frame_pieces sizes size_of_lem hops_of
+unfolding frame_pieces sizes size_of hops_of
 frame_size h e =
     let m = tidy_count h.path e in
     let k = length-take h.path.count h.path.hops in
@@ -191,7 +191,7 @@ frame_size h e =
     let a = address_size h.to Destination false in
     let b = address_size h.from Source last in
     let d = hops_size (hops_of h.path) in
-    let f = sizes_append (hop_address_pieces (hops_of h.path)) (plain_lem pair ∷ []) in
+    let f = sizes_append (hop_address_pieces (hops_of h.path)) (plain pair ∷ []) in
     omega arith
 
 -- a header that can be written is at most 72 bytes of a frame
@@ -228,11 +228,11 @@ hops_length (h ∷ l) z =
 -- ---- the writer's answers
 
 pub frame_put : (h : Header) (last : ℕ) (b b₁ b₂ b₃ : Building) → last ≡ up_to (is_sought false) (take h.path.count h.path.hops) → b₁ ≡ with_pieces b (end_address_pieces h.to h.from (eqb last 0)) → b₂ ≡ with_pieces b₁ (hop_address_pieces (take h.path.count h.path.hops))
-    → b₃ ≡ with_piece b₂ (plain_lem pair) → b₃ ≡ with_pieces b (frame_pieces h)
+    → b₃ ≡ with_piece b₂ (plain pair) → b₃ ≡ with_pieces b (frame_pieces h)
 unfolding frame_pieces hops_of
 frame_put h last b b₁ b₂ b₃ e p =
     let z : eqb last 0 ≡ is_none (calls_of (take h.path.count h.path.hops)) = rw e (none_left (take h.path.count h.path.hops)) in
-    all_put b b₁ b₂ b₃ (end_address_pieces h.to h.from (is_none (calls_of (hops_of h.path)))) (hop_address_pieces (hops_of h.path)) (plain_lem pair) (p ∙ rw z)
+    all_put b b₁ b₂ b₃ (end_address_pieces h.to h.from (is_none (calls_of (hops_of h.path)))) (hop_address_pieces (hops_of h.path)) (plain pair) (p ∙ rw z)
 
 pub frame_untidy : (u : Bool) (h : Header) (r : Answer) (out : List ℕ) → u ≡ is_tidy h.path → not u ≡ true → r ≡ refused_by 15 → ends r out ≡ wrote (frame_refusal h) (header_frame h) out
 unfolding frame_refusal

@@ -9,27 +9,27 @@ use lib.Seq.{take_at, drop_at}
 use Rattle.laws.specs.Lists.{pad_to}
 use Rattle.laws.proofs.Lists.{pad_set}
 use Rattle.header.specs.declared.Hop.{Hop}
-use Rattle.header.specs.Header.{Hops, refused, these, before_lem, blank_hop, path_of, hops_of}
-use Rattle.header.specs.Text.{carried_lem}
+use Rattle.header.specs.Header.{Hops, refused, these, before, blank_hop, path_of, hops_of}
+use Rattle.header.specs.Text.{carried}
 use Rattle.header.specs.Private.{frame_read, text_read, starred_read}
 
 -- hops, and what follows them
-unfoldable pub after_lem : List Hop → Hops → Hops
-after_lem hs (refused n) = refused n
-after_lem hs (these l) = these (hs ++ l)
+unfoldable pub after : List Hop → Hops → Hops
+after hs (refused n) = refused n
+after hs (these l) = these (hs ++ l)
 
-after_none : (w : Hops) → w ≡ after_lem [] w
-unfolding after_lem
+after_none : (w : Hops) → w ≡ after [] w
+unfolding after
 after_none (refused n) = refl
 after_none (these l) = refl
 
-after_one : (hs : List Hop) (h : Hop) (w : Hops) → after_lem hs (before_lem h w) ≡ after_lem (hs ++ h ∷ []) w
-unfolding after_lem before_lem
+after_one : (hs : List Hop) (h : Hop) (w : Hops) → after hs (before h w) ≡ after (hs ++ h ∷ []) w
+unfolding after before
 after_one hs h (refused n) = refl
 after_one hs h (these l) = ap these (sym (append_assoc hs (h ∷ []) l))
 
-pub length_carried : (l : List Hop) → length (carried_lem l) ≡ length l
-unfolding carried_lem
+pub length_carried : (l : List Hop) → length (carried l) ≡ length l
+unfolding carried
 length_carried [] = refl
 length_carried (h ∷ l) = ap suc (length_carried l)
 
@@ -42,7 +42,7 @@ pub path_hops : (l : List Hop) → hops_of (path_of l) ≡ l
 unfolding hops_of path_of
 path_hops l = padded_front l
 
-padded_carried : (l : List Hop) → carried_lem (take (length l) (pad_to 8 blank_hop l)) ++ drop (length l) (pad_to 8 blank_hop l) ≡ pad_to 8 blank_hop (carried_lem l)
+padded_carried : (l : List Hop) → carried (take (length l) (pad_to 8 blank_hop l)) ++ drop (length l) (pad_to 8 blank_hop l) ≡ pad_to 8 blank_hop (carried l)
 unfolding pad_to
 padded_carried l = rw (take_at l (replicate (8 - length l) blank_hop) (length l) refl, drop_at l (replicate (8 - length l) blank_hop) (length l) refl, length_carried l)
 
@@ -53,14 +53,14 @@ pub record Going (whole rest : Hops) (hops : List Hop) (n : ℕ) : Type 0 where
   pub count : length done ≡ n
   pub few : n ≤ 8
   pub held : hops ≡ pad_to 8 blank_hop done
-  pub agrees : whole ≡ after_lem done rest
+  pub agrees : whole ≡ after done rest
 
 pub going_start : (whole : Hops) (b : Hop) → b ≡ blank_hop → Going whole whole (replicate 8 b) 0
 unfolding pad_to
 going_start whole b e = record { done = []; count = refl; few = omega arith; held = rw e; agrees = after_none whole }
 
 module _ (whole rest : Hops) (hops : List Hop) (n : ℕ) (g : Going whole rest hops n) where
-  pub going_more : n < 8 → (h : Hop) (later : Hops) → rest ≡ before_lem h later → Going whole later (set hops n h) (n + 1)
+  pub going_more : n < 8 → (h : Hop) (later : Hops) → rest ≡ before h later → Going whole later (set hops n h) (n + 1)
   going_more m h later e =
       record {
         done = g.done ++ h ∷ [];
@@ -71,12 +71,12 @@ module _ (whole rest : Hops) (hops : List Hop) (n : ℕ) (g : Going whole rest h
       }
 
   pub going_refused : (k : ℕ) → rest ≡ refused k → whole ≡ refused k
-  unfolding after_lem
+  unfolding after
   going_refused k e = g.agrees ∙ rw e
 
   module _ (e : rest ≡ these []) where
     all : whole ≡ these g.done
-    unfolding after_lem
+    unfolding after
     all = g.agrees ∙ rw e (ap these (append-nil g.done))
 
     -- the array and the count are the path of the hops done

@@ -19,7 +19,7 @@ use Rattle.header.specs.declared.Path.{Path}
 use Rattle.header.specs.declared.PathRead.{PathRead}
 use Rattle.header.specs.declared.HeaderRead.{HeaderRead}
 use Rattle.header.specs.Header.{Hops, refused, these, path_of, header_refused, header_accepted, unless_refused, with_hops}
-use Rattle.header.specs.Text.{fields, first_of, others_of, text_hops, stars_of, carried_lem, read_route, read_before, read_header_text}
+use Rattle.header.specs.Text.{fields, first_of, others_of, text_hops, stars_of, carried, read_route, read_before, read_header_text}
 use Rattle.header.specs.Private.{path_refused, text_read}
 use Rattle.header.proofs.Walks.{InText, Sound, none, some, text_sound}
 use Rattle.header.proofs.TextHops.{fields_one, fields_two, fields_some, no_parts}
@@ -44,7 +44,7 @@ hops_refused (refused n) next z = refl
 hops_refused (these l) next z = absurd (z refl)
 
 hops_given : (from to : Callsign) (body : ℕ) {w : Hops} → Sound InText 8 w → (text_read w).refusal ≡ 0
-    → header_accepted from to (text_read w).path body (text_read w).stars ≡ with_hops w (λ l. header_accepted from to (path_of (carried_lem l)) body (stars_of l))
+    → header_accepted from to (text_read w).path body (text_read w).stars ≡ with_hops w (λ l. header_accepted from to (path_of (carried l)) body (stars_of l))
 unfolding text_read path_refused with_hops
 hops_given from to body (none n p) z = let m = p.low in absurd (omega arith)
 hops_given from to body (some l m q) z = refl
@@ -59,7 +59,7 @@ module _ (from : Callsign) (t : List ℕ) (body d : ℕ) (to : CallRead) (r : He
 
   module _ (z : to.refusal ≡ 0) where
     pub to_alone : (p : Path) → d ≡ length t → p ≡ path_of [] → r ≡ header_accepted from to.call p body 0 → r ≡ read_route from t body
-    unfolding read_route unless_refused with_hops carried_lem stars_of
+    unfolding read_route unless_refused with_hops carried stars_of
     to_alone p l e w = rw (its_to, eq-eqb to.refusal 0 z, none_after t (sym f ∙ l), ← e) w
 
     module _ (p : PathRead) (l : d ≡ length t → ⊥) (e : p ≡ text_read (text_hops 8 (fields (take (length t - (d + 1)) (drop (d + 1) t))))) where

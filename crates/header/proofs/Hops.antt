@@ -14,8 +14,8 @@ use Rattle.laws.specs.Lists.{every, any_of, same_bytes}
 use Rattle.laws.proofs.Among.{among_holds}
 use Rattle.laws.proofs.Tests.{and_first, and_second}
 use Rattle.callsign.specs.declared.Callsign.{Callsign}
-use Rattle.callsign.specs.Utf8.{after_lem, characters, utf8}
-use Rattle.callsign.specs.Text.{joined_lem, read_text}
+use Rattle.callsign.specs.Utf8.{after, characters, utf8}
+use Rattle.callsign.specs.Text.{joined, read_text}
 use Rattle.callsign.proofs.Ranges.{utf8_none, zero_none}
 use Rattle.callsign.proofs.Made.{made_written, made_range}
 use Rattle.header.specs.declared.Hop.{Hop}
@@ -118,7 +118,7 @@ unfolding starts_q every
 name_starts = of_each starts_q refl
 
 name_utf8 : (t : List ℕ) → is_qName t ≡ true → utf8 t ≡ true
-unfolding utf8 characters after_lem within every
+unfolding utf8 characters after within every
 name_utf8 = of_each utf8 refl
 
 name_short : (t : List ℕ) → is_qName t ≡ true → length t ≤ 16
@@ -186,5 +186,5 @@ module _ (u : Bool) (t : List ℕ) (e : u ≡ starts_q t) where
 
 -- the hop of a name is in range
 pub name_range : (t : List ℕ) → is_qName t ≡ true → hop_in_range (q_hop t) ≡ true
-unfolding hop_in_range is_some_hop is_qElement q_hop joined_lem
+unfolding hop_in_range is_some_hop is_qElement q_hop joined
 name_range t n = rw (made_written t [], n, made_range t [] (name_short t n) (name_utf8 t n) utf8_none zero_none)

@@ -11,7 +11,7 @@ use Rattle.laws.specs.Lists.{every}
 use Rattle.laws.proofs.Lists.{part_length}
 use Rattle.laws.proofs.Tests.{and_first, and_second}
 use Rattle.callsign.specs.declared.Callsign.{Callsign}
-use Rattle.callsign.specs.Range.{text_len, in_range, text_of_lem}
+use Rattle.callsign.specs.Range.{text_len, in_range, text_of}
 use Rattle.callsign.proofs.Ranges.{from_range, found_in_range, text_in_use}
 use Rattle.header.specs.declared.Hop.{Hop}
 use Rattle.header.specs.declared.Path.{Path}
@@ -34,15 +34,15 @@ module _ (h : Hop) where
   unfolding is_tidy_hop hop_in_range is_some_hop
   untidy_hop = go (is_qElement h)
     where
-      go : (q : Bool) → cond q (cond q (is_qName (text_of_lem h.call)) (leb h.kind was_heard) && in_range h.call) (leb h.kind was_heard) ≡ false
-          → (cond q (is_qName (text_of_lem h.call)) (leb h.kind was_heard) && in_range h.call) ≡ false
+      go : (q : Bool) → cond q (cond q (is_qName (text_of h.call)) (leb h.kind was_heard) && in_range h.call) (leb h.kind was_heard) ≡ false
+          → (cond q (is_qName (text_of h.call)) (leb h.kind was_heard) && in_range h.call) ≡ false
       go true e = e
       go false e = rw e
 
   -- of one that it takes, what its callsign is
   pub tidy_hop : is_tidy_hop h ≡ true → hop_in_range h ≡ in_range h.call
   unfolding is_tidy_hop hop_in_range is_some_hop
-  tidy_hop = go (is_qElement h) (is_qName (text_of_lem h.call)) (in_range h.call)
+  tidy_hop = go (is_qElement h) (is_qName (text_of h.call)) (in_range h.call)
     where
       go : (q n r : Bool) → cond q (cond q n (leb h.kind was_heard) && r) (leb h.kind was_heard) ≡ true
           → (cond q n (leb h.kind was_heard) && r) ≡ r
@@ -56,10 +56,10 @@ module _ (h : Hop) where
 
 -- ---- a Q element, where the code has judged its callsign
 
-pub unnamed : (c : Callsign) (u : Bool) → u ≡ in_range c → not u ≡ true → false ≡ (is_qName (text_of_lem c) && in_range c)
-unnamed c u e n = rw (← e, not-true u n) (sym (and-false (is_qName (text_of_lem c))))
+pub unnamed : (c : Callsign) (u : Bool) → u ≡ in_range c → not u ≡ true → false ≡ (is_qName (text_of c) && in_range c)
+unnamed c u e n = rw (← e, not-true u n) (sym (and-false (is_qName (text_of c))))
 
-pub named : (c : Callsign) (u : Bool) (n : ℕ) (r : Bool) → u ≡ in_range c → not u ≡ false → length c.text ≡ 16 → n ≡ min (text_len c) 16 → r ≡ is_qName (take n c.text) → r ≡ (is_qName (text_of_lem c) && in_range c)
+pub named : (c : Callsign) (u : Bool) (n : ℕ) (r : Bool) → u ≡ in_range c → not u ≡ false → length c.text ≡ 16 → n ≡ min (text_len c) 16 → r ≡ is_qName (take n c.text) → r ≡ (is_qName (text_of c) && in_range c)
 named c u n r e k long q t =
     let i : in_range c ≡ true = found_in_range c u e k in
     let m : text_len c ≡ n = omega (arith, (from_range c i).size) in
@@ -72,7 +72,7 @@ in_use_within c n e long = omega arith
 pub in_use_long : (c : Callsign) (n : ℕ) → n ≡ min (text_len c) 16 → length c.text ≡ 16 → n ≡ length (take n c.text)
 in_use_long c n e long = part_length c.text n (in_use_within c n e long)
 
-pub q_in_range : (h : Hop) (r : Bool) → h.kind ≡ q_element → r ≡ (is_qName (text_of_lem h.call) && in_range h.call) → r ≡ is_tidy_hop h
+pub q_in_range : (h : Hop) (r : Bool) → h.kind ≡ q_element → r ≡ (is_qName (text_of h.call) && in_range h.call) → r ≡ is_tidy_hop h
 unfolding is_tidy_hop hop_in_range is_some_hop is_qElement
 q_in_range h r k e = rw (eq-eqb h.kind q_element k) e
 

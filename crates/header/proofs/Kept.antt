@@ -15,7 +15,7 @@ use Rattle.laws.specs.Lists.{index_of}
 use Rattle.laws.proofs.Places.{index_split, index_le}
 use Rattle.callsign.specs.declared.Callsign.{Callsign}
 use Rattle.callsign.specs.declared.CallRead.{CallRead}
-use Rattle.callsign.specs.Text.{made_lem, read_text}
+use Rattle.callsign.specs.Text.{made, read_text}
 use Rattle.callsign.specs.Range.{with_star}
 use Rattle.callsign.proofs.TextBack.{with_zero, typed_text, as_read, bare_written}
 use Rattle.callsign.proofs.Theorems.{text_is_kept}
@@ -23,8 +23,8 @@ use Rattle.header.specs.declared.Hop.{Hop}
 use Rattle.header.specs.declared.Header.{Header}
 use Rattle.header.specs.declared.HeaderRead.{HeaderRead}
 use Rattle.header.specs.Hop.{is_qName, call_hop, q_hop, is_heard, any_heard, heard_if}
-use Rattle.header.specs.Header.{most_bytes, Hops, refused, these, before_lem, path_of, hops_of, header_of, header_refused, header_accepted, unless_refused, with_hops}
-use Rattle.header.specs.Text.{on_first, fields, first_of, others_of, starts_q, hop_refused, hop_named, hop_of, read_hop, hop_then, text_hops, stars_of, carried_lem, read_route, read_before, read_header_text, read_text_header}
+use Rattle.header.specs.Header.{most_bytes, Hops, refused, these, before, path_of, hops_of, header_of, header_refused, header_accepted, unless_refused, with_hops}
+use Rattle.header.specs.Text.{on_first, fields, first_of, others_of, starts_q, hop_refused, hop_named, hop_of, read_hop, hop_then, text_hops, stars_of, carried, read_route, read_before, read_header_text, read_text_header}
 use Rattle.header.proofs.Hops.{call_heard, heard_is_call, if_heard, if_twice}
 use Rattle.header.proofs.Typed.{lowest, others}
 use Rattle.header.proofs.Stars.{each_text}
@@ -53,8 +53,8 @@ header_typed source destination stars h = route_typed source destination stars h
 same_heard : (h : Hop) → is_heard (heard_if (is_heard h) h) ≡ is_heard h
 same_heard h = if_heard (is_heard h) h ∙ rw (← and-true (is_heard h)) (heard_is_call h true)
 
-stars_back : (l : List Hop) → each_text typed_text (starred_by (stars_of l) (carried_lem l)) ≡ each_text typed_text l
-unfolding starred_by stars_of carried_lem each_text
+stars_back : (l : List Hop) → each_text typed_text (starred_by (stars_of l) (carried l)) ≡ each_text typed_text l
+unfolding starred_by stars_of carried each_text
 stars_back [] = refl
 stars_back (h ∷ l) =
     rw (lowest (is_heard h) (stars_of l), others (is_heard h) (stars_of l), if_twice (is_heard h || any_heard l) h, same_heard h, stars_back l) (unfold heard_if in refl)
@@ -82,7 +82,7 @@ fields_back (x ∷ l) = let p = fields_some l in go (eqb x comma) refl (fields l
 -- ---- hops
 
 name_typed : (t : List ℕ) → with_star (typed_text (q_hop t).call) (is_heard (q_hop t)) ≡ t
-unfolding q_hop is_heard with_star typed_text with_zero made_lem
+unfolding q_hop is_heard with_star typed_text with_zero made
 name_typed t = bare_written t
 
 pub hop_typed : (t : List ℕ) → (read_hop t).refusal ≡ 0 → with_star (typed_text (read_hop t).hop.call) (is_heard (read_hop t).hop) ≡ t
@@ -101,13 +101,13 @@ data Typed (fs : List (List ℕ)) : Hops → Type 0 where
   some : (l : List Hop) → after_commas fs ≡ each_text typed_text l → Typed fs (these l)
 
 hops_typed : (k : ℕ) (fs : List (List ℕ)) → Typed fs (text_hops k fs)
-unfolding text_hops hop_then before_lem after_commas each_text
+unfolding text_hops hop_then before after_commas each_text
 hops_typed zero [] = some [] refl
 hops_typed (suc k) [] = some [] refl
 hops_typed zero (t ∷ ts) = none 5 (λ e. omega arith)
 hops_typed (suc k) (t ∷ ts) = go (eqb (read_hop t).refusal 0) refl (hops_typed k ts)
   where
-    go : (b : Bool) → eqb (read_hop t).refusal 0 ≡ b → {w : Hops} → Typed ts w → Typed (t ∷ ts) (cond b (before_lem (read_hop t).hop w) (refused (read_hop t).refusal))
+    go : (b : Bool) → eqb (read_hop t).refusal 0 ≡ b → {w : Hops} → Typed ts w → Typed (t ∷ ts) (cond b (before (read_hop t).hop w) (refused (read_hop t).refusal))
     go true e (none n z) = none n z
     go true e (some l q) =
         some ((read_hop t).hop ∷ l) (ap {B = List ℕ} (λ f. comma ∷ (f ++ after_commas ts)) (sym (hop_typed t (eqb-true (read_hop t).refusal 0 e))) ∙ ap {B = List ℕ} (λ v. comma ∷ (with_star (typed_text (read_hop t).hop.call) (is_heard (read_hop t).hop) ++ v)) q)
@@ -120,7 +120,7 @@ pub record PathTyped (h : Header) : Type 0 where
   pub text : List ℕ
   pub typed : List Hop
   pub read : text_hops 8 (others_of (fields text)) ≡ these typed
-  pub path : hops_of h.path ≡ carried_lem typed
+  pub path : hops_of h.path ≡ carried typed
 
 -- the stars that were behind source and destination, the place of the body, the text, and its hops
 record Route (t : List ℕ) (body : ℕ) (r : HeaderRead) : Type 0 where
@@ -133,8 +133,8 @@ record Route (t : List ℕ) (body : ℕ) (r : HeaderRead) : Type 0 where
 -- by source and destination, each as it was read
 module _ (body : ℕ) (from : Callsign) (source : Bool) (f : List ℕ) (p : with_star (typed_text from) source ≡ f) where
   path_kept : (to : Callsign) (destination : Bool) (d : List ℕ) → with_star (typed_text to) destination ≡ d → (t : List ℕ) {w : Hops} → text_hops 8 (others_of (fields t)) ≡ w → Typed (others_of (fields t)) w
-      → (with_hops w (λ l. header_accepted from to (path_of (carried_lem l)) body (stars_of l))).refusal ≡ 0
-      → Route (f ++ greater ∷ (d ++ after_commas (others_of (fields t)))) body (with_hops w (λ l. header_accepted from to (path_of (carried_lem l)) body (stars_of l)))
+      → (with_hops w (λ l. header_accepted from to (path_of (carried l)) body (stars_of l))).refusal ≡ 0
+      → Route (f ++ greater ∷ (d ++ after_commas (others_of (fields t)))) body (with_hops w (λ l. header_accepted from to (path_of (carried l)) body (stars_of l)))
   unfolding with_hops header_refused header_accepted header_of route_typed
   path_kept to destination d q t r (none n z) e = absurd (z e)
   path_kept to destination d q t r (some l s) e =
@@ -142,8 +142,8 @@ module _ (body : ℕ) (from : Callsign) (source : Bool) (f : List ℕ) (p : with
         source = source;
         destination = destination;
         place = refl;
-        text = rw (path_hops (carried_lem l), stars_back l, p, q, s);
-        hops = record { text = t; typed = l; read = r; path = path_hops (carried_lem l) };
+        text = rw (path_hops (carried l), stars_back l, p, q, s);
+        hops = record { text = t; typed = l; read = r; path = path_hops (carried l) };
       }
 
   route_kept : (t : List ℕ) → (read_route from t body).refusal ≡ 0 → Route (f ++ greater ∷ t) body (read_route from t body)
@@ -154,8 +154,8 @@ module _ (body : ℕ) (from : Callsign) (source : Bool) (f : List ℕ) (p : with
       to = read_text (first_of (fields t))
 
       go : (b : Bool) → eqb to.refusal 0 ≡ b
-          → (cond b (with_hops (text_hops 8 (others_of (fields t))) (λ l. header_accepted from to.call (path_of (carried_lem l)) body (stars_of l))) (header_refused to.refusal)).refusal ≡ 0
-          → Route (f ++ greater ∷ t) body (cond b (with_hops (text_hops 8 (others_of (fields t))) (λ l. header_accepted from to.call (path_of (carried_lem l)) body (stars_of l))) (header_refused to.refusal))
+          → (cond b (with_hops (text_hops 8 (others_of (fields t))) (λ l. header_accepted from to.call (path_of (carried l)) body (stars_of l))) (header_refused to.refusal)).refusal ≡ 0
+          → Route (f ++ greater ∷ t) body (cond b (with_hops (text_hops 8 (others_of (fields t))) (λ l. header_accepted from to.call (path_of (carried l)) body (stars_of l))) (header_refused to.refusal))
       go true e z =
           rw (fields_back t) at
           (path_kept to.call to.starred (first_of (fields t)) (text_is_kept (first_of (fields t)) (eqb-true to.refusal 0 e)) t refl (hops_typed 8 (others_of (fields t))) z)

@@ -19,7 +19,7 @@ use Rattle.header.specs.declared.Path.{Path}
 use Rattle.header.specs.declared.Header.{Header}
 use Rattle.header.specs.declared.HeaderRead.{HeaderRead}
 use Rattle.header.specs.Hop.{not_heard, call_hop, is_heard, is_qElement, calls_of, any_heard}
-use Rattle.header.specs.Header.{most_bytes, Hops, refused, these, before_lem, blank_hop, path_of, hops_of, header_of, blank_header, header_refused, header_accepted, unless_refused, with_hops}
+use Rattle.header.specs.Header.{most_bytes, Hops, refused, these, before, blank_hop, path_of, hops_of, header_of, blank_header, header_refused, header_accepted, unless_refused, with_hops}
 use Rattle.header.specs.Text.{hops_text, route_text, header_text}
 use Rattle.header.specs.Frame.{starts_with_pair, address_hop, address_then, frame_hops, with_pair, read_source, read_frame_header, is_none, hop_addresses, addresses, header_frame}
 use Rattle.header.specs.Range.{is_some_hop, hop_in_range, is_blank, is_blank_header, path_in_range, header_in_range, text_refusal, frame_refusal}
@@ -136,8 +136,8 @@ either_hops : (b : Bool) {x y : Hops} → Unmarked x → Unmarked y → Unmarked
 either_hops true p q = p
 either_hops false p q = q
 
-hop_in_front : (h : Hop) {w : Hops} → unmarked_hop h ≡ h → Unmarked w → Unmarked (before_lem h w)
-unfolding before_lem
+hop_in_front : (h : Hop) {w : Hops} → unmarked_hop h ≡ h → Unmarked w → Unmarked (before h w)
+unfolding before
 hop_in_front h e (none n) = none n
 hop_in_front h e (some l q) = some (h ∷ l) (rw (e, q))
 

@@ -17,7 +17,7 @@ use Rattle.laws.proofs.Tests.{or_neither}
 use Rattle.laws.proofs.Each.{every_first, every_rest}
 use Rattle.callsign.specs.declared.Callsign.{Callsign}
 use Rattle.callsign.specs.Text.{call_accepted, read_text}
-use Rattle.callsign.specs.Range.{text_of_lem, with_star}
+use Rattle.callsign.specs.Range.{text_of, with_star}
 use Rattle.callsign.proofs.Marks.{unmarked_made}
 use Rattle.callsign.proofs.TextBack.{with_zero, typed_text, bare_written}
 use Rattle.callsign.proofs.TextAgain.{ends_in_star}
@@ -25,8 +25,8 @@ use Rattle.callsign.proofs.Theorems.{text_reads_back}
 use Rattle.header.specs.declared.Hop.{Hop}
 use Rattle.header.specs.Hop.{is_qName, call_hop, q_hop, is_heard, is_qElement, any_heard, heard_if}
 use Rattle.header.specs.declared.Header.{Header}
-use Rattle.header.specs.Header.{Hops, refused, these, before_lem, hops_of}
-use Rattle.header.specs.Text.{on_first, fields, others_of, starts_q, hop_refused, hop_named, hop_of, read_hop, hop_then, text_hops, carried_lem, hops_text}
+use Rattle.header.specs.Header.{Hops, refused, these, before, hops_of}
+use Rattle.header.specs.Text.{on_first, fields, others_of, starts_q, hop_refused, hop_named, hop_of, read_hop, hop_then, text_hops, carried, hops_text}
 use Rattle.header.proofs.Hops.{call_heard, call_is_call, if_twice, hop_by_call}
 use Rattle.header.proofs.Stars.{starred_last, each_text, written_stars, carried_starred, carried_twice}
 use Rattle.header.proofs.TextHops.{fields_one, fields_two, fields_some, no_parts}
@@ -37,21 +37,21 @@ use Rattle.header.proofs.Marks.{unmarked_hop, heard_unmarked}
 
 -- a hop as it is written, with its star
 unfoldable pub spelled : Hop → List ℕ
-spelled h = with_star (text_of_lem h.call) (is_heard h)
+spelled h = with_star (text_of h.call) (is_heard h)
 
 -- "of paths without a callsign so spelt": like a Q element; nor may a star be part of it
 unfoldable pub reads_alike : Hop → Bool
-reads_alike h = is_qElement h || not (starts_q (spelled h) || ends_in_star (text_of_lem h.call))
+reads_alike h = is_qElement h || not (starts_q (spelled h) || ends_in_star (text_of h.call))
 
 -- a callsign with a star behind it or none
 module _ (c : Callsign) (b : Bool) where
-  spelled_call : spelled (call_hop c b) ≡ with_star (text_of_lem c) b
+  spelled_call : spelled (call_hop c b) ≡ with_star (text_of c) b
   unfolding spelled
   spelled_call = rw (call_heard c b) (unfold call_hop in refl)
 
-  apart : reads_alike (call_hop c b) ≡ true → (starts_q (with_star (text_of_lem c) b) ≡ false) × (ends_in_star (text_of_lem c) ≡ false)
+  apart : reads_alike (call_hop c b) ≡ true → (starts_q (with_star (text_of c) b) ≡ false) × (ends_in_star (text_of c) ≡ false)
   unfolding reads_alike call_hop
-  apart e = or_neither (starts_q (with_star (text_of_lem c) b)) (ends_in_star (text_of_lem c)) (not-true (starts_q (with_star (text_of_lem c) b) || ends_in_star (text_of_lem c)) (rw (call_is_call c b, spelled_call) at e))
+  apart e = or_neither (starts_q (with_star (text_of c) b)) (ends_in_star (text_of c)) (not-true (starts_q (with_star (text_of c) b) || ends_in_star (text_of c)) (rw (call_is_call c b, spelled_call) at e))
 
 call_again : (t : List ℕ) (b : Bool) → (read_text t).refusal ≡ 0 → reads_alike (call_hop (read_text t).call b) ≡ true
     → read_hop (spelled (call_hop (read_text t).call b)) ≡ record { refusal = 0; hop = unmarked_hop (call_hop (read_text t).call b) }
@@ -59,7 +59,7 @@ unfolding hop_of call_accepted unmarked_hop
 call_again t b z e =
     let c = (read_text t).call in
     let a = apart c b e in
-    ap read_hop (spelled_call c b) ∙ sym (hop_by_call false (with_star (text_of_lem c) b) (sym a.0) _ refl refl) ∙ ap hop_of (text_reads_back t z a.1 b) ∙ unfold call_hop in refl
+    ap read_hop (spelled_call c b) ∙ sym (hop_by_call false (with_star (text_of c) b) (sym a.0) _ refl refl) ∙ ap hop_of (text_reads_back t z a.1 b) ∙ unfold call_hop in refl
 
 name_again : (t : List ℕ) (b : Bool) → starts_q t ≡ true → is_qName t ≡ true → read_hop (spelled (heard_if b (q_hop t))) ≡ record { refusal = 0; hop = unmarked_hop (heard_if b (q_hop t)) }
 unfolding spelled heard_if q_hop is_heard is_qElement with_star read_hop hop_named unmarked_hop
@@ -148,14 +148,14 @@ unfolding with_zero
 zero_behind l true = (dash ∷ digit0 ∷ [], refl)
 zero_behind l false = ([], sym (append-nil l))
 
-hop_free : (t : List ℕ) → (read_hop t).refusal ≡ 0 → no_comma t ≡ true → no_comma (text_of_lem (read_hop t).hop.call) ≡ true
+hop_free : (t : List ℕ) → (read_hop t).refusal ≡ 0 → no_comma t ≡ true → no_comma (text_of (read_hop t).hop.call) ≡ true
 unfolding typed_text
 hop_free t z n =
     let c = (read_hop t).hop.call in
-    let s = star_behind (with_zero (text_of_lem c) c.had_zero_ssid) (is_heard (read_hop t).hop) in
-    let y = zero_behind (text_of_lem c) c.had_zero_ssid in
-    let whole : t ≡ text_of_lem c ++ (y.0 ++ s.0) = sym (hop_typed t z) ∙ s.1 ∙ ap (λ (l : List ℕ). l ++ s.0) y.1 ∙ append_assoc (text_of_lem c) y.0 s.0 in
-    comma_free (text_of_lem c) (none_in_front comma (text_of_lem c) (y.0 ++ s.0) (rw whole at (free_of_comma t n)))
+    let s = star_behind (with_zero (text_of c) c.had_zero_ssid) (is_heard (read_hop t).hop) in
+    let y = zero_behind (text_of c) c.had_zero_ssid in
+    let whole : t ≡ text_of c ++ (y.0 ++ s.0) = sym (hop_typed t z) ∙ s.1 ∙ ap (λ (l : List ℕ). l ++ s.0) y.1 ∙ append_assoc (text_of c) y.0 s.0 in
+    comma_free (text_of c) (none_in_front comma (text_of c) (y.0 ++ s.0) (rw whole at (free_of_comma t n)))
 
 none_starred : (k : List ℕ) → index_of comma k ≡ length k → index_of comma (k ++ star ∷ []) ≡ length (k ++ star ∷ [])
 unfolding index_of
@@ -174,11 +174,11 @@ star_free t false n = n
 
 -- ---- the parts of what is written
 
-front_part : (k : List ℕ) (w : List Hop) → no_comma k ≡ true → fields (k ++ each_text text_of_lem w) ≡ k ∷ others_of (fields (each_text text_of_lem w))
+front_part : (k : List ℕ) (w : List Hop) → no_comma k ≡ true → fields (k ++ each_text text_of w) ≡ k ∷ others_of (fields (each_text text_of w))
 unfolding each_text others_of
 front_part k [] n = rw (append-nil k) (fields_one k (free_of_comma k n) ∙ unfold fields in refl)
 front_part k (h ∷ w) n =
-    let rest = with_star (text_of_lem h.call) (is_heard h) ++ each_text text_of_lem w in
+    let rest = with_star (text_of h.call) (is_heard h) ++ each_text text_of w in
     let i : index_of comma (k ++ comma ∷ rest) ≡ length k = first_behind comma k rest (free_of_comma k n) in
     fields_two (k ++ comma ∷ rest) (omega (arith, length-append k (comma ∷ rest)))
     ∙ rw (i, take_at k (comma ∷ rest) (length k) refl, drop_past k rest) (unfold fields in refl)
@@ -189,14 +189,14 @@ front_part k (h ∷ w) n =
 
 -- a hop whose text has none
 unfoldable is_free : Hop → Bool
-is_free h = no_comma (text_of_lem h.call)
+is_free h = no_comma (text_of h.call)
 
-each_parts : (w : List Hop) → every is_free w ≡ true → others_of (fields (each_text text_of_lem w)) ≡ map spelled w
+each_parts : (w : List Hop) → every is_free w ≡ true → others_of (fields (each_text text_of w)) ≡ map spelled w
 unfolding others_of each_text spelled fields is_free
 each_parts [] e = refl
 each_parts (h ∷ w) e =
-    front_part (with_star (text_of_lem h.call) (is_heard h)) w (star_free (text_of_lem h.call) (is_heard h) (every_first is_free h w e))
-    ∙ ap {B = List (List ℕ)} (λ r. with_star (text_of_lem h.call) (is_heard h) ∷ r) (each_parts w (every_rest is_free h w e))
+    front_part (with_star (text_of h.call) (is_heard h)) w (star_free (text_of h.call) (is_heard h) (every_first is_free h w e))
+    ∙ ap {B = List (List ℕ)} (λ r. with_star (text_of h.call) (is_heard h) ∷ r) (each_parts w (every_rest is_free h w e))
 
 -- ---- the path
 
@@ -205,8 +205,8 @@ data Restarred : List Hop → List Hop → Type 0 where
   none : Restarred [] []
   more : (b : Bool) (h : Hop) {l w : List Hop} → Restarred l w → Restarred (h ∷ l) (heard_if b h ∷ w)
 
-restarred : (l : List Hop) → Restarred l (starred_last (carried_lem l))
-unfolding starred_last carried_lem
+restarred : (l : List Hop) → Restarred l (starred_last (carried l))
+unfolding starred_last carried
 restarred [] = none
 restarred (h ∷ l) = rw (if_twice (is_heard h || any_heard l) h) (more _ h (restarred l))
 
@@ -233,17 +233,17 @@ unfolding Back
 none_back k w none e = no_parts k
 
 more_back : (k : ℕ) (t : List ℕ) (l : List Hop) → (read_hop t).refusal ≡ 0 → Back k l → Back (suc k) ((read_hop t).hop ∷ l)
-unfolding Back text_hops hop_then before_lem
+unfolding Back text_hops hop_then before
 more_back k t l z f w (more b h {w = w'} r) e = rw (hop_again t b z (every_first reads_alike (heard_if b h) w' e), f w' r (every_rest reads_alike (heard_if b h) w' e))
 
 hops_again : (k : ℕ) (ts : List (List ℕ)) → every no_comma ts ≡ true → Again k (text_hops k ts)
-unfolding text_hops hop_then before_lem every is_free Again
+unfolding text_hops hop_then before every is_free Again
 hops_again zero [] n = (refl, none_back 0)
 hops_again (suc k) [] n = (refl, none_back (suc k))
 hops_again zero (t ∷ ts) n = refl
 hops_again (suc k) (t ∷ ts) n = go (eqb (read_hop t).refusal 0) refl (text_hops k ts) (hops_again k ts (every_rest no_comma t ts n))
   where
-    go : (b : Bool) → eqb (read_hop t).refusal 0 ≡ b → (w : Hops) → Again k w → Again (suc k) (cond b (before_lem (read_hop t).hop w) (refused (read_hop t).refusal))
+    go : (b : Bool) → eqb (read_hop t).refusal 0 ≡ b → (w : Hops) → Again k w → Again (suc k) (cond b (before (read_hop t).hop w) (refused (read_hop t).refusal))
     go true e (refused m) a = refl
     go true e (these l) a =
         let z = eqb-true (read_hop t).refusal 0 e in
@@ -251,27 +251,27 @@ hops_again (suc k) (t ∷ ts) n = go (eqb (read_hop t).refusal 0) refl (text_hop
     go false e w a = refl
 
 -- of a path that was read
-module _ (t : List ℕ) (l : List Hop) (e : text_hops 8 (others_of (fields t)) ≡ these l) (apart : every reads_alike (starred_last (carried_lem l)) ≡ true) where
-  path_again : text_hops 8 (others_of (fields (hops_text (carried_lem l)))) ≡ these (map unmarked_hop (starred_last (carried_lem l)))
+module _ (t : List ℕ) (l : List Hop) (e : text_hops 8 (others_of (fields t)) ≡ these l) (apart : every reads_alike (starred_last (carried l)) ≡ true) where
+  path_again : text_hops 8 (others_of (fields (hops_text (carried l)))) ≡ these (map unmarked_hop (starred_last (carried l)))
   unfolding Again Back
   path_again =
       let a : (every is_free l ≡ true) × Back 8 l = rw e at (hops_again 8 (others_of (fields t)) (others_free t)) in
-      rw (written_stars (carried_lem l), each_parts (starred_last (carried_lem l)) (restarred_free (restarred l) a.0)) (a.1 (starred_last (carried_lem l)) (restarred l) apart)
+      rw (written_stars (carried l), each_parts (starred_last (carried l)) (restarred_free (restarred l) a.0)) (a.1 (starred_last (carried l)) (restarred l) apart)
 
 -- marks and stars have nothing to do with each other
-carried_unmarked : (l : List Hop) → carried_lem (map unmarked_hop l) ≡ map unmarked_hop (carried_lem l)
-unfolding carried_lem
+carried_unmarked : (l : List Hop) → carried (map unmarked_hop l) ≡ map unmarked_hop (carried l)
+unfolding carried
 carried_unmarked [] = refl
 carried_unmarked (h ∷ l) = rw (heard_unmarked l, carried_unmarked l) (unfold heard_if is_heard is_qElement unmarked_hop in refl)
 
 -- the hops' text, read as the hops of a line are, and its stars carried back
 pub record ReadsBack (l : List Hop) : Type 0 where
   pub text : text_hops 8 (others_of (fields (hops_text l))) ≡ these (map unmarked_hop (starred_last l))
-  pub heard : carried_lem (map unmarked_hop (starred_last l)) ≡ map unmarked_hop l
+  pub heard : carried (map unmarked_hop (starred_last l)) ≡ map unmarked_hop l
 
 pub path_back : (h : Header) → PathTyped h → every reads_alike (starred_last (hops_of h.path)) ≡ true → ReadsBack (hops_of h.path)
 path_back h p apart =
-    let l = carried_lem p.typed in
+    let l = carried p.typed in
     rw p.path (record {
       text = path_again p.text p.typed p.read (rw p.path at apart);
       heard = carried_unmarked (starred_last l) ∙ ap (map unmarked_hop) (carried_starred l ∙ carried_twice p.typed);

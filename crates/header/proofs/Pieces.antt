@@ -15,17 +15,17 @@ use borrow.Author.Rules.{part_to_end}
 use borrow.Rule.Slice.PartMut.{put_mid}
 use Rattle.buffer.specs.declared.Answer.{Answer}
 use Rattle.buffer.specs.Wrote.{Wrote, ends, no_room, done_by, wrote_as, wrote}
-use Rattle.buffer.specs.Filled.{Filled, filled_lem, front_of, added}
+use Rattle.buffer.specs.Filled.{Filled, filled, front_of, added}
 use Rattle.callsign.specs.declared.AddressWritten.{AddressWritten}
 use Rattle.buffer.proofs.Filled.{added_not, added_length, added_len, added_none, first_front, added_added, place_within, put_as, put_refused}
-use Rattle.header.specs.Private.{Piece, Building, building, plain_lem, address_piece, answer_to, with_piece, with_pieces}
+use Rattle.header.specs.Private.{Piece, Building, building, plain, address_piece, answer_to, with_piece, with_pieces}
 
 -- ---- what pieces come to
 
 -- the bytes of all
-unfoldable pub bytes_of_lem : List Piece → List ℕ
-bytes_of_lem [] = []
-bytes_of_lem (p ∷ l) = p.bytes ++ bytes_of_lem l
+unfoldable pub bytes_of : List Piece → List ℕ
+bytes_of [] = []
+bytes_of (p ∷ l) = p.bytes ++ bytes_of l
 
 -- the greatest refusal
 unfoldable pub greatest : List Piece → ℕ
@@ -33,17 +33,17 @@ greatest [] = 0
 greatest (p ∷ l) = max p.refusal (greatest l)
 
 -- how many bytes are put: none of a piece that is refused
-unfoldable pub size_of_lem : Piece → ℕ
-size_of_lem p = cond (eqb p.refusal 0) (length p.bytes) 0
+unfoldable pub size_of : Piece → ℕ
+size_of p = cond (eqb p.refusal 0) (length p.bytes) 0
 
 unfoldable pub sizes : List Piece → ℕ
 sizes [] = 0
-sizes (p ∷ l) = size_of_lem p + sizes l
+sizes (p ∷ l) = size_of p + sizes l
 
-pub bytes_append : (k l : List Piece) → bytes_of_lem (k ++ l) ≡ bytes_of_lem k ++ bytes_of_lem l
-unfolding bytes_of_lem
+pub bytes_append : (k l : List Piece) → bytes_of (k ++ l) ≡ bytes_of k ++ bytes_of l
+unfolding bytes_of
 bytes_append [] l = refl
-bytes_append (p ∷ k) l = ap (λ (x : List ℕ). p.bytes ++ x) (bytes_append k l) ∙ sym (append_assoc p.bytes (bytes_of_lem k) (bytes_of_lem l))
+bytes_append (p ∷ k) l = ap (λ (x : List ℕ). p.bytes ++ x) (bytes_append k l) ∙ sym (append_assoc p.bytes (bytes_of k) (bytes_of l))
 
 pub greatest_append : (k l : List Piece) → greatest (k ++ l) ≡ max (greatest k) (greatest l)
 unfolding greatest
@@ -63,8 +63,8 @@ pieces_append b (p ∷ k) l = pieces_append (with_piece b p) k l
 
 -- ---- one piece
 
-size_accepted : (p : Piece) → p.refusal ≡ 0 → size_of_lem p ≡ length p.bytes
-unfolding size_of_lem
+size_accepted : (p : Piece) → p.refusal ≡ 0 → size_of p ≡ length p.bytes
+unfolding size_of
 size_accepted p z = rw (eq-eqb p.refusal 0 z)
 
 module _ (b : Building) (p : Piece) where
@@ -94,9 +94,9 @@ module _ (b : Building) (p : Piece) where
       go true false e = let r = leb-false _ _ e in rw (added_not b.array p.bytes r) h
       go false u e = h
 
-  module _ (room : b.array.len + size_of_lem p ≤ length b.array.bytes) where
+  module _ (room : b.array.len + size_of p ≤ length b.array.bytes) where
     piece_refusal : (with_piece b p).refusal ≡ max b.refusal p.refusal
-    unfolding with_piece answer_to size_of_lem
+    unfolding with_piece answer_to size_of
     piece_refusal = go (eqb p.refusal 0) refl room
       where
         go : (t : Bool) → eqb p.refusal 0 ≡ t → b.array.len + cond t (length p.bytes) 0 ≤ length b.array.bytes
@@ -104,8 +104,8 @@ module _ (b : Building) (p : Piece) where
         go true e h = rw (le-leb (b.array.len + length p.bytes) (length b.array.bytes) h, eqb-true p.refusal 0 e)
         go false e h = refl
 
-    piece_len : (with_piece b p).array.len ≡ b.array.len + size_of_lem p
-    unfolding with_piece size_of_lem
+    piece_len : (with_piece b p).array.len ≡ b.array.len + size_of p
+    unfolding with_piece size_of
     piece_len = go (eqb p.refusal 0) room
       where
         go : (t : Bool) → b.array.len + cond t (length p.bytes) 0 ≤ length b.array.bytes
@@ -138,20 +138,20 @@ pieces_refusal b (p ∷ l) h =
     let q = pieces_refusal (with_piece b p) l (room_behind b p l h) in
     omega arith
 
-pub sizes_accepted : (l : List Piece) → greatest l ≡ 0 → sizes l ≡ length (bytes_of_lem l)
-unfolding greatest sizes bytes_of_lem
+pub sizes_accepted : (l : List Piece) → greatest l ≡ 0 → sizes l ≡ length (bytes_of l)
+unfolding greatest sizes bytes_of
 sizes_accepted [] z = refl
-sizes_accepted (p ∷ l) z = omega (arith, size_accepted p (omega arith), sizes_accepted l (omega arith), length-append p.bytes (bytes_of_lem l))
+sizes_accepted (p ∷ l) z = omega (arith, size_accepted p (omega arith), sizes_accepted l (omega arith), length-append p.bytes (bytes_of l))
 
-pieces_there : (b : Building) (l : List Piece) → b.array.len + sizes l ≤ length b.array.bytes → greatest l ≡ 0 → (with_pieces b l).array ≡ added b.array (bytes_of_lem l)
-unfolding with_pieces greatest sizes bytes_of_lem
+pieces_there : (b : Building) (l : List Piece) → b.array.len + sizes l ≤ length b.array.bytes → greatest l ≡ 0 → (with_pieces b l).array ≡ added b.array (bytes_of l)
+unfolding with_pieces greatest sizes bytes_of
 pieces_there b [] h z = added_none b.array
 pieces_there b (p ∷ l) h z =
     let f : p.refusal ≡ 0 = omega arith in
     let g : greatest l ≡ 0 = omega arith in
     pieces_there (with_piece b p) l (room_behind b p l h) g
-    ∙ ap (λ (f : Filled). added f (bytes_of_lem l)) (accepted b p f)
-    ∙ added_added b.array p.bytes (bytes_of_lem l) (omega (arith, size_accepted p f, sizes_accepted l g))
+    ∙ ap (λ (f : Filled). added f (bytes_of l)) (accepted b p f)
+    ∙ added_added b.array p.bytes (bytes_of l) (omega (arith, size_accepted p f, sizes_accepted l g))
 
 -- ---- what is put from the array's start goes out
 
@@ -163,19 +163,19 @@ module _ (v t : List ℕ) (r n : ℕ) (l : List Piece) (q : building r t n ≡ w
     put_refusal : r ≡ greatest l
     put_refusal = omega (arith, ap (λ (b : Building). b.refusal) q, pieces_refusal (building 0 v 0) l (omega arith))
 
-    put_front : greatest l ≡ 0 → take n t ≡ bytes_of_lem l
+    put_front : greatest l ≡ 0 → take n t ≡ bytes_of l
     unfolding front_of
     put_front z =
         ap (λ (b : Building). front_of b.array) q
         ∙ ap front_of (pieces_there (building 0 v 0) l (omega arith) z)
-        ∙ first_front v (bytes_of_lem l) (omega (arith, sizes_accepted l z))
+        ∙ first_front v (bytes_of l) (omega (arith, sizes_accepted l z))
 
     -- refused as the worst of them is, or with the bytes of all
-    pub put_out : (w : Wrote) (out : List ℕ) → w ≡ wrote r (take n t) out → w ≡ wrote (greatest l) (bytes_of_lem l) out
+    pub put_out : (w : Wrote) (out : List ℕ) → w ≡ wrote r (take n t) out → w ≡ wrote (greatest l) (bytes_of l) out
     unfolding wrote wrote_as
     put_out w out e = e ∙ rw put_refusal (go (greatest l) refl)
       where
-        go : (k : ℕ) → greatest l ≡ k → wrote k (take n t) out ≡ wrote k (bytes_of_lem l) out
+        go : (k : ℕ) → greatest l ≡ k → wrote k (take n t) out ≡ wrote k (bytes_of l) out
         go zero z = ap (λ (x : List ℕ). wrote 0 x out) (put_front z)
         go (suc k) z = refl
 
@@ -196,7 +196,7 @@ answers zero bytes out = go (ltb (length out) (length bytes)) refl
 answers (suc k) bytes out = rw (ne_eqb (suc k) 0 (λ z. omega arith))
 
 module _ (v : List ℕ) (at : ℕ) (w : Answer) (left : List ℕ) (p : Piece) (h : at ≤ length v) (sent : ends w left ≡ wrote p.refusal p.bytes (take (length v - at) (drop at v))) where
-  its_answer : w.refusal ≡ answer_to (filled_lem v at) p
+  its_answer : w.refusal ≡ answer_to (filled v at) p
   unfolding answer_to
   its_answer =
       ap (λ (x : Wrote). x.answer.refusal) sent
@@ -210,17 +210,17 @@ module _ (v : List ℕ) (at : ℕ) (w : Answer) (left : List ℕ) (p : Piece) (h
       go true e = let k = leb-true (at + length p.bytes) (length v) e in rw long (le-leb (length p.bytes) (length v - at) (omega arith))
       go false e = let k = leb-false (at + length p.bytes) (length v) e in rw long (lt-leb (length p.bytes) (length v - at) (omega arith))
 
-  its_array : filled_lem (put_mid at (length v - at) v left) (at + w.reported) ≡ cond (eqb p.refusal 0) (added (filled_lem v at) p.bytes) (filled_lem v at)
+  its_array : filled (put_mid at (length v - at) v left) (at + w.reported) ≡ cond (eqb p.refusal 0) (added (filled v at) p.bytes) (filled v at)
   its_array = go (eqb p.refusal 0) refl
     where
-      go : (t : Bool) → eqb p.refusal 0 ≡ t → filled_lem (put_mid at (length v - at) v left) (at + w.reported) ≡ cond t (added (filled_lem v at) p.bytes) (filled_lem v at)
+      go : (t : Bool) → eqb p.refusal 0 ≡ t → filled (put_mid at (length v - at) v left) (at + w.reported) ≡ cond t (added (filled v at) p.bytes) (filled v at)
       go true e = put_as p.bytes v left at p.refusal w h sent (eqb-true p.refusal 0 e)
       go false e = put_refused p.bytes v left at p.refusal w h sent (eqb-false p.refusal 0 e)
 
   pub piece_put : (r k : ℕ) → k ≡ max r w.refusal → building k (put_mid at (length v - at) v left) (at + w.reported) ≡ with_piece (building r v at) p
   unfolding with_piece
   piece_put r k e =
-      let x : k ≡ max r (answer_to (filled_lem v at) p) = e ∙ rw its_answer in
+      let x : k ≡ max r (answer_to (filled v at) p) = e ∙ rw its_answer in
       let y = its_array in
       λ i. record { refusal = x i; array = y i }
 
@@ -234,12 +234,12 @@ pub piece_refused : (v : List ℕ) (at r k : ℕ) (p : Piece) → (p.refusal ≡
 unfolding with_piece answer_to
 piece_refused v at r k p z e = rw (ne_eqb p.refusal 0 z, e)
 
-pub nothing_put : (v : List ℕ) (at r : ℕ) (p : Piece) → at ≤ length v → p ≡ plain_lem [] → building r v at ≡ with_piece (building r v at) p
+pub nothing_put : (v : List ℕ) (at r : ℕ) (p : Piece) → at ≤ length v → p ≡ plain [] → building r v at ≡ with_piece (building r v at) p
 unfolding with_piece answer_to
 nothing_put v at r p h e =
     let n : at + length {A = ℕ} [] ≡ at = omega arith in
     let m : r ≡ max r 0 = omega arith in
-    rw (e, n, le-leb at (length v) h, ← added_none (filled_lem v at)) (λ i. record { refusal = m i; array = filled_lem v at })
+    rw (e, n, le-leb at (length v) h, ← added_none (filled v at)) (λ i. record { refusal = m i; array = filled v at })
 
 -- ---- an address, which its writer gives whole
 
@@ -247,5 +247,5 @@ module _ (v : List ℕ) (at r : ℕ) (a d : AddressWritten) (q : a ≡ d) where
   pub address_refused_lem : (k : ℕ) → (a.refusal ≡ 0 → ⊥) → k ≡ max r a.refusal → building k v at ≡ with_piece (building r v at) (address_piece d)
   address_refused_lem k z e = rw (← q) (piece_refused v at r k (address_piece a) z e)
 
-  pub address_put : (b : Building) → a.refusal ≡ 0 → b ≡ with_piece (building r v at) (plain_lem a.bytes) → b ≡ with_piece (building r v at) (address_piece d)
+  pub address_put : (b : Building) → a.refusal ≡ 0 → b ≡ with_piece (building r v at) (plain a.bytes) → b ≡ with_piece (building r v at) (address_piece d)
   address_put b z e = e ∙ ap (λ (n : ℕ). with_piece (building r v at) (record { refusal = n; bytes = a.bytes })) (sym z) ∙ ap (λ (x : AddressWritten). with_piece (building r v at) (address_piece x)) q

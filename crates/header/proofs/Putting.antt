@@ -15,7 +15,7 @@ use Rattle.header.specs.declared.Hop.{Hop}
 use Rattle.header.specs.declared.Put.{Put}
 use Rattle.header.specs.Hop.{is_heard, is_qElement, is_call, calls_of, any_heard}
 use Rattle.header.specs.Frame.{is_none}
-use Rattle.header.specs.Private.{Piece, Building, building, plain_lem, hop_piece, hop_address_piece, hop_address_pieces, with_piece, with_pieces, is_sought, up_to, hop_pieces}
+use Rattle.header.specs.Private.{Piece, Building, building, plain, hop_piece, hop_address_piece, hop_address_pieces, with_piece, with_pieces, is_sought, up_to, hop_pieces}
 use Rattle.header.proofs.Last.{last_at, none_found}
 use Rattle.header.proofs.Pieces.{piece_within, piece_length, pieces_within, pieces_append}
 
@@ -93,21 +93,21 @@ module _ (v₀ : List ℕ) (p₀ : Put) (hops : List Hop) (n : ℕ) (v : List �
       let m : length (take n hops) ≡ n = length-take-le n hops (omega arith) in
       rw (el, add-one) (last_at is_heard (take n hops) i d (omega arith) ∙ rw (get_or-take n hops i d lt))
 
-  spelled : hop_pieces (slice i n hops) ≡ (plain_lem (comma ∷ []) ∷ hop_piece (get_or hops i d) (eqb (i + 1) last) ∷ []) ++ hop_pieces (slice (i + 1) n hops)
+  spelled : hop_pieces (slice i n hops) ≡ (plain (comma ∷ []) ∷ hop_piece (get_or hops i d) (eqb (i + 1) last) ∷ []) ++ hop_pieces (slice (i + 1) n hops)
   unfolding hop_pieces
   spelled = let k = g.few in rw (slice-cons i n hops d lt (omega arith), starred, add-one)
 
   pub hop_put : (r₁ n₁ : ℕ) (v₁ v₂ : List ℕ) (p₂ : Put)
-      → building r₁ v₁ n₁ ≡ with_piece (building p.refusal v p.at) (plain_lem (comma ∷ []))
+      → building r₁ v₁ n₁ ≡ with_piece (building p.refusal v p.at) (plain (comma ∷ []))
       → building p₂.refusal v₂ p₂.at ≡ with_piece (building r₁ v₁ n₁) (hop_piece (get_or hops i d) (eqb (i + 1) last))
       → Putting hop_pieces v₀ p₀ hops n v₂ p₂ (i + 1)
   unfolding with_pieces
   hop_put r₁ n₁ v₁ v₂ p₂ q₁ q₂ =
       let c = hop_piece (get_or hops i d) (eqb (i + 1) last) in
-      let w = place_behind p.refusal p.at r₁ n₁ v v₁ (plain_lem (comma ∷ [])) q₁ g.within in
-      let s₁ : length v₁ ≡ length v = ap (λ (b : Building). length b.array.bytes) q₁ ∙ piece_length (building p.refusal v p.at) (plain_lem (comma ∷ [])) in
+      let w = place_behind p.refusal p.at r₁ n₁ v v₁ (plain (comma ∷ [])) q₁ g.within in
+      let s₁ : length v₁ ≡ length v = ap (λ (b : Building). length b.array.bytes) q₁ ∙ piece_length (building p.refusal v p.at) (plain (comma ∷ [])) in
       let s₂ : length v₂ ≡ length v₁ = ap (λ (b : Building). length b.array.bytes) q₂ ∙ piece_length (building r₁ v₁ n₁) c in
-      more hop_pieces v₀ p₀ hops n v p i g v₂ p₂ (plain_lem (comma ∷ []) ∷ c ∷ []) lt spelled (s₂ ∙ s₁) (place_behind r₁ n₁ p₂.refusal p₂.at v₁ v₂ c q₂ w)
+      more hop_pieces v₀ p₀ hops n v p i g v₂ p₂ (plain (comma ∷ []) ∷ c ∷ []) lt spelled (s₂ ∙ s₁) (place_behind r₁ n₁ p₂.refusal p₂.at v₁ v₂ c q₂ w)
       (λ x. ap (λ (b : Building). with_pieces (with_piece b c) x) (sym q₁) ∙ ap (λ (b : Building). with_pieces b x) (sym q₂))
 
 -- ---- as addresses
@@ -134,8 +134,8 @@ q_piece h a b e = rw e
 module _ (v₀ : List ℕ) (p₀ : Put) (hops : List Hop) (n : ℕ) (v : List ℕ) (p : Put) (i : ℕ) (g : Putting hop_address_pieces v₀ p₀ hops n v p i)
     (d : Hop) (last : ℕ) (lt : i < n) (f : length hops ≡ 8) (el : last ≡ up_to is_call (take n hops)) where
   -- a callsign is the last where no other follows
-  is_last_lem : is_qElement (get_or hops i d) ≡ false → eqb (i + 1) last ≡ is_none (calls_of (slice (i + 1) n hops))
-  is_last_lem q =
+  is_last : is_qElement (get_or hops i d) ≡ false → eqb (i + 1) last ≡ is_none (calls_of (slice (i + 1) n hops))
+  is_last q =
       let k = g.few in
       let m : length (take n hops) ≡ n = length-take-le n hops (omega arith) in
       rw (el, add-one) (last_at is_call (take n hops) i d (omega arith) ∙ rw (get_or-take n hops i d lt, q) (none_called (slice (suc i) n hops)))
@@ -145,7 +145,7 @@ module _ (v₀ : List ℕ) (p₀ : Put) (hops : List Hop) (n : ℕ) (v : List �
     where
       go : (k : Bool) → is_qElement (get_or hops i d) ≡ k → hop_address_piece (get_or hops i d) (is_none (calls_of (slice (i + 1) n hops))) ≡ hop_address_piece (get_or hops i d) (eqb (i + 1) last)
       go true q = q_piece (get_or hops i d) _ _ q
-      go false q = ap (hop_address_piece (get_or hops i d)) (sym (is_last_lem q))
+      go false q = ap (hop_address_piece (get_or hops i d)) (sym (is_last q))
 
   addressed : hop_address_pieces (slice i n hops) ≡ (hop_address_piece (get_or hops i d) (eqb (i + 1) last) ∷ []) ++ hop_address_pieces (slice (i + 1) n hops)
   unfolding hop_address_pieces

@@ -16,11 +16,11 @@ use lib.Seq.{length-take-le, set_at, get_or_at, append_snoc, take-suc, slice, sl
 use Rattle.laws.specs.Bytes.{comma}
 use Rattle.laws.specs.Lists.{any_of}
 use Rattle.callsign.specs.declared.Callsign.{Callsign}
-use Rattle.callsign.specs.Range.{text_of_lem, with_star}
+use Rattle.callsign.specs.Range.{text_of, with_star}
 use Rattle.callsign.specs.Packed.{bit}
 use Rattle.header.specs.declared.Hop.{Hop}
 use Rattle.header.specs.Hop.{was_heard, q_element, is_heard, is_qElement, calls_of, heard_if, any_heard}
-use Rattle.header.specs.Text.{stars_of, carried_lem, hops_text}
+use Rattle.header.specs.Text.{stars_of, carried, hops_text}
 use Rattle.header.specs.Private.{carried_kind, starred_read}
 use Rattle.header.proofs.Hops.{heard_is_call, heard_among_calls, q_unheard, if_q, if_heard, if_twice, if_call}
 use Rattle.header.proofs.Typed.{stars_below}
@@ -29,7 +29,7 @@ use Rattle.header.proofs.Typed.{stars_below}
 
 -- what the array holds then
 unfoldable pub Back : List Hop → ℕ → ℕ → List Hop
-Back l n i = take i l ++ (carried_lem (slice i n l) ++ drop n l)
+Back l n i = take i l ++ (carried (slice i n l) ++ drop n l)
 
 pub record Carrying (l : List Hop) (n : ℕ) (out : List Hop) (stars : ℕ) (heard : Bool) (i : ℕ) : Type 0 where
   pub few : n ≤ 8
@@ -40,7 +40,7 @@ pub record Carrying (l : List Hop) (n : ℕ) (out : List Hop) (stars : ℕ) (hea
   pub some : heard ≡ any_heard (slice i n l)
 
 pub carrying_start : (l : List Hop) (n : ℕ) → n ≤ 8 → length l ≡ 8 → Carrying l n l 0 false n
-unfolding carried_lem Back stars_of any_of
+unfolding carried Back stars_of any_of
 carrying_start l n k f = record { few = k; full = f; up = omega arith; held = rw slice_empty (sym (take-append-drop n l)); typed = rw slice_empty; some = rw slice_empty }
 
 -- the number has room for one star more
@@ -61,7 +61,7 @@ module _ (l : List Hop) (n : ℕ) (out : List Hop) (stars : ℕ) (heard : Bool) 
   star_fits false = let r = room in record { fits = omega arith }
 
 module _ (l : List Hop) (n j : ℕ) (d : Hop) (m : j < n) (h : n ≤ length l) where
-  open_at : Back l n (suc j) ≡ take j l ++ get_or l j d ∷ (carried_lem (slice (suc j) n l) ++ drop n l)
+  open_at : Back l n (suc j) ≡ take j l ++ get_or l j d ∷ (carried (slice (suc j) n l) ++ drop n l)
   unfolding Back
   open_at = rw (take-suc l j d (omega arith)) (append_snoc (take j l) (get_or l j d) _)
 
@@ -72,7 +72,7 @@ module _ (l : List Hop) (n j : ℕ) (d : Hop) (m : j < n) (h : n ≤ length l) w
   back_get = rw open_at (get_or_at (take j l) (get_or l j d) _ d j long)
 
   back_set : (v : Hop) → v ≡ heard_if (is_heard (get_or l j d) || any_heard (slice (suc j) n l)) (get_or l j d) → set (Back l n (suc j)) j v ≡ Back l n j
-  unfolding carried_lem
+  unfolding carried
   back_set v e = rw open_at (set_at (take j l) (get_or l j d) _ v j long ∙ unfold Back in rw (slice-cons j n l d m h, e))
 
   back_stars : stars_of (slice j n l) ≡ bit (is_heard (get_or l j d)) + 2 * stars_of (slice (suc j) n l)
@@ -139,7 +139,7 @@ each_text text (h ∷ l) = comma ∷ (with_star (text h.call) (is_heard h) ++ ea
 starred_one : (h : Hop) (b : Bool) → is_heard (heard_if (is_heard h && b) h) ≡ (is_heard h && b)
 starred_one h b = if_heard (is_heard h && b) h ∙ heard_is_call h b
 
-pub written_stars : (l : List Hop) → hops_text l ≡ each_text text_of_lem (starred_last l)
+pub written_stars : (l : List Hop) → hops_text l ≡ each_text text_of (starred_last l)
 unfolding hops_text each_text starred_last
 written_stars [] = refl
 written_stars (h ∷ l) = rw (starred_one h (not (any_heard l)), written_stars l) (unfold heard_if in refl)
@@ -155,8 +155,8 @@ unfolding any_of starred_last
 any_starred [] = refl
 any_starred (h ∷ l) = rw (starred_one h (not (any_heard l)), any_starred l) (one_or (is_heard h) (any_heard l))
 
-pub carried_starred : (l : List Hop) → carried_lem (starred_last l) ≡ carried_lem l
-unfolding carried_lem starred_last
+pub carried_starred : (l : List Hop) → carried (starred_last l) ≡ carried l
+unfolding carried starred_last
 carried_starred [] = refl
 carried_starred (h ∷ l) =
     rw (if_twice (is_heard h && not (any_heard l)) h, starred_one h (not (any_heard l)), any_starred l, one_or (is_heard h) (any_heard l), carried_starred l)
@@ -166,8 +166,8 @@ or_twice true b = refl
 or_twice false true = refl
 or_twice false false = refl
 
-any_carried : (l : List Hop) → any_heard (carried_lem l) ≡ any_heard l
-unfolding any_of carried_lem
+any_carried : (l : List Hop) → any_heard (carried l) ≡ any_heard l
+unfolding any_of carried
 any_carried [] = refl
 any_carried (h ∷ l) = rw (if_heard (is_heard h || any_heard l) h, any_carried l) (go (is_qElement h) refl)
   where
@@ -175,8 +175,8 @@ any_carried (h ∷ l) = rw (if_heard (is_heard h || any_heard l) h, any_carried 
     go true e = rw (q_unheard h e)
     go false e = or_twice (is_heard h) (any_heard l)
 
-pub carried_twice : (l : List Hop) → carried_lem (carried_lem l) ≡ carried_lem l
-unfolding carried_lem
+pub carried_twice : (l : List Hop) → carried (carried l) ≡ carried l
+unfolding carried
 carried_twice [] = refl
 carried_twice (h ∷ l) =
     rw (
@@ -209,16 +209,16 @@ q_stays b h e =
     let q : q_element ≡ h.kind = sym (eqb-true h.kind q_element e) in
     rw e (λ i. record { call = h.call; kind = q i })
 
-pub carried_stays : (l : List Hop) (i : ℕ) (d : Hop) → i < length l → is_qElement (get_or l i d) ≡ true → get_or (carried_lem l) i d ≡ get_or l i d
-unfolding carried_lem
+pub carried_stays : (l : List Hop) (i : ℕ) (d : Hop) → i < length l → is_qElement (get_or l i d) ≡ true → get_or (carried l) i d ≡ get_or l i d
+unfolding carried
 carried_stays [] i d h e = absurd (not-suc-le-zero h)
 carried_stays (x ∷ l) zero d h e = q_stays (is_heard x || any_heard l) x e
 carried_stays (x ∷ l) (suc i) d h e = carried_stays l i d (le_of_suc-le-suc h) e
 
 -- the callsigns are heard as if there were no Q elements
-pub calls_carried : (l : List Hop) → calls_of (carried_lem l) ≡ carried_lem (calls_of l)
-unfolding carried_lem
-calls_carried = calls_by carried_lem (λ h l. is_heard h || any_heard l) refl (λ h l. refl) (λ h l. rw (heard_among_calls l))
+pub calls_carried : (l : List Hop) → calls_of (carried l) ≡ carried (calls_of l)
+unfolding carried
+calls_carried = calls_by carried (λ h l. is_heard h || any_heard l) refl (λ h l. refl) (λ h l. rw (heard_among_calls l))
 
 -- and starred so
 pub calls_starred : (l : List Hop) → calls_of (starred_last l) ≡ starred_last (calls_of l)

@@ -14,7 +14,7 @@ use Rattle.buffer.specs.declared.Answer.{Answer}
 use Rattle.buffer.specs.Wrote.{Wrote, ends, refused_by, wrote}
 use Rattle.buffer.proofs.Wrote.{passed_on}
 use Rattle.callsign.specs.declared.Callsign.{Callsign}
-use Rattle.callsign.specs.Range.{in_range, range_refusal, text_of_lem, with_star}
+use Rattle.callsign.specs.Range.{in_range, range_refusal, text_of, with_star}
 use Rattle.callsign.proofs.Ranges.{text_short, star_short}
 use Rattle.header.specs.declared.Hop.{Hop}
 use Rattle.header.specs.declared.Header.{Header}
@@ -22,8 +22,8 @@ use Rattle.header.specs.Hop.{is_heard, any_heard}
 use Rattle.header.specs.Header.{hops_of}
 use Rattle.header.specs.Text.{hops_text, route_text, header_text}
 use Rattle.header.specs.Range.{hop_in_range, header_in_range, text_refusal}
-use Rattle.header.specs.Private.{Building, is_tidy, building, plain_lem, call_piece, hop_piece, with_piece, with_pieces, end_pieces, hop_pieces, text_pieces}
-use Rattle.header.proofs.Pieces.{bytes_of_lem, greatest, size_of_lem, sizes, bytes_append, greatest_append, sizes_append, sizes_accepted, put_out}
+use Rattle.header.specs.Private.{Building, is_tidy, building, plain, call_piece, hop_piece, with_piece, with_pieces, end_pieces, hop_pieces, text_pieces}
+use Rattle.header.proofs.Pieces.{bytes_of, greatest, size_of, sizes, bytes_append, greatest_append, sizes_append, sizes_accepted, put_out}
 use Rattle.header.proofs.Putting.{all_put}
 use Rattle.header.proofs.InRange.{call_fine, tidy_count, judged_tidy, path_tidy, untidy_out, tidy_range}
 
@@ -44,11 +44,11 @@ pub text_judged : (h : Header) → is_tidy h.path ≡ true → greatest (text_pi
 unfolding text_pieces greatest text_refusal range_refusal
 text_judged h e =
     rw (tidy_range h e)
-    (go (in_range h.from) (in_range h.to) (every hop_in_range (hops_of h.path)) (hops_judged (hops_of h.path)) (greatest_append (hop_pieces (hops_of h.path)) (plain_lem (colon ∷ []) ∷ [])))
+    (go (in_range h.from) (in_range h.to) (every hop_in_range (hops_of h.path)) (hops_judged (hops_of h.path)) (greatest_append (hop_pieces (hops_of h.path)) (plain (colon ∷ []) ∷ [])))
   where
     go : (a b d : Bool) → greatest (hop_pieces (hops_of h.path)) ≡ cond d 0 15
-        → greatest (hop_pieces (hops_of h.path) ++ plain_lem (colon ∷ []) ∷ []) ≡ max (greatest (hop_pieces (hops_of h.path))) 0
-        → max (cond a 0 15) (max 0 (max (cond b 0 15) (greatest (hop_pieces (hops_of h.path) ++ plain_lem (colon ∷ []) ∷ [])))) ≡ cond (a && (b && d)) 0 15
+        → greatest (hop_pieces (hops_of h.path) ++ plain (colon ∷ []) ∷ []) ≡ max (greatest (hop_pieces (hops_of h.path))) 0
+        → max (cond a 0 15) (max 0 (max (cond b 0 15) (greatest (hop_pieces (hops_of h.path) ++ plain (colon ∷ []) ∷ [])))) ≡ cond (a && (b && d)) 0 15
     go true true true p q = omega arith
     go true true false p q = omega arith
     go true false true p q = omega arith
@@ -60,38 +60,38 @@ text_judged h e =
 
 -- ---- bytes
 
-hops_spelled : (l : List Hop) → bytes_of_lem (hop_pieces l) ≡ hops_text l
-unfolding hop_pieces bytes_of_lem hops_text
+hops_spelled : (l : List Hop) → bytes_of (hop_pieces l) ≡ hops_text l
+unfolding hop_pieces bytes_of hops_text
 hops_spelled [] = refl
-hops_spelled (h ∷ l) = ap (λ (x : List ℕ). comma ∷ (with_star (text_of_lem h.call) (is_heard h && not (any_heard l)) ++ x)) (hops_spelled l)
+hops_spelled (h ∷ l) = ap (λ (x : List ℕ). comma ∷ (with_star (text_of h.call) (is_heard h && not (any_heard l)) ++ x)) (hops_spelled l)
 
-pub text_spelled : (h : Header) → bytes_of_lem (text_pieces h) ≡ header_text h
-unfolding text_pieces bytes_of_lem with_star header_text route_text
+pub text_spelled : (h : Header) → bytes_of (text_pieces h) ≡ header_text h
+unfolding text_pieces bytes_of with_star header_text route_text
 text_spelled h =
     let hops = hops_text (hops_of h.path) in
-    rw (bytes_append (hop_pieces (hops_of h.path)) (plain_lem (colon ∷ []) ∷ []), hops_spelled (hops_of h.path))
-    (sym (append_assoc (text_of_lem h.from) (greater ∷ (text_of_lem h.to ++ hops)) (colon ∷ [])
-    ∙ ap (λ (x : List ℕ). text_of_lem h.from ++ greater ∷ x) (append_assoc (text_of_lem h.to) hops (colon ∷ []))))
+    rw (bytes_append (hop_pieces (hops_of h.path)) (plain (colon ∷ []) ∷ []), hops_spelled (hops_of h.path))
+    (sym (append_assoc (text_of h.from) (greater ∷ (text_of h.to ++ hops)) (colon ∷ [])
+    ∙ ap (λ (x : List ℕ). text_of h.from ++ greater ∷ x) (append_assoc (text_of h.to) hops (colon ∷ []))))
 
 -- ---- how many
 
-plain_size : (l : List ℕ) → size_of_lem (plain_lem l) ≡ length l
-unfolding size_of_lem
+plain_size : (l : List ℕ) → size_of (plain l) ≡ length l
+unfolding size_of
 plain_size l = refl
 
-call_size : (c : Callsign) → size_of_lem (call_piece c false) ≤ 16
-unfolding size_of_lem with_star range_refusal
+call_size : (c : Callsign) → size_of (call_piece c false) ≤ 16
+unfolding size_of with_star range_refusal
 call_size c = go (in_range c) refl
   where
-    go : (b : Bool) → in_range c ≡ b → cond (eqb (cond b 0 15) 0) (length (text_of_lem c)) 0 ≤ 16
+    go : (b : Bool) → in_range c ≡ b → cond (eqb (cond b 0 15) 0) (length (text_of c)) 0 ≤ 16
     go true e = text_short c e
     go false e = omega arith
 
-hop_size : (h : Hop) (starred : Bool) → size_of_lem (hop_piece h starred) ≤ 17
-unfolding size_of_lem
+hop_size : (h : Hop) (starred : Bool) → size_of (hop_piece h starred) ≤ 17
+unfolding size_of
 hop_size h starred = go (hop_in_range h) refl
   where
-    go : (b : Bool) → hop_in_range h ≡ b → cond (eqb (cond b 0 15) 0) (length (with_star (text_of_lem h.call) starred)) 0 ≤ 17
+    go : (b : Bool) → hop_in_range h ≡ b → cond (eqb (cond b 0 15) 0) (length (with_star (text_of h.call) starred)) 0 ≤ 17
     go true e = star_short h.call starred (call_fine h e)
     go false e = omega arith
 
@@ -101,18 +101,18 @@ hops_size [] = omega arith
 hops_size (h ∷ l) =
     let a = hop_size h (is_heard h && not (any_heard l)) in
     let b = hops_size l in
-    let d : size_of_lem (plain_lem (comma ∷ [])) ≡ 1 = plain_size (comma ∷ []) in
+    let d : size_of (plain (comma ∷ [])) ≡ 1 = plain_size (comma ∷ []) in
     omega arith
 
 pub text_size : (h : Header) → is_tidy h.path ≡ true → sizes (text_pieces h) ≤ 178
-unfolding text_pieces sizes size_of_lem hops_of
+unfolding text_pieces sizes size_of hops_of
 text_size h e =
     let m = tidy_count h.path e in
     let k = length-take h.path.count h.path.hops in
     let a = call_size h.from in
     let b = call_size h.to in
     let d = hops_size (hops_of h.path) in
-    let f = sizes_append (hop_pieces (hops_of h.path)) (plain_lem (colon ∷ []) ∷ []) in
+    let f = sizes_append (hop_pieces (hops_of h.path)) (plain (colon ∷ []) ∷ []) in
     omega arith
 
 -- a header in range is at most 178 bytes of text
@@ -126,9 +126,9 @@ text_bound h e =
 -- ---- the writer's answers
 
 pub text_put : (h : Header) (b b₁ b₂ b₃ : Building) → b₁ ≡ with_pieces b (end_pieces h.from h.to) → b₂ ≡ with_pieces b₁ (hop_pieces (take h.path.count h.path.hops))
-    → b₃ ≡ with_piece b₂ (plain_lem (colon ∷ [])) → b₃ ≡ with_pieces b (text_pieces h)
+    → b₃ ≡ with_piece b₂ (plain (colon ∷ [])) → b₃ ≡ with_pieces b (text_pieces h)
 unfolding text_pieces hops_of
-text_put h b b₁ b₂ b₃ = all_put b b₁ b₂ b₃ (end_pieces h.from h.to) (hop_pieces (hops_of h.path)) (plain_lem (colon ∷ []))
+text_put h b b₁ b₂ b₃ = all_put b b₁ b₂ b₃ (end_pieces h.from h.to) (hop_pieces (hops_of h.path)) (plain (colon ∷ []))
 
 pub text_untidy : (u : Bool) (h : Header) (r : Answer) (out : List ℕ) → u ≡ is_tidy h.path → not u ≡ true → r ≡ refused_by 15 → ends r out ≡ wrote (text_refusal h) (header_text h) out
 unfolding text_refusal

@@ -11,16 +11,16 @@ use lib.ListN.{length, get_or}
 use Rattle.laws.specs.Bytes.{within, star, comma}
 use Rattle.laws.specs.Lists.{index_of, every, any_of, pad_to}
 use Rattle.laws.proofs.Unique.{alike_without}
-use Rattle.callsign.specs.Utf8.{after_lem, characters, utf8}
-use Rattle.callsign.specs.Text.{joined_lem, made_lem, is_zero, call_accepted, parted_lem, read_unstarred, read_text}
+use Rattle.callsign.specs.Utf8.{after, characters, utf8}
+use Rattle.callsign.specs.Text.{joined, made, is_zero, call_accepted, parted, read_unstarred, read_text}
 use Rattle.callsign.specs.Packed.{bit}
-use Rattle.callsign.specs.Range.{call_part, ssid_part, text_of_lem, with_star}
+use Rattle.callsign.specs.Range.{call_part, ssid_part, text_of, with_star}
 use Rattle.callsign.proofs.AddressBack.{in_address}
 use Rattle.header.specs.declared.Hop.{Hop}
 use Rattle.header.specs.declared.Header.{Header}
 use Rattle.header.specs.Hop.{heard_as, call_hop, is_heard, is_qElement, calls_of, heard_if}
-use Rattle.header.specs.Header.{most_bytes, blank_hop, these, before_lem, path_of, hops_of, blank_header, header_refused, header_accepted}
-use Rattle.header.specs.Text.{on_first, fields, starts_q, hop_of, read_hop, hop_then, text_hops, stars_of, carried_lem, read_header_text, read_text_header, hops_text, header_text}
+use Rattle.header.specs.Header.{most_bytes, blank_hop, these, before, path_of, hops_of, blank_header, header_refused, header_accepted}
+use Rattle.header.specs.Text.{on_first, fields, starts_q, hop_of, read_hop, hop_then, text_hops, stars_of, carried, read_header_text, read_text_header, hops_text, header_text}
 use Rattle.header.specs.Frame.{read_frame_header, header_frame}
 use Rattle.header.specs.Range.{header_in_range, text_refusal, frame_refusal}
 use Rattle.header.proofs.Hops.{q_unheard}
@@ -112,17 +112,17 @@ pub frame_has_no_stars : (s : List ℕ) → (read_frame_header s).stars ≡ 0
 frame_has_no_stars s = answered_starless InFrame s (frame_answered s)
 
 -- a text's hops are written with one star, and carrying it back gives the same hops heard
-pub stars_are_kept : (l : List Hop) → (hops_text (carried_lem l) ≡ each_text text_of_lem (starred_last (carried_lem l))) × (carried_lem (starred_last (carried_lem l)) ≡ carried_lem l)
-stars_are_kept l = (written_stars (carried_lem l), carried_starred (carried_lem l) ∙ carried_twice l)
+pub stars_are_kept : (l : List Hop) → (hops_text (carried l) ≡ each_text text_of (starred_last (carried l))) × (carried (starred_last (carried l)) ≡ carried l)
+stars_are_kept l = (written_stars (carried l), carried_starred (carried l) ∙ carried_twice l)
 
 -- ---- document 02, R-7: Q elements
 
 -- "never has a star": a Q element of a path as typed stays as it is, at its place, and so it is not heard
-pub q_elements_stay : (l : List Hop) (i : ℕ) (d : Hop) → i < length l → is_qElement (get_or l i d) ≡ true → (get_or (carried_lem l) i d ≡ get_or l i d) × (is_heard (get_or (carried_lem l) i d) ≡ false)
+pub q_elements_stay : (l : List Hop) (i : ℕ) (d : Hop) → i < length l → is_qElement (get_or l i d) ≡ true → (get_or (carried l) i d ≡ get_or l i d) × (is_heard (get_or (carried l) i d) ≡ false)
 q_elements_stay l i d h e = let s = carried_stays l i d h e in (s, ap is_heard s ∙ q_unheard (get_or l i d) e)
 
 -- "is passed over when stars are carried back": the callsigns are heard, and starred again, as if there were no Q elements
-pub stars_pass_over : (l : List Hop) → (calls_of (carried_lem l) ≡ carried_lem (calls_of l)) × (calls_of (starred_last l) ≡ starred_last (calls_of l))
+pub stars_pass_over : (l : List Hop) → (calls_of (carried l) ≡ carried (calls_of l)) × (calls_of (starred_last l) ≡ starred_last (calls_of l))
 stars_pass_over l = (calls_carried l, calls_starred l)
 
 -- "of paths without a callsign so spelt it holds": the path of an accepted text, if no callsign is written like a Q element or ends in a
@@ -177,7 +177,7 @@ frame_reads_back = frame_back
 -- ---- P11: hops A,B*,C: A and B heard, C not; written A,B*,C
 
 abbrev hop : ℕ → Bool → Hop
-hop letter heard = call_hop (made_lem (letter ∷ []) []) heard
+hop letter heard = call_hop (made (letter ∷ []) []) heard
 
 abbrev pub p11_text : List ℕ
 p11_text = 65 ∷ comma ∷ 66 ∷ star ∷ comma ∷ 67 ∷ []
@@ -188,8 +188,8 @@ p11_hops = hop 65 true ∷ hop 66 true ∷ hop 67 false ∷ []
 abbrev p11_typed : List Hop
 p11_typed = hop 65 false ∷ hop 66 true ∷ hop 67 false ∷ []
 
-pub p11_read : (text_hops 8 (fields p11_text) ≡ these p11_typed) × ((carried_lem p11_typed ≡ p11_hops) × (stars_of p11_typed ≡ 2))
-unfolding fields on_first text_hops hop_then before_lem read_hop starts_q hop_of read_text read_unstarred parted_lem call_accepted index_of utf8 characters after_lem within is_zero made_lem joined_lem pad_to carried_lem any_of is_heard is_qElement heard_if heard_as call_hop stars_of bit
+pub p11_read : (text_hops 8 (fields p11_text) ≡ these p11_typed) × ((carried p11_typed ≡ p11_hops) × (stars_of p11_typed ≡ 2))
+unfolding fields on_first text_hops hop_then before read_hop starts_q hop_of read_text read_unstarred parted call_accepted index_of utf8 characters after within is_zero made joined pad_to carried any_of is_heard is_qElement heard_if heard_as call_hop stars_of bit
 p11_read = (refl, (refl, refl))
 
 p11_starred : starred_last p11_hops ≡ p11_typed
@@ -197,11 +197,11 @@ unfolding starred_last any_of is_heard is_qElement heard_if heard_as call_hop
 p11_starred = refl
 
 -- with Q elements anywhere
-pub p11_anywhere : (l : List Hop) → calls_of l ≡ p11_typed → (calls_of (carried_lem l) ≡ p11_hops) × (calls_of (starred_last (carried_lem l)) ≡ p11_typed)
+pub p11_anywhere : (l : List Hop) → calls_of l ≡ p11_typed → (calls_of (carried l) ≡ p11_hops) × (calls_of (starred_last (carried l)) ≡ p11_typed)
 p11_anywhere l e =
-    let heard : calls_of (carried_lem l) ≡ p11_hops = calls_carried l ∙ ap carried_lem e ∙ p11_read.1.0 in
-    (heard, calls_starred (carried_lem l) ∙ ap starred_last heard ∙ p11_starred)
+    let heard : calls_of (carried l) ≡ p11_hops = calls_carried l ∙ ap carried e ∙ p11_read.1.0 in
+    (heard, calls_starred (carried l) ∙ ap starred_last heard ∙ p11_starred)
 
 pub p11_written : hops_text p11_hops ≡ comma ∷ p11_text
-unfolding hops_text any_of is_heard call_hop heard_as text_of_lem call_part ssid_part with_star made_lem joined_lem pad_to
+unfolding hops_text any_of is_heard call_hop heard_as text_of call_part ssid_part with_star made joined pad_to
 p11_written = refl

@@ -15,15 +15,15 @@ use Rattle.laws.proofs.Each.{every_first, every_rest}
 use Rattle.callsign.specs.declared.Callsign.{Callsign}
 use Rattle.callsign.specs.Text.{blank_call, read_text}
 use Rattle.callsign.specs.Address.{call, read_address}
-use Rattle.callsign.specs.Range.{in_range, text_of_lem}
+use Rattle.callsign.specs.Range.{in_range, text_of}
 use Rattle.callsign.proofs.Theorems.{text_is_in_range, address_is_in_range}
 use Rattle.callsign.proofs.Made.{blank_range}
 use Rattle.callsign.proofs.TextBack.{text_refusal_lem}
 use Rattle.callsign.proofs.AddressBack.{address_refusal}
 use Rattle.header.specs.declared.Hop.{Hop}
-use Rattle.header.specs.Header.{Hops, refused, these, before_lem, blank_hop}
+use Rattle.header.specs.Header.{Hops, refused, these, before, blank_hop}
 use Rattle.header.specs.Hop.{is_qName, not_heard, was_heard, q_element, heard_as, call_hop, is_heard, is_qElement, any_heard, heard_if}
-use Rattle.header.specs.Text.{starts_q, hop_refused, hop_named, hop_of, read_hop, hop_then, text_hops, carried_lem}
+use Rattle.header.specs.Text.{starts_q, hop_refused, hop_named, hop_of, read_hop, hop_then, text_hops, carried}
 use Rattle.header.specs.Frame.{address_hop, address_then, frame_hops}
 use Rattle.header.specs.Range.{is_some_hop, hop_in_range}
 use Rattle.header.proofs.Hops.{if_q, call_is_call, name_range}
@@ -50,8 +50,8 @@ pub data Sound (ok : ℕ → Type 0) (k : ℕ) : Hops → Type 0 where
   some : (l : List Hop) → length l ≤ k → every hop_in_range l ≡ true → Sound ok k (these l)
 
 module _ (ok : ℕ → Type 0) where
-  before_sound : (h : Hop) (k : ℕ) {w : Hops} → hop_in_range h ≡ true → Sound ok k w → Sound ok (suc k) (before_lem h w)
-  unfolding before_lem every
+  before_sound : (h : Hop) (k : ℕ) {w : Hops} → hop_in_range h ≡ true → Sound ok k w → Sound ok (suc k) (before h w)
+  unfolding before every
   before_sound h k e (none n p) = none n p
   before_sound h k e (some l m q) = some (h ∷ l) (omega arith) (rw (e, q))
 
@@ -107,14 +107,14 @@ if_range : (b : Bool) (h : Hop) → hop_in_range h ≡ true → hop_in_range (he
 unfolding hop_in_range is_some_hop
 if_range b h e = rw (if_q b h) (unfold heard_if heard_as in go (is_qElement h) b e)
   where
-    go : (k b : Bool) → (cond k (is_qName (text_of_lem h.call)) (leb h.kind was_heard) && in_range h.call) ≡ true
-        → (cond k (is_qName (text_of_lem h.call)) (leb (cond k q_element (cond b was_heard not_heard)) was_heard) && in_range h.call) ≡ true
+    go : (k b : Bool) → (cond k (is_qName (text_of h.call)) (leb h.kind was_heard) && in_range h.call) ≡ true
+        → (cond k (is_qName (text_of h.call)) (leb (cond k q_element (cond b was_heard not_heard)) was_heard) && in_range h.call) ≡ true
     go true b e = e
     go false true e = and_second (leb h.kind was_heard) (in_range h.call) e
     go false false e = and_second (leb h.kind was_heard) (in_range h.call) e
 
-pub carried_range : (l : List Hop) → every hop_in_range l ≡ true → every hop_in_range (carried_lem l) ≡ true
-unfolding every carried_lem
+pub carried_range : (l : List Hop) → every hop_in_range l ≡ true → every hop_in_range (carried l) ≡ true
+unfolding every carried
 carried_range [] e = refl
 carried_range (h ∷ l) e = rw (if_range (is_heard h || any_heard l) h (every_first hop_in_range h l e), carried_range l (every_rest hop_in_range h l e))
 

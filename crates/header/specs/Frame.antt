@@ -14,7 +14,7 @@ use Rattle.header.specs.declared.Header.{Header}
 use Rattle.header.specs.declared.Path.{Path}
 use Rattle.header.specs.declared.HeaderRead.{HeaderRead}
 use Rattle.header.specs.Hop.{call_hop, is_heard, calls_of}
-use Rattle.header.specs.Header.{most_bytes, Hops, refused, these, before_lem, path_of, hops_of, header_refused, header_accepted, unless_refused, with_hops}
+use Rattle.header.specs.Header.{most_bytes, Hops, refused, these, before, path_of, hops_of, header_refused, header_accepted, unless_refused, with_hops}
 
 -- ---- the control and protocol bytes
 
@@ -46,7 +46,7 @@ address_hop a = call_hop a.call a.heard
 unfoldable pub address_then : AddressRead → Hops → Hops
 address_then a later =
     cond (eqb a.refusal 0)
-    (before_lem (address_hop a) (cond a.last (these []) later))
+    (before (address_hop a) (cond a.last (these []) later))
     (refused a.refusal)
 
 -- the addresses at the front of s, of which so many more may come: 5, 2, 3

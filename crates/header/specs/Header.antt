@@ -59,9 +59,9 @@ pub data Hops : Type 0 where
   these : List Hop → Hops
 
 -- a hop in front of others, unless they are refused
-unfoldable pub before_lem : Hop → Hops → Hops
-before_lem h (refused n) = refused n
-before_lem h (these l) = these (h ∷ l)
+unfoldable pub before : Hop → Hops → Hops
+before h (refused n) = refused n
+before h (these l) = these (h ∷ l)
 
 -- the hops' refusal is the header's; without one, what is made of the hops
 unfoldable pub with_hops : Hops → (List Hop → HeaderRead) → HeaderRead

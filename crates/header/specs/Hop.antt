@@ -6,7 +6,7 @@ use Rattle.std.specs.Prelude.{ℕ, Bool, not, cond, List, [], ◌∷◌, eqb}
 use Rattle.laws.specs.Bytes.{capital_a, capital_c, capital_i, capital_o, capital_r, capital_s, capital_u, capital_x, capital_z, small_o, small_q, small_r}
 use Rattle.laws.specs.Lists.{any_of, same_bytes}
 use Rattle.callsign.specs.declared.Callsign.{Callsign}
-use Rattle.callsign.specs.Text.{made_lem}
+use Rattle.callsign.specs.Text.{made}
 use Rattle.header.specs.declared.Hop.{Hop}
 
 -- ---- the ten names
@@ -70,7 +70,7 @@ call_hop c heard = record { call = c; kind = heard_as heard }
 
 -- a Q element, by its name
 unfoldable pub q_hop : List ℕ → Hop
-q_hop name = record { call = made_lem name []; kind = q_element }
+q_hop name = record { call = made name []; kind = q_element }
 
 unfoldable pub is_heard : Hop → Bool
 is_heard h = eqb h.kind was_heard

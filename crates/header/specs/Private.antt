@@ -4,19 +4,19 @@
 use Rattle.std.specs.Prelude.{ℕ, suc, ◌+◌, max, Bool, true, false, not, cond, ◌&&◌, List, [], ◌∷◌, ◌++◌, length, take, drop, eqb, leb}
 use Rattle.laws.specs.Bytes.{comma, colon, greater}
 use Rattle.laws.specs.Lists.{every, any_of}
-use Rattle.buffer.specs.Filled.{Filled, filled_lem, added}
+use Rattle.buffer.specs.Filled.{Filled, filled, added}
 use Rattle.callsign.specs.declared.Callsign.{Callsign}
 use Rattle.callsign.specs.declared.AddressWritten.{AddressWritten}
 use Rattle.callsign.specs.declared.Field.TheVariants.{Destination, Source, Hop as HopField}
 use Rattle.callsign.specs.Packed.{write_address}
-use Rattle.callsign.specs.Range.{range_refusal, text_of_lem, with_star}
+use Rattle.callsign.specs.Range.{range_refusal, text_of, with_star}
 use Rattle.header.specs.declared.Hop.{Hop}
 use Rattle.header.specs.declared.Path.{Path}
 use Rattle.header.specs.declared.PathRead.{PathRead}
 use Rattle.header.specs.declared.Header.{Header}
 use Rattle.header.specs.Hop.{was_heard, q_element, heard_as, is_heard, is_qElement, is_call, calls_of, any_heard}
 use Rattle.header.specs.Header.{Hops, refused, these, path_of, hops_of}
-use Rattle.header.specs.Text.{stars_of, carried_lem}
+use Rattle.header.specs.Text.{stars_of, carried}
 use Rattle.header.specs.Frame.{pair, is_none}
 use Rattle.header.specs.Range.{hop_in_range, is_blank}
 
@@ -34,11 +34,11 @@ frame_read (these l) = record { path = path_of l; stars = 0; refusal = 0 }
 -- a text's, their stars as typed and carried back
 unfoldable pub text_read : Hops → PathRead
 text_read (refused n) = path_refused n
-text_read (these l) = record { path = path_of (carried_lem l); stars = stars_of l; refusal = 0 }
+text_read (these l) = record { path = path_of (carried l); stars = stars_of l; refusal = 0 }
 
 -- the same of the first n hops in the array
 abbrev pub starred_read : List Hop → ℕ → PathRead
-starred_read hops n = record { path = record { hops = carried_lem (take n hops) ++ drop n hops; count = n }; stars = stars_of (take n hops); refusal = 0 }
+starred_read hops n = record { path = record { hops = carried (take n hops) ++ drop n hops; count = n }; stars = stars_of (take n hops); refusal = 0 }
 
 -- the number of a hop of such a number, where a callsign is heard or not
 unfoldable pub carried_kind : ℕ → Bool → ℕ
@@ -64,7 +64,7 @@ pub record Building : Type 0 where
 
 -- a refusal, and an array of which so many bytes are in use
 abbrev pub building : ℕ → List ℕ → ℕ → Building
-building refusal bytes len = record { refusal = refusal; array = filled_lem bytes len }
+building refusal bytes len = record { refusal = refusal; array = filled bytes len }
 
 -- what the writer of a piece answers that is lent the rest of the array: its refusal, or 16 without room
 unfoldable pub answer_to : Filled → Piece → ℕ
@@ -82,16 +82,16 @@ with_pieces b (p ∷ l) = with_pieces (with_piece b p) l
 -- ---- the pieces of a header
 
 -- bytes that nothing refuses
-abbrev pub plain_lem : List ℕ → Piece
-plain_lem bytes = record { refusal = 0; bytes = bytes }
+abbrev pub plain : List ℕ → Piece
+plain bytes = record { refusal = 0; bytes = bytes }
 
 -- a callsign's text
 abbrev pub call_piece : Callsign → Bool → Piece
-call_piece c starred = record { refusal = range_refusal c; bytes = with_star (text_of_lem c) starred }
+call_piece c starred = record { refusal = range_refusal c; bytes = with_star (text_of c) starred }
 
 -- source and destination
 abbrev pub end_pieces : Callsign → Callsign → List Piece
-end_pieces from to = call_piece from false ∷ plain_lem (greater ∷ []) ∷ call_piece to false ∷ []
+end_pieces from to = call_piece from false ∷ plain (greater ∷ []) ∷ call_piece to false ∷ []
 
 -- a Q element in range, or the number of a callsign, which is not looked at
 unfoldable pub is_tidy_hop : Hop → Bool
@@ -99,16 +99,16 @@ is_tidy_hop h = cond (is_qElement h) (hop_in_range h) (leb h.kind was_heard)
 
 -- a hop's text
 abbrev pub hop_piece : Hop → Bool → Piece
-hop_piece h starred = record { refusal = cond (hop_in_range h) 0 15; bytes = with_star (text_of_lem h.call) starred }
+hop_piece h starred = record { refusal = cond (hop_in_range h) 0 15; bytes = with_star (text_of h.call) starred }
 
 -- each hop after a comma, the last heard one with a star
 unfoldable pub hop_pieces : List Hop → List Piece
 hop_pieces [] = []
-hop_pieces (h ∷ l) = plain_lem (comma ∷ []) ∷ hop_piece h (is_heard h && not (any_heard l)) ∷ hop_pieces l
+hop_pieces (h ∷ l) = plain (comma ∷ []) ∷ hop_piece h (is_heard h && not (any_heard l)) ∷ hop_pieces l
 
 -- a header's text
 unfoldable pub text_pieces : Header → List Piece
-text_pieces h = end_pieces h.from h.to ++ (hop_pieces (hops_of h.path) ++ plain_lem (colon ∷ []) ∷ [])
+text_pieces h = end_pieces h.from h.to ++ (hop_pieces (hops_of h.path) ++ plain (colon ∷ []) ∷ [])
 
 -- an address
 abbrev pub address_piece : AddressWritten → Piece
@@ -133,7 +133,7 @@ hop_address_pieces (h ∷ l) = hop_address_piece h (is_none (calls_of l)) ∷ ho
 unfoldable pub frame_pieces : Header → List Piece
 frame_pieces h =
     let hops = hops_of h.path in
-    end_address_pieces h.to h.from (is_none (calls_of hops)) ++ (hop_address_pieces hops ++ plain_lem pair ∷ [])
+    end_address_pieces h.to h.from (is_none (calls_of hops)) ++ (hop_address_pieces hops ++ plain pair ∷ [])
 
 -- ---- the last of the hops that are sought
 

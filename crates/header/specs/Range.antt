@@ -4,7 +4,7 @@
 -- Assumes nothing.
 use Rattle.std.specs.Prelude.{ℕ, Bool, cond, ◌&&◌, drop, eqb, leb}
 use Rattle.laws.specs.Lists.{every}
-use Rattle.callsign.specs.Range.{in_range, is_blank_call, text_of_lem}
+use Rattle.callsign.specs.Range.{in_range, is_blank_call, text_of}
 use Rattle.header.specs.declared.Hop.{Hop}
 use Rattle.header.specs.declared.Path.{Path}
 use Rattle.header.specs.declared.Header.{Header}
@@ -14,7 +14,7 @@ use Rattle.header.specs.Frame.{first_refusal, addresses}
 
 -- a callsign that was heard or not, or a Q element, whose text is a name: so it has no SSID
 unfoldable pub is_some_hop : Hop → Bool
-is_some_hop h = cond (is_qElement h) (is_qName (text_of_lem h.call)) (leb h.kind was_heard)
+is_some_hop h = cond (is_qElement h) (is_qName (text_of h.call)) (leb h.kind was_heard)
 
 -- a hop, and its callsign
 unfoldable pub hop_in_range : Hop → Bool

@@ -9,14 +9,14 @@ use Rattle.laws.specs.Lists.{index_of}
 use Rattle.callsign.specs.declared.Callsign.{Callsign}
 use Rattle.callsign.specs.declared.CallRead.{CallRead}
 use Rattle.callsign.specs.Text.{read_text}
-use Rattle.callsign.specs.Range.{text_of_lem, with_star}
+use Rattle.callsign.specs.Range.{text_of, with_star}
 use Rattle.callsign.specs.Packed.{bit}
 use Rattle.header.specs.declared.Hop.{Hop}
 use Rattle.header.specs.declared.HopRead.{HopRead}
 use Rattle.header.specs.declared.Header.{Header}
 use Rattle.header.specs.declared.HeaderRead.{HeaderRead}
 use Rattle.header.specs.Hop.{is_qName, call_hop, q_hop, is_heard, any_heard, heard_if}
-use Rattle.header.specs.Header.{most_bytes, Hops, refused, these, before_lem, blank_hop, path_of, hops_of, header_refused, header_accepted, unless_refused, with_hops}
+use Rattle.header.specs.Header.{most_bytes, Hops, refused, these, before, blank_hop, path_of, hops_of, header_refused, header_accepted, unless_refused, with_hops}
 
 -- ---- the parts between commas
 
@@ -64,7 +64,7 @@ read_hop t = cond (starts_q t) (cond (is_qName t) (hop_named t) (hop_refused 6))
 
 -- a hop in front of those that follow, or its refusal
 unfoldable pub hop_then : HopRead → Hops → Hops
-hop_then h later = cond (eqb h.refusal 0) (before_lem h.hop later) (refused h.refusal)
+hop_then h later = cond (eqb h.refusal 0) (before h.hop later) (refused h.refusal)
 
 -- the hops of the parts, of which so many more may come; 5: "a ninth hop"
 unfoldable pub text_hops : ℕ → List (List ℕ) → Hops
@@ -80,9 +80,9 @@ stars_of [] = 0
 stars_of (h ∷ l) = bit (is_heard h) + 2 * stars_of l
 
 -- "heard if it or a later hop is starred"
-unfoldable pub carried_lem : List Hop → List Hop
-carried_lem [] = []
-carried_lem (h ∷ l) = heard_if (is_heard h || any_heard l) h ∷ carried_lem l
+unfoldable pub carried : List Hop → List Hop
+carried [] = []
+carried (h ∷ l) = heard_if (is_heard h || any_heard l) h ∷ carried l
 
 -- ---- the header read
 
@@ -91,7 +91,7 @@ unfoldable pub read_route : Callsign → List ℕ → ℕ → HeaderRead
 read_route from t body =
     let to = read_text (first_of (fields t)) in
     unless_refused to.refusal
-    (with_hops (text_hops 8 (others_of (fields t))) (λ l. header_accepted from to.call (path_of (carried_lem l)) body (stars_of l)))
+    (with_hops (text_hops 8 (others_of (fields t))) (λ l. header_accepted from to.call (path_of (carried l)) body (stars_of l)))
 
 -- what stands before `:`: source, `>`, and the route
 unfoldable pub read_before : List ℕ → ℕ → HeaderRead
@@ -116,11 +116,11 @@ read_text_header s = cond (ltb most_bytes (length s)) (header_refused 1) (read_h
 -- each hop after a comma, a Q element too; "the last heard one only" is starred
 unfoldable pub hops_text : List Hop → List ℕ
 hops_text [] = []
-hops_text (h ∷ l) = comma ∷ (with_star (text_of_lem h.call) (is_heard h && not (any_heard l)) ++ hops_text l)
+hops_text (h ∷ l) = comma ∷ (with_star (text_of h.call) (is_heard h && not (any_heard l)) ++ hops_text l)
 
 -- all but the colon
 unfoldable pub route_text : Header → List ℕ
-route_text h = text_of_lem h.from ++ greater ∷ (text_of_lem h.to ++ hops_text (hops_of h.path))
+route_text h = text_of h.from ++ greater ∷ (text_of h.to ++ hops_text (hops_of h.path))
 
 -- with the colon
 unfoldable pub header_text : Header → List ℕ

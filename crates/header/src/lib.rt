@@ -1,5 +1,6 @@
 // The header of a packet: source, destination, up to eight hops, and where the body starts; of a line of text and of an
 // AX.25 frame, read and written.
+#![tactic(auto)]
 ghost use Rattle.std.specs.Prelude.{◌≡◌, true, cond, ◌&&◌, [], ◌∷◌, ◌≤◌, max, length, take, drop};
 ghost use Rattle.laws.specs.Bytes.{capital_a, small_q};
 ghost use Rattle.laws.specs.Lists.{every};

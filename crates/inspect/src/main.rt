@@ -1,5 +1,6 @@
 // Answers requests, one a line, each with one line (docs/INSPECT.md). Standard input may have any length. What fails is said on
 // standard error, by a word at the start of the line that ./tusselgro turns into a status: `unread` or `unwritten`.
+#![tactic(auto)]
 
 // Puts the line that answers a request behind the first `at` bytes of out.
 fn answer(request: &[u8], out: &mut [u8], at: usize) -> usize {

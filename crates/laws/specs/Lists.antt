@@ -29,9 +29,9 @@ unfoldable pub pad_to : {A : Type 0} → ℕ → A → List A → List A
 pad_to n z l = l ++ replicate (n - length l) z
 
 -- nothing but zeros
-unfoldable pub zeros_lem : List ℕ → Bool
-zeros_lem [] = true
-zeros_lem (x ∷ l) = x == 0 && zeros_lem l
+unfoldable pub zeros : List ℕ → Bool
+zeros [] = true
+zeros (x ∷ l) = x == 0 && zeros l
 
 -- lists one behind the other
 unfoldable pub together : {A : Type 0} → List (List A) → List A

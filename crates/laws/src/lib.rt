@@ -1,4 +1,6 @@
 // What the other crates share: the search for a byte. The definitions and laws beside it are what all proofs cite.
+#![tactic(auto)]
+
 ghost use Rattle.std.specs.Prelude.{◌≡◌, ◌+◌, ◌≤◌, length, drop};
 ghost use Rattle.laws.specs.Lists.{index_of};
 

@@ -1,6 +1,7 @@
 // Prints document 01's table: standard input, at most 65,536 bytes, one row a line; with the argument `--strict` every line is read
 // strictly. What is wrong or fails is said on standard error, by a word at the start of the line that ./tusselgro turns into a status:
 // `refused`, `usage`, `unread` or `unwritten`.
+#![tactic(auto)]
 use lines::Line;
 use stream::Output;
 

@@ -7,7 +7,7 @@ use lib.Seq.{take-append-add}
 use Rattle.laws.specs.Bytes.{digit0}
 use Rattle.lonlat.specs.Angle.{most_latitude, most_longitude, width_of, cut_to}
 use Rattle.lonlat.specs.Digits.{last_as, degrees_of, minutes_of, hundredths_of, value_of, is_sixty, places_of}
-use Rattle.numbers.specs.Numbers.{number_after, number_of_lem, digit_of, digits_of}
+use Rattle.numbers.specs.Numbers.{number_after, number_of, digit_of, digits_of}
 use Rattle.numbers.proofs.Counts.{number_append}
 
 -- one case for each number of blanks
@@ -69,30 +69,30 @@ module _ (p : List ℕ) (x a b e f : ℕ) where
   abbrev behind : List ℕ
   behind = a ∷ b ∷ e ∷ f ∷ []
 
-  degrees_lem : List ℕ
-  degrees_lem = p ++ (x ∷ [])
+  degrees : List ℕ
+  degrees = p ++ (x ∷ [])
 
   -- four of them are not degrees
-  parted_lem : p ++ (x ∷ behind) ≡ degrees_lem ++ behind
-  unfolding degrees_lem
-  parted_lem = sym (append_assoc p (x ∷ []) behind)
+  parted : p ++ (x ∷ behind) ≡ degrees ++ behind
+  unfolding degrees
+  parted = sym (append_assoc p (x ∷ []) behind)
 
-  to_degrees : length degrees_lem ≡ length (degrees_lem ++ behind) - 4
-  to_degrees = rw (length-append degrees_lem behind) (omega arith)
+  to_degrees : length degrees ≡ length (degrees ++ behind) - 4
+  to_degrees = rw (length-append degrees behind) (omega arith)
 
-  degrees_five : degrees_of (p ++ (x ∷ behind)) ≡ 10 * number_of_lem p + (x - digit0)
-  unfolding degrees_of number_of_lem number_after degrees_lem
-  degrees_five = rw parted_lem (ap number_of_lem (take_at degrees_lem behind _ to_degrees) ∙ number_append 0 p (x ∷ []))
+  degrees_five : degrees_of (p ++ (x ∷ behind)) ≡ 10 * number_of p + (x - digit0)
+  unfolding degrees_of number_of number_after degrees
+  degrees_five = rw parted (ap number_of (take_at degrees behind _ to_degrees) ∙ number_append 0 p (x ∷ []))
 
   minutes_five : minutes_of (p ++ (x ∷ behind)) ≡ 10 * (a - digit0) + (b - digit0)
-  unfolding minutes_of number_of_lem number_after
-  minutes_five = rw parted_lem (ap (λ (t : List ℕ). number_of_lem (take 2 t)) (drop_at degrees_lem behind _ to_degrees) ∙ omega arith)
+  unfolding minutes_of number_of number_after
+  minutes_five = rw parted (ap (λ (t : List ℕ). number_of (take 2 t)) (drop_at degrees behind _ to_degrees) ∙ omega arith)
 
   hundredths_five : hundredths_of (p ++ (x ∷ behind)) ≡ 10 * (e - digit0) + (f - digit0)
-  unfolding hundredths_of number_of_lem number_after
-  hundredths_five = rw parted_lem (ap (λ (t : List ℕ). number_of_lem (drop 2 t)) (drop_at degrees_lem behind _ to_degrees) ∙ omega arith)
+  unfolding hundredths_of number_of number_after
+  hundredths_five = rw parted (ap (λ (t : List ℕ). number_of (drop 2 t)) (drop_at degrees behind _ to_degrees) ∙ omega arith)
 
-  value_five : value_of (p ++ (x ∷ behind)) ≡ 60000 * number_of_lem p + 6000 * (x - digit0) + 1000 * (a - digit0) + 100 * (b - digit0) + 10 * (e - digit0) + (f - digit0)
+  value_five : value_of (p ++ (x ∷ behind)) ≡ 60000 * number_of p + 6000 * (x - digit0) + 1000 * (a - digit0) + 100 * (b - digit0) + 10 * (e - digit0) + (f - digit0)
   unfolding value_of
   value_five = rw (degrees_five, minutes_five, hundredths_five) (omega arith)
 
@@ -127,32 +127,32 @@ module _ (p : List ℕ) (x a b e f : ℕ) where
 -- ---- the places of a size, more than one for the degrees
 
 module _ (k size : ℕ) where
-  abbrev before_lem : List ℕ
-  before_lem = digits_of k (size / 6000 / 10)
+  abbrev before : List ℕ
+  before = digits_of k (size / 6000 / 10)
 
   abbrev five : List ℕ
   five = digit_of (size / 6000) ∷ digit_of (size / 100 % 60 / 10) ∷ digit_of (size / 100 % 60) ∷ digit_of (size % 100 / 10) ∷ digit_of (size % 100) ∷ []
 
   -- at most five of them are taken as 0
-  taken : (n : ℕ) → n ≤ 5 → last_as digit0 n (places_of (suc k) size) ≡ before_lem ++ last_as digit0 n five
+  taken : (n : ℕ) → n ≤ 5 → last_as digit0 n (places_of (suc k) size) ≡ before ++ last_as digit0 n five
   unfolding places_of digits_of
   taken n few =
       let x = digit_of (size / 6000) ∷ [] in
-      ap (last_as digit0 n) (append_assoc (before_lem ++ x) (digits_of 2 (size / 100 % 60)) (digits_of 2 (size % 100)) ∙ append_assoc before_lem x _)
-      ∙ last_behind digit0 n before_lem five few
+      ap (last_as digit0 n) (append_assoc (before ++ x) (digits_of 2 (size / 100 % 60)) (digits_of 2 (size % 100)) ∙ append_assoc before x _)
+      ∙ last_behind digit0 n before five few
 
-  pub places_cut : number_of_lem before_lem ≡ size / 6000 / 10 → (n : ℕ) → n ≤ 5 → value_of (last_as digit0 n (places_of (suc k) size)) ≡ cut_to n size
+  pub places_cut : number_of before ≡ size / 6000 / 10 → (n : ℕ) → n ≤ 5 → value_of (last_as digit0 n (places_of (suc k) size)) ≡ cut_to n size
   unfolding last_as width_of cut_to
   places_cut whole n few =
       let r = by_digits size in
       ap value_of (taken n few)
-      ∙ up_to_five (λ n. value_of (before_lem ++ last_as digit0 n five) ≡ cut_to n size)
-      (value_five before_lem _ _ _ _ _ ∙ simp (shown, whole) (cut₀ r))
-      (value_five before_lem _ _ _ _ _ ∙ simp (shown, whole) (cut₁ r))
-      (value_five before_lem _ _ _ _ _ ∙ simp (shown, whole) (cut₂ r))
-      (value_five before_lem _ _ _ _ _ ∙ simp (shown, whole) (cut₃ r))
-      (value_five before_lem _ _ _ _ _ ∙ simp (shown, whole) (cut₄ r))
-      (value_five before_lem _ _ _ _ _ ∙ simp whole (cut₅ r))
+      ∙ up_to_five (λ n. value_of (before ++ last_as digit0 n five) ≡ cut_to n size)
+      (value_five before _ _ _ _ _ ∙ simp (shown, whole) (cut₀ r))
+      (value_five before _ _ _ _ _ ∙ simp (shown, whole) (cut₁ r))
+      (value_five before _ _ _ _ _ ∙ simp (shown, whole) (cut₂ r))
+      (value_five before _ _ _ _ _ ∙ simp (shown, whole) (cut₃ r))
+      (value_five before _ _ _ _ _ ∙ simp (shown, whole) (cut₄ r))
+      (value_five before _ _ _ _ _ ∙ simp whole (cut₅ r))
       n few
 
   both_digits : 10 * (digit_of (size / 100 % 60 / 10) - digit0) + (digit_of (size / 100 % 60) - digit0) < 60
@@ -166,21 +166,21 @@ module _ (k size : ℕ) where
   unfolding last_as
   places_minutes n few =
       ap is_sixty (taken n few)
-      ∙ up_to_five (λ n. is_sixty (before_lem ++ last_as digit0 n five) ≡ false)
-      (low_five before_lem _ _ _ _ _ both_digits)
-      (low_five before_lem _ _ _ _ _ both_digits)
-      (low_five before_lem _ _ _ _ _ both_digits)
-      (low_five before_lem _ _ _ _ _ tens_alone)
-      (low_five before_lem _ _ _ _ _ (omega arith))
-      (low_five before_lem _ _ _ _ _ (omega arith))
+      ∙ up_to_five (λ n. is_sixty (before ++ last_as digit0 n five) ≡ false)
+      (low_five before _ _ _ _ _ both_digits)
+      (low_five before _ _ _ _ _ both_digits)
+      (low_five before _ _ _ _ _ both_digits)
+      (low_five before _ _ _ _ _ tens_alone)
+      (low_five before _ _ _ _ _ (omega arith))
+      (low_five before _ _ _ _ _ (omega arith))
       n few
 
 -- ---- two places of degrees, and three
 
 pub latitude_cut : (size : ℕ) → size ≤ most_latitude → (n : ℕ) → n ≤ 5 → value_of (last_as digit0 n (places_of 2 size)) ≡ cut_to n size
-unfolding digits_of number_of_lem number_after
+unfolding digits_of number_of number_after
 latitude_cut size h = places_cut 1 size (simp shown (omega arith))
 
 pub longitude_cut : (size : ℕ) → size ≤ most_longitude → (n : ℕ) → n ≤ 5 → value_of (last_as digit0 n (places_of 3 size)) ≡ cut_to n size
-unfolding digits_of number_of_lem number_after
+unfolding digits_of number_of number_after
 longitude_cut size h = places_cut 2 size (simp shown (omega (arith, two (size / 6000 / 10) (omega arith))))

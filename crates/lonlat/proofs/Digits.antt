@@ -8,7 +8,7 @@ use Rattle.laws.specs.Bytes.{is_digit}
 use Rattle.laws.specs.Lists.{every}
 use Rattle.laws.proofs.Each.{every_first, every_rest, every_drop}
 use Rattle.lonlat.specs.Digits.{last_as, degrees_of, minutes_of, hundredths_of, value_of, is_sixty}
-use Rattle.numbers.specs.Numbers.{number_after, number_of_lem}
+use Rattle.numbers.specs.Numbers.{number_after, number_of}
 use Rattle.numbers.proofs.Counts.{a_digit, number_append}
 
 -- ---- the last n as b
@@ -44,11 +44,11 @@ seven v i h k = let l : 10 ^ i ≤ 10 ^ 7 = pow-le-pow_right (omega arith) k in 
 
 -- degrees d, and four digits behind them: what the one number of them all says
 record Four (d : ℕ) (t : List ℕ) : Type 0 where
-  value : 6000 * d + 100 * number_of_lem (take 2 t) + number_of_lem (drop 2 t) ≡ 6000 * (number_after d t / 10000) + number_after d t % 10000
-  minutes : number_of_lem (take 2 t) ≡ number_after d t % 10000 / 100
+  value : 6000 * d + 100 * number_of (take 2 t) + number_of (drop 2 t) ≡ 6000 * (number_after d t / 10000) + number_after d t % 10000
+  minutes : number_of (take 2 t) ≡ number_after d t % 10000 / 100
 
 four : (d : ℕ) (t : List ℕ) → length t ≡ 4 → every is_digit t ≡ true → Four d t
-unfolding number_of_lem number_after
+unfolding number_of number_after
 four d [] h e = absurd (omega arith)
 four d (w ∷ []) h e = absurd (omega arith)
 four d (w ∷ x ∷ []) h e = absurd (omega arith)
@@ -76,14 +76,14 @@ module _ (t : List ℕ) (four-up : 4 ≤ length t) (digits : every is_digit t �
   behind : Four (degrees_of t) (drop (length t - 4) t)
   behind = four (degrees_of t) (drop (length t - 4) t) (rw (length-drop (length t - 4) t) (omega arith)) (every_drop is_digit (length t - 4) t digits)
 
-  one : number_after (degrees_of t) (drop (length t - 4) t) ≡ number_of_lem t
-  unfolding degrees_of number_of_lem
+  one : number_after (degrees_of t) (drop (length t - 4) t) ≡ number_of t
+  unfolding degrees_of number_of
   one = sym (number_append 0 (take (length t - 4) t) (drop (length t - 4) t)) ∙ ap (number_after 0) (take-append-drop (length t - 4) t)
 
-  pub value_number : value_of t ≡ 6000 * (number_of_lem t / 10000) + number_of_lem t % 10000
+  pub value_number : value_of t ≡ 6000 * (number_of t / 10000) + number_of t % 10000
   unfolding value_of minutes_of hundredths_of
   value_number = behind.value ∙ ap (λ (v : ℕ). 6000 * (v / 10000) + v % 10000) one
 
-  pub sixty_number : is_sixty t ≡ leb 6000 (number_of_lem t % 10000)
+  pub sixty_number : is_sixty t ≡ leb 6000 (number_of t % 10000)
   unfolding is_sixty minutes_of
-  sixty_number = ap (leb 60) (behind.minutes ∙ ap (λ (v : ℕ). v % 10000 / 100) one) ∙ sym (hundreds (number_of_lem t % 10000))
+  sixty_number = ap (leb 60) (behind.minutes ∙ ap (λ (v : ℕ). v % 10000 / 100) one) ∙ sym (hundreds (number_of t % 10000))

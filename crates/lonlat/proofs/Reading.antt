@@ -20,7 +20,7 @@ use Rattle.lonlat.specs.declared.LatitudeRead.{LatitudeRead}
 use Rattle.lonlat.specs.declared.LatitudeRead.TheVariants as lat
 use Rattle.lonlat.specs.declared.LongitudeRead.{LongitudeRead}
 use Rattle.lonlat.specs.declared.LongitudeRead.TheVariants as lon
-use Rattle.lonlat.specs.Digits.{last_as, value_of, is_sixty, size_of_lem, fits_lem, angle_in}
+use Rattle.lonlat.specs.Digits.{last_as, value_of, is_sixty, size_of, fits, angle_in}
 use Rattle.lonlat.specs.Latitude.{is_blank, blanks_in, rest_blank, kept_of, counted_digits, latitude_with, latitude_in, latitude_places, read_latitude}
 use Rattle.lonlat.specs.Longitude.{longitude_with, longitude_in, longitude_places, read_longitude}
 
@@ -65,8 +65,8 @@ pub record Valued (t : List ℕ) (v : ℕ) (sixty : Bool) : Type 0 where
   pub value : value_of t ≡ v
   pub sixties : is_sixty t ≡ sixty
 
-valued : (t : List ℕ) (v : ℕ) (sixty : Bool) → size_of_lem t ≡ Hundredths v sixty → Valued t v sixty
-unfolding size_of_lem
+valued : (t : List ℕ) (v : ℕ) (sixty : Bool) → size_of t ≡ Hundredths v sixty → Valued t v sixty
+unfolding size_of
 valued t v sixty e =
     let g = passed (every is_digit t) (Hundredths (value_of t) (is_sixty t)) NoDigit (Hundredths v sixty) none e in
     record { digits = g.0; value = same g.1; sixties = same_sixty g.1 }
@@ -80,16 +80,16 @@ valued t v sixty e =
     same_sixty : Hundredths (value_of t) (is_sixty t) ≡ Hundredths v sixty → is_sixty t ≡ sixty
     same_sixty q = cc
 
-not_digits : (t : List ℕ) → size_of_lem t ≡ NoDigit → every is_digit t ≡ false
-unfolding size_of_lem
+not_digits : (t : List ℕ) → size_of t ≡ NoDigit → every is_digit t ≡ false
+unfolding size_of
 not_digits t e = (guard (every is_digit t) (Hundredths (value_of t) (is_sixty t)) NoDigit NoDigit some e).0
   where
     some : Hundredths (value_of t) (is_sixty t) ≡ NoDigit → ⊥
     some q = let z : ◌≡◌ {A = ℕ} 0 1 = cc in omega arith
 
-module _ (most : ℕ) (minus : Bool) (t : List ℕ) (q : Size) (e : q ≡ size_of_lem t) where
+module _ (most : ℕ) (minus : Bool) (t : List ℕ) (q : Size) (e : q ≡ size_of t) where
   pub angle_none : q ≡ NoDigit → Bad ≡ angle_in most minus t
-  unfolding angle_in fits_lem
+  unfolding angle_in fits
   angle_none f = rw (not_digits t (sym e ∙ f))
 
   module _ (v : ℕ) (sixty : Bool) (f : q ≡ Hundredths v sixty) where
@@ -97,12 +97,12 @@ module _ (most : ℕ) (minus : Bool) (t : List ℕ) (q : Size) (e : q ≡ size_o
     known = valued t v sixty (sym e ∙ f)
 
     pub angle_big : most < v → Bad ≡ angle_in most minus t
-    unfolding angle_in fits_lem
+    unfolding angle_in fits
     angle_big h = rw (known.digits, known.value, lt-leb v most h)
 
     module _ (h : v ≤ most) (k : most ≤ most_longitude) (r : Number) (g : r ≡ number_on minus v) where
       pub angle_of : (z z' : ℤ) → r ≡ number.Is z → z' ≡ z → Of z' sixty ≡ angle_in most minus t
-      unfolding angle_in fits_lem
+      unfolding angle_in fits
       angle_of z z' i j = rw (known.digits, known.value, known.sixties, le-leb v most h, ← number_told minus v (omega arith) r g z i, j)
 
       pub angle_never : r ≡ number.Bad → Bad ≡ angle_in most minus t

@@ -8,7 +8,7 @@ use Rattle.laws.proofs.Lists.{elements_all}
 use Rattle.laws.proofs.Tests.{within_yes}
 use Rattle.laws.proofs.Each.{every_first, every_rest, every_append, every_snoc, every_take, every_replicate, every_at, every_weaker}
 use Rattle.lonlat.specs.Angle.{most_latitude}
-use Rattle.lonlat.specs.Digits.{last_as, angle_in, places_of, text_of_lem}
+use Rattle.lonlat.specs.Digits.{last_as, angle_in, places_of, text_of}
 use Rattle.numbers.specs.Numbers.{digit_of, digits_of}
 use Rattle.numbers.proofs.Counts.{a_digit}
 use Rattle.lonlat.specs.Latitude.{is_blank, is_digit_or_blank, blanks_in, rest_blank, counted_digits, is_north_or_south, latitude_with, latitude_in, latitude_places, read_latitude, blanked_places, north_or_south, latitude_text}
@@ -92,31 +92,31 @@ module _ (t : List ℕ) (digits : every is_digit t ≡ true) (n : ℕ) (some : n
 
 module _ (t : List ℕ) (letter : ℕ) where
   module _ (six : length t ≡ 6) where
-    six_length : length (text_of_lem t letter) ≡ 8
-    unfolding text_of_lem
-    six_length = subst (λ (u : List ℕ). length (text_of_lem u letter) ≡ 8) (elements_all 0 t 6 six) refl
+    six_length : length (text_of t letter) ≡ 8
+    unfolding text_of
+    six_length = subst (λ (u : List ℕ). length (text_of u letter) ≡ 8) (elements_all 0 t 6 six) refl
 
-    six_again : latitude_places (text_of_lem t letter) ≡ t
-    unfolding text_of_lem
-    six_again = subst (λ (u : List ℕ). latitude_places (text_of_lem u letter) ≡ u) (elements_all 0 t 6 six) refl
+    six_again : latitude_places (text_of t letter) ≡ t
+    unfolding text_of
+    six_again = subst (λ (u : List ℕ). latitude_places (text_of u letter) ≡ u) (elements_all 0 t 6 six) refl
 
-    six_letter : get_or (text_of_lem t letter) 7 0 ≡ letter
-    unfolding text_of_lem
-    six_letter = subst (λ (u : List ℕ). get_or (text_of_lem u letter) 7 0 ≡ letter) (elements_all 0 t 6 six) refl
+    six_letter : get_or (text_of t letter) 7 0 ≡ letter
+    unfolding text_of
+    six_letter = subst (λ (u : List ℕ). get_or (text_of u letter) 7 0 ≡ letter) (elements_all 0 t 6 six) refl
 
-    pub latitude_of_text : read_latitude (text_of_lem t letter) ≡ latitude_in t letter
-    unfolding read_latitude text_of_lem
-    latitude_of_text = subst (λ (u : List ℕ). read_latitude (text_of_lem u letter) ≡ latitude_in u letter) (elements_all 0 t 6 six) refl
+    pub latitude_of_text : read_latitude (text_of t letter) ≡ latitude_in t letter
+    unfolding read_latitude text_of
+    latitude_of_text = subst (λ (u : List ℕ). read_latitude (text_of u letter) ≡ latitude_in u letter) (elements_all 0 t 6 six) refl
 
   module _ (seven : length t ≡ 7) where
-    seven_length : length (text_of_lem t letter) ≡ 9
-    unfolding text_of_lem
-    seven_length = subst (λ (u : List ℕ). length (text_of_lem u letter) ≡ 9) (elements_all 0 t 7 seven) refl
+    seven_length : length (text_of t letter) ≡ 9
+    unfolding text_of
+    seven_length = subst (λ (u : List ℕ). length (text_of u letter) ≡ 9) (elements_all 0 t 7 seven) refl
 
-    pub longitude_of_text : (blanks : ℕ) → blanks ≤ 5 → read_longitude (text_of_lem t letter) blanks ≡ longitude_in (last_as digit0 blanks t) letter
-    unfolding read_longitude text_of_lem
+    pub longitude_of_text : (blanks : ℕ) → blanks ≤ 5 → read_longitude (text_of t letter) blanks ≡ longitude_in (last_as digit0 blanks t) letter
+    unfolding read_longitude text_of
     longitude_of_text blanks few =
-        subst (λ (u : List ℕ). read_longitude (text_of_lem u letter) blanks ≡ longitude_in (last_as digit0 blanks u) letter) (elements_all 0 t 7 seven) (rw (le-ltb 5 blanks few))
+        subst (λ (u : List ℕ). read_longitude (text_of u letter) blanks ≡ longitude_in (last_as digit0 blanks u) letter) (elements_all 0 t 7 seven) (rw (le-ltb 5 blanks few))
 
 -- the eight bytes that Mic-E makes
 pub latitude_of_eight : (a b c d e f letter : ℕ) → read_latitude (a ∷ b ∷ c ∷ d ∷ point ∷ e ∷ f ∷ letter ∷ []) ≡ latitude_in (a ∷ b ∷ c ∷ d ∷ e ∷ f ∷ []) letter
@@ -152,7 +152,7 @@ module _ (angle : ℤ) (blanks : ℕ) (few : blanks ≤ 6) where
 
 -- up to five blanks leave the first byte a digit
 pub latitude_text_first : (angle : ℤ) (blanks : ℕ) → blanks ≤ 5 → is_digit (get_or (latitude_text angle blanks) 0 0) ≡ true
-unfolding latitude_text text_of_lem blanked_places last_as places_of digits_of
+unfolding latitude_text text_of blanked_places last_as places_of digits_of
 latitude_text_first angle =
     let d = digit_is (nat_abs angle / 6000 / 10) in
     up_to_five (λ n. is_digit (get_or (latitude_text angle n) 0 0) ≡ true) d d d d d d

@@ -12,8 +12,8 @@ use Rattle.lonlat.specs.declared.Latitude.{Latitude}
 use Rattle.lonlat.specs.declared.Longitude.{Longitude}
 use Rattle.lonlat.specs.declared.LatitudeRead.TheVariants as lat
 use Rattle.lonlat.specs.declared.LongitudeRead.TheVariants as lon
-use Rattle.lonlat.specs.Digits.{last_as, degrees_of, minutes_of, hundredths_of, value_of, is_sixty, fits_lem, angle_in, places_of}
-use Rattle.numbers.specs.Numbers.{number_after, number_of_lem}
+use Rattle.lonlat.specs.Digits.{last_as, degrees_of, minutes_of, hundredths_of, value_of, is_sixty, fits, angle_in, places_of}
+use Rattle.numbers.specs.Numbers.{number_after, number_of}
 use Rattle.lonlat.specs.Latitude.{blanks_in, rest_blank, counted_digits, is_north_or_south, latitude_with, latitude_in, latitude_places, read_latitude, blanked_places, north_or_south, latitude_text}
 use Rattle.lonlat.specs.Longitude.{is_east_or_west, longitude_with, longitude_in, longitude_places, read_longitude, east_or_west, longitude_text}
 use Rattle.numbers.proofs.Sign.{rejoined, size_signed, on_signed, on_one}
@@ -23,15 +23,15 @@ use Rattle.lonlat.proofs.Cut.{whole_width, latitude_cut, longitude_cut, places_m
 -- ---- P12
 
 pub ninety_degrees : read_latitude (digit9 ∷ digit0 ∷ digit0 ∷ digit0 ∷ point ∷ digit0 ∷ digit0 ∷ capital_n ∷ []) ≡ lat.Read (record { 0 = pos 540000 }) 0 false false
-unfolding read_latitude latitude_in rest_blank blanks_in counted_digits index_of every last_as latitude_with angle_in fits_lem within value_of is_sixty degrees_of minutes_of hundredths_of number_of_lem number_after signed_of
+unfolding read_latitude latitude_in rest_blank blanks_in counted_digits index_of every last_as latitude_with angle_in fits within value_of is_sixty degrees_of minutes_of hundredths_of number_of number_after signed_of
 ninety_degrees = refl
 
 pub sixty_minutes : read_latitude (0x38 ∷ digit9 ∷ 0x36 ∷ digit0 ∷ point ∷ digit0 ∷ digit0 ∷ capital_n ∷ []) ≡ lat.Read (record { 0 = pos 540000 }) 0 false true
-unfolding read_latitude latitude_in rest_blank blanks_in counted_digits index_of every last_as latitude_with angle_in fits_lem within value_of is_sixty degrees_of minutes_of hundredths_of number_of_lem number_after signed_of
+unfolding read_latitude latitude_in rest_blank blanks_in counted_digits index_of every last_as latitude_with angle_in fits within value_of is_sixty degrees_of minutes_of hundredths_of number_of number_after signed_of
 sixty_minutes = refl
 
 pub past_ninety : read_latitude (digit9 ∷ digit0 ∷ digit0 ∷ digit0 ∷ point ∷ digit0 ∷ 0x31 ∷ capital_n ∷ []) ≡ lat.Refused
-unfolding read_latitude latitude_in rest_blank blanks_in counted_digits index_of every last_as latitude_with angle_in fits_lem within value_of degrees_of minutes_of hundredths_of number_of_lem number_after signed_of
+unfolding read_latitude latitude_in rest_blank blanks_in counted_digits index_of every last_as latitude_with angle_in fits within value_of degrees_of minutes_of hundredths_of number_of number_after signed_of
 past_ninety = refl
 
 -- "Zero south or west is plain 0"
@@ -42,8 +42,8 @@ zero_plain true = refl
 
 -- ---- what is read is in range
 
-fits_most : (most : ℕ) (t : List ℕ) → fits_lem most t ≡ true → value_of t ≤ most
-unfolding fits_lem
+fits_most : (most : ℕ) (t : List ℕ) → fits most t ≡ true → value_of t ≤ most
+unfolding fits
 fits_most most t p = leb-true (value_of t) most (and_second (every is_digit t) (leb (value_of t) most) p)
 
 -- an angle that was read with a side: near enough, on that side, and a multiple of a width that the digits' value is one of
@@ -55,7 +55,7 @@ pub record AngleFound (most : ℕ) (minus : Bool) (width : ℕ) (angle : ℤ) : 
 angle_found : (most : ℕ) (minus : Bool) (width : ℕ) (t : List ℕ) (z : ℤ) (sixty : Bool) → value_of t % width ≡ 0 → angle_in most minus t ≡ Of z sixty → AngleFound most minus width z
 unfolding angle_in
 angle_found most minus width t z sixty w e =
-    let g = passed (fits_lem most t) (Of (signed_of minus (value_of t)) (is_sixty t)) Bad (Of z sixty) bad e in
+    let g = passed (fits most t) (Of (signed_of minus (value_of t)) (is_sixty t)) Bad (Of z sixty) bad e in
     let size = size_signed minus (value_of t) in
     rw (← same g.1) (record { near = rw size (fits_most most t g.0); side = on_signed minus (value_of t); whole = rw size w })
   where
@@ -69,7 +69,7 @@ angle_found most minus width t z sixty w e =
 told_by_digits : {A : Type 0} (most : ℕ) (minus : Bool) (t : List ℕ) (with : AngleRead → A) (sixty : Bool) (r : A) → (with Bad ≡ r → ⊥) → ((z : ℤ) (y : Bool) → with (Of z y) ≡ r → y ≡ sixty)
     → with (angle_in most minus t) ≡ r → sixty ≡ leb 60 (minutes_of t)
 unfolding angle_in is_sixty
-told_by_digits most minus t with sixty r bad same = go (fits_lem most t)
+told_by_digits most minus t with sixty r bad same = go (fits most t)
   where
     go : (f : Bool) → with (cond f (Of (signed_of minus (value_of t)) (leb 60 (minutes_of t))) Bad) ≡ r → sixty ≡ leb 60 (minutes_of t)
     go true e = sym (same (signed_of minus (value_of t)) (leb 60 (minutes_of t)) e)
@@ -194,7 +194,7 @@ judged Bad = Bad
 -- is an angle judged in that order
 pub minutes_before_size : (most : ℕ) (minus : Bool) (t : List ℕ)
     → judged (angle_in most minus t) ≡ cond (every is_digit t) (cond (is_sixty t) Bad (cond (leb (value_of t) most) (Of (signed_of minus (value_of t)) false) Bad)) Bad
-unfolding angle_in fits_lem
+unfolding angle_in fits
 minutes_before_size most minus t = go (every is_digit t) (leb (value_of t) most) (is_sixty t)
   where
     go : (digits small sixty : Bool)
@@ -227,7 +227,7 @@ longitude_few s blanks few e = with_digits (eqb (length s) 9 && eqb (get_or s 5 
 places_angle : (most k n size : ℕ) (minus : Bool) → size ≤ most → value_of (last_as digit0 n (places_of k size)) ≡ cut_to n size
     → is_sixty (last_as digit0 n (places_of k size)) ≡ false
     → angle_in most minus (last_as digit0 n (places_of k size)) ≡ Of (signed_of minus (cut_to n size)) false
-unfolding angle_in fits_lem cut_to within
+unfolding angle_in fits cut_to within
 places_angle most k n size minus h e m =
     let l : size - size % width_of n ≤ most = omega arith in
     rw (every_last is_digit digit0 n (places_of k size) refl (places_are k size), e, m, le-leb (size - size % width_of n) most l)

@@ -5,7 +5,7 @@ use Rattle.std.specs.Prelude.{ℕ, ◌+◌, ◌-◌, ◌*◌, ◌/◌, ◌%◌, 
 use Rattle.laws.specs.Bytes.{point, is_digit}
 use Rattle.laws.specs.Lists.{every}
 use Rattle.numbers.specs.Sign.{signed_of}
-use Rattle.numbers.specs.Numbers.{number_of_lem, digits_of}
+use Rattle.numbers.specs.Numbers.{number_of, digits_of}
 use Rattle.lonlat.specs.declared.AngleRead.{AngleRead}
 use Rattle.lonlat.specs.declared.AngleRead.TheVariants.{Of, Bad}
 use Rattle.lonlat.specs.declared.Size.{Size}
@@ -19,15 +19,15 @@ last_as b n t = take (length t - n) t ++ replicate n b
 
 -- all but the last four places are degrees
 unfoldable pub degrees_of : List ℕ → ℕ
-degrees_of t = number_of_lem (take (length t - 4) t)
+degrees_of t = number_of (take (length t - 4) t)
 
 -- the two places behind the degrees
 unfoldable pub minutes_of : List ℕ → ℕ
-minutes_of t = number_of_lem (take 2 (drop (length t - 4) t))
+minutes_of t = number_of (take 2 (drop (length t - 4) t))
 
 -- the last two places
 unfoldable pub hundredths_of : List ℕ → ℕ
-hundredths_of t = number_of_lem (drop 2 (drop (length t - 4) t))
+hundredths_of t = number_of (drop 2 (drop (length t - 4) t))
 
 -- "Value is 6000d + 100m + h"; "Minutes 60 to 99 are accepted."
 unfoldable pub value_of : List ℕ → ℕ
@@ -38,16 +38,16 @@ unfoldable pub is_sixty : List ℕ → Bool
 is_sixty t = nat_le 60 (minutes_of t)
 
 -- the value of digits, if digits they are, and whether their minutes are 60 or more
-unfoldable pub size_of_lem : List ℕ → Size
-size_of_lem t = cond (every is_digit t) (Hundredths (value_of t) (is_sixty t)) NoDigit
+unfoldable pub size_of : List ℕ → Size
+size_of t = cond (every is_digit t) (Hundredths (value_of t) (is_sixty t)) NoDigit
 
 -- digits, of a value at most `most`
-unfoldable pub fits_lem : ℕ → List ℕ → Bool
-fits_lem most t = every is_digit t && nat_le (value_of t) most
+unfoldable pub fits : ℕ → List ℕ → Bool
+fits most t = every is_digit t && nat_le (value_of t) most
 
 -- the angle on a side that digits say
 unfoldable pub angle_in : ℕ → Bool → List ℕ → AngleRead
-angle_in most minus t = cond (fits_lem most t) (Of (signed_of minus (value_of t)) (is_sixty t)) Bad
+angle_in most minus t = cond (fits most t) (Of (signed_of minus (value_of t)) (is_sixty t)) Bad
 
 -- ---- written
 
@@ -56,5 +56,5 @@ unfoldable pub places_of : ℕ → ℕ → List ℕ
 places_of k size = digits_of k (size / 6000) ++ digits_of 2 (size / 100 % 60) ++ digits_of 2 (size % 100)
 
 -- the point before the hundredths, and the letter last
-unfoldable pub text_of_lem : List ℕ → ℕ → List ℕ
-text_of_lem t letter = take (length t - 2) t ++ point ∷ drop (length t - 2) t ++ letter ∷ []
+unfoldable pub text_of : List ℕ → ℕ → List ℕ
+text_of t letter = take (length t - 2) t ++ point ∷ drop (length t - 2) t ++ letter ∷ []

@@ -6,7 +6,7 @@ use Rattle.laws.specs.Bytes.{space, digit0, point, is_digit, capital_n, capital_
 use Rattle.laws.specs.Lists.{index_of, every}
 use Rattle.lonlat.specs.Angle.{most_latitude}
 use Rattle.numbers.specs.Sign.{is_minus}
-use Rattle.lonlat.specs.Digits.{last_as, angle_in, places_of, text_of_lem}
+use Rattle.lonlat.specs.Digits.{last_as, angle_in, places_of, text_of}
 use Rattle.lonlat.specs.declared.AngleRead.{AngleRead}
 use Rattle.lonlat.specs.declared.AngleRead.TheVariants.{Of, Bad}
 use Rattle.lonlat.specs.declared.LatitudeRead.{LatitudeRead}
@@ -79,7 +79,7 @@ blanked_places blanks size = last_as space blanks (places_of 2 size)
 
 -- the eight bytes, with the angle's last digits blank
 unfoldable pub latitude_text : ℤ → ℕ → List ℕ
-latitude_text angle blanks = text_of_lem (blanked_places blanks (unsigned_abs angle)) (north_or_south angle)
+latitude_text angle blanks = text_of (blanked_places blanks (unsigned_abs angle)) (north_or_south angle)
 
 -- 15 for "an angle .. out of range; precision outside 0 to 5"
 unfoldable pub latitude_refusal : ℤ → ℕ → ℕ

@@ -5,7 +5,7 @@ use Rattle.std.specs.Prelude.{ℕ, Bool, cond, ◌&&◌, ◌||◌, List, [], ◌
 use Rattle.laws.specs.Bytes.{digit0, point, capital_e, capital_w}
 use Rattle.lonlat.specs.Angle.{most_longitude}
 use Rattle.numbers.specs.Sign.{is_minus}
-use Rattle.lonlat.specs.Digits.{last_as, angle_in, places_of, text_of_lem}
+use Rattle.lonlat.specs.Digits.{last_as, angle_in, places_of, text_of}
 use Rattle.lonlat.specs.declared.AngleRead.{AngleRead}
 use Rattle.lonlat.specs.declared.AngleRead.TheVariants.{Of, Bad}
 use Rattle.lonlat.specs.declared.LongitudeRead.{LongitudeRead}
@@ -55,7 +55,7 @@ east_or_west angle = cond (is_minus angle) capital_w capital_e
 
 -- the nine bytes: "Writing .. writes longitude in full."
 unfoldable pub longitude_text : ℤ → List ℕ
-longitude_text angle = text_of_lem (places_of 3 (unsigned_abs angle)) (east_or_west angle)
+longitude_text angle = text_of (places_of 3 (unsigned_abs angle)) (east_or_west angle)
 
 -- 15 for an angle out of range
 unfoldable pub longitude_refusal : ℤ → ℕ

@@ -10,20 +10,20 @@ use lib.ListN.{length, take, drop, get_or, drop_of_length-le, take-append-drop}
 use lib.Seq.{length-take-le}
 use borrow.Author.Tests.{eq-eqb, ne_eqb, le-leb, lt-leb, not-true, not-false}
 use Rattle.laws.specs.Bytes.{colon, brace, bar, tilde}
-use Rattle.laws.specs.Lists.{every, zeros_lem}
+use Rattle.laws.specs.Lists.{every, zeros}
 use Rattle.laws.proofs.Lists.{next, elements, elements_all}
 use Rattle.laws.proofs.Each.{every_more, every_not, every_end}
 use Rattle.message.specs.Message.{is_text_byte, is_text, message_accepted, addressee_text}
 
 -- ---- zeros: a loop that looks at all bytes and keeps one flag
 
-module _ (b fine : Bool) (l : List ℕ) (i : ℕ) (e : b ≡ (fine && zeros_lem (drop i l))) where
-  pub zeros_more : i < length l → b ≡ ((fine && eqb (get_or l i 0) 0) && zeros_lem (drop (i + 1) l))
-  unfolding zeros_lem
-  zeros_more h = e ∙ rw (next 0 l i h) (sym (and_assoc fine (eqb (get_or l i 0) 0) (zeros_lem (drop (i + 1) l))))
+module _ (b fine : Bool) (l : List ℕ) (i : ℕ) (e : b ≡ (fine && zeros (drop i l))) where
+  pub zeros_more : i < length l → b ≡ ((fine && eqb (get_or l i 0) 0) && zeros (drop (i + 1) l))
+  unfolding zeros
+  zeros_more h = e ∙ rw (next 0 l i h) (sym (and_assoc fine (eqb (get_or l i 0) 0) (zeros (drop (i + 1) l))))
 
   pub zeros_end : (m : ℕ) → length l ≡ m → m ≤ i → fine ≡ b
-  unfolding zeros_lem
+  unfolding zeros
   zeros_end m w h = let k : length l ≤ i = omega arith in sym (e ∙ rw (drop_of_length-le l k) (and-true fine))
 
 -- ---- a byte of a text

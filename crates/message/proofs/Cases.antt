@@ -7,7 +7,7 @@ use Prim.Native.Nat.{ℕ}
 use lib.ListN.{drop, replicate}
 use Rattle.laws.specs.Bytes.{space, slash, digit0, digit9, colon, small_a, small_h, small_z, capital_z, brace, bar, tilde, within}
 use Rattle.laws.specs.Lists.{index_of, every, pad_to}
-use Rattle.numbers.specs.Numbers.{digit_of, digits_of, number_after, number_of_lem}
+use Rattle.numbers.specs.Numbers.{digit_of, digits_of, number_after, number_of}
 use Rattle.time.specs.declared.Time.{Time}
 use Rattle.time.specs.Time.{is_day, no_time, is_no_time, in_day, is_day_time, is_clock_time, is_time, time_of, time_in, read_time, seven_bytes, present_text, is_present, time_text}
 use Rattle.message.specs.declared.StatusRead.TheVariants.{Read, Refused}
@@ -21,8 +21,8 @@ abbrev wu2z : List ℕ
 wu2z = 0x57 ∷ 0x55 ∷ 0x32 ∷ 0x5a ∷ space ∷ space ∷ space ∷ space ∷ space ∷ []
 
 -- a message to it: `:` and what is given
-abbrev sent_lem : List ℕ → List ℕ
-sent_lem l = wu2z ++ colon ∷ l
+abbrev sent : List ℕ → List ℕ
+sent l = wu2z ++ colon ∷ l
 
 -- `Testing`
 abbrev testing : List ℕ
@@ -65,34 +65,34 @@ midnight = digit0 ∷ digit0 ∷ digit0 ∷ digit0 ∷ digit0 ∷ digit0 ∷ sma
 -- ---- the cases
 
 pub record Messages : Type 0 where
-  pub plain : read_message (sent_lem testing) ≡ message_accepted wu2z 7 0
-  pub plain_text : message_text wu2z testing [] ≡ sent_lem testing
-  pub numbered : read_message (sent_lem (testing ++ brace ∷ three)) ≡ message_accepted wu2z 7 3
-  pub numbered_text : message_text wu2z testing three ≡ sent_lem (testing ++ brace ∷ three)
+  pub plain : read_message (sent testing) ≡ message_accepted wu2z 7 0
+  pub plain_text : message_text wu2z testing [] ≡ sent testing
+  pub numbered : read_message (sent (testing ++ brace ∷ three)) ≡ message_accepted wu2z 7 3
+  pub numbered_text : message_text wu2z testing three ≡ sent (testing ++ brace ∷ three)
   -- an acknowledgement is text
-  pub acknowledged : read_message (sent_lem ack) ≡ message_accepted wu2z 6 0
+  pub acknowledged : read_message (sent ack) ≡ message_accepted wu2z 6 0
   -- the first `{` ends the text, another is the identifier's
-  pub brace_within : read_message (sent_lem (brace ∷ braced)) ≡ message_accepted wu2z 0 3
-  pub brace_kept : identifier_in (drop 10 (sent_lem (brace ∷ braced))) ≡ braced
+  pub brace_within : read_message (sent (brace ∷ braced)) ≡ message_accepted wu2z 0 3
+  pub brace_kept : identifier_in (drop 10 (sent (brace ∷ braced))) ≡ braced
   -- no text and no identifier; nine bytes, or no `:` behind them
-  pub empty : read_message (sent_lem []) ≡ message_accepted wu2z 0 0
+  pub empty : read_message (sent []) ≡ message_accepted wu2z 0 0
   pub nine_bytes : read_message wu2z ≡ message_refused
   pub no_colon : read_message (wu2z ++ testing) ≡ message_refused
   -- 67 bytes of text, 5 of identifier
-  pub longest : read_message (sent_lem (xs 67 ++ brace ∷ xs 5)) ≡ message_accepted wu2z 67 5
-  pub text_68 : read_message (sent_lem (xs 68)) ≡ message_refused
-  pub identifier_6 : read_message (sent_lem (testing ++ brace ∷ xs 6)) ≡ message_refused
-  pub identifier_0 : read_message (sent_lem (testing ++ brace ∷ [])) ≡ message_refused
-  pub a_bar : read_message (sent_lem (bar ∷ testing)) ≡ message_refused
-  pub a_tilde : read_message (sent_lem (tilde ∷ testing)) ≡ message_refused
+  pub longest : read_message (sent (xs 67 ++ brace ∷ xs 5)) ≡ message_accepted wu2z 67 5
+  pub text_68 : read_message (sent (xs 68)) ≡ message_refused
+  pub identifier_6 : read_message (sent (testing ++ brace ∷ xs 6)) ≡ message_refused
+  pub identifier_0 : read_message (sent (testing ++ brace ∷ [])) ≡ message_refused
+  pub a_bar : read_message (sent (bar ∷ testing)) ≡ message_refused
+  pub a_tilde : read_message (sent (tilde ∷ testing)) ≡ message_refused
   -- the same of what is handed over to be written
   pub not_written_68 : message_refusal (xs 68) [] ≡ 18
   pub not_written_6 : message_refusal testing (xs 6) ≡ 18
   pub not_written_brace : message_refusal braced [] ≡ 18
 
-pub messages_lem : Messages
+pub messages : Messages
 unfolding is_text_byte is_text is_identifier has_identifier text_in identifier_in is_addressed is_message no_addressee message_refused read_message addressee_text identifier_text message_text identifier_refusal message_refusal within index_of every pad_to
-messages_lem =
+messages =
     record {
       plain = refl;
       plain_text = refl;
@@ -140,7 +140,7 @@ pub record StatusLines : Type 0 where
   pub not_written_56 : status_refusal (ninth_at small_z) (xs 56) ≡ 18
 
 pub status_lines : StatusLines
-unfolding zulu_of time_before most_text text_behind status_of read_status status_text is_status_time is_status_text status_text_refusal status_refusal is_day no_time is_no_time in_day is_day_time is_clock_time is_time time_of time_in read_time seven_bytes present_text is_present time_text within every digit_of digits_of number_after number_of_lem
+unfolding zulu_of time_before most_text text_behind status_of read_status status_text is_status_time is_status_text status_text_refusal status_refusal is_day no_time is_no_time in_day is_day_time is_clock_time is_time time_of time_in read_time seven_bytes present_text is_present time_text within every digit_of digits_of number_after number_of
 status_lines =
     record {
       plain = refl;

@@ -59,9 +59,9 @@ module _ (text identifier : List ℕ) (is : is_text text ≡ true) where
   unfolding identifier_in
   identifier_behind = rw (text_ends, drop-append-add text (identifier_text identifier) 1) (behind_brace_lem identifier)
 
-  pub joined_lem : length identifier ≤ 5 → is_addressed (text ++ identifier_text identifier) ≡ true
+  pub joined : length identifier ≤ 5 → is_addressed (text ++ identifier_text identifier) ≡ true
   unfolding is_addressed has_identifier is_identifier
-  joined_lem few = rw (text_behind_lem, is, text_ends, identifier_behind, length-append text (identifier_text identifier)) (allowed (length text) identifier few)
+  joined few = rw (text_behind_lem, is, text_ends, identifier_behind, length-append text (identifier_text identifier)) (allowed (length text) identifier few)
 
 -- ---- apart
 

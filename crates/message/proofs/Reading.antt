@@ -22,12 +22,12 @@ module _ (l : List ℕ) (n : ℕ) (first : n ≡ index_of brace l) where
   within_rest : n ≤ length l
   within_rest = omega (arith, index_le brace l)
 
-  text_of_lem : text_in l ≡ take n l
+  text_of : text_in l ≡ take n l
   unfolding text_in
-  text_of_lem = rw (← first)
+  text_of = rw (← first)
 
   pub text_size : length (text_in l) ≡ n
-  text_size = ap length text_of_lem ∙ length-take-le n l within_rest
+  text_size = ap length text_of ∙ length-take-le n l within_rest
 
   identifier_size : length (identifier_in l) ≡ length l - n - 1
   unfolding identifier_in
@@ -35,18 +35,18 @@ module _ (l : List ℕ) (n : ℕ) (first : n ≡ index_of brace l) where
 
   no_text : is_text (take n l) ≡ false → is_addressed l ≡ false
   unfolding is_addressed
-  no_text e = rw (text_of_lem, e)
+  no_text e = rw (text_of, e)
 
   module _ (text : is_text (take n l) ≡ true) where
     alone : length l - n ≡ 0 → is_addressed l ≡ true
     unfolding is_addressed has_identifier
-    alone h = rw (text_of_lem, text, ← first, le-ltb n (length l) (omega arith))
+    alone h = rw (text_of, text, ← first, le-ltb n (length l) (omega arith))
 
     -- whether what stands behind the `{` is an identifier decides
     module _ (some : length l - n ≡ 0 → ⊥) where
       by_identifier : is_addressed l ≡ within 1 5 (length l - n - 1)
       unfolding is_addressed has_identifier is_identifier
-      by_identifier = rw (text_of_lem, text, ← first, lt-ltb n (length l) (omega arith), identifier_size)
+      by_identifier = rw (text_of, text, ← first, lt-ltb n (length l) (omega arith), identifier_size)
 
       empty : length l - n ≡ 1 → is_addressed l ≡ false
       empty h = by_identifier ∙ not_so (within 1 5 (length l - n - 1)) (λ t. omega (arith, within_low 1 5 (length l - n - 1) t))
@@ -54,8 +54,8 @@ module _ (l : List ℕ) (n : ℕ) (first : n ≡ index_of brace l) where
       long : 6 < length l - n → is_addressed l ≡ false
       long h = by_identifier ∙ not_so (within 1 5 (length l - n - 1)) (λ t. omega (arith, within_high 1 5 (length l - n - 1) t))
 
-      fits_lem : (length l - n ≡ 1 → ⊥) → length l - n ≤ 6 → is_addressed l ≡ true
-      fits_lem h k = by_identifier ∙ within_yes 1 5 (length l - n - 1) (omega arith) (omega arith)
+      fits : (length l - n ≡ 1 → ⊥) → length l - n ≤ 6 → is_addressed l ≡ true
+      fits h k = by_identifier ∙ within_yes 1 5 (length l - n - 1) (omega arith) (omega arith)
 
 -- ---- the answers
 
@@ -107,4 +107,4 @@ module _ (s : List ℕ) (r : MessageRead) where
               identifier_long h e = refused (long (rest s) n first text some h) e
 
               pub message_whole : length (rest s) - n ≤ 6 → r ≡ message_accepted (take 9 s) n (length (rest s) - n - 1) → r ≡ read_message s
-              message_whole h e = accepted (fits_lem (rest s) n first text some more h) (parts (length (rest s) - n - 1) refl e)
+              message_whole h e = accepted (fits (rest s) n first text some more h) (parts (length (rest s) - n - 1) refl e)

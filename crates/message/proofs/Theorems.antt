@@ -25,7 +25,7 @@ use Rattle.message.specs.declared.StatusRead.TheVariants.{Read, Refused}
 use Rattle.message.specs.Message.{addressee_bytes, is_text_byte, is_text, behind_colon, text_in, identifier_in, is_addressed, is_message, no_addressee, message_accepted, message_refused, read_message, addressee_text, identifier_text, message_text, identifier_refusal, message_refusal}
 use Rattle.message.specs.Status.{zulu_of, time_before, most_text, text_behind, status_of, read_status, status_number, status_text, is_status_time, is_status_text, status_text_refusal, status_refusal}
 use Rattle.message.proofs.Reading.{text_size}
-use Rattle.message.proofs.Parts.{text_behind_lem, identifier_behind, joined_lem, text_is, identifier_few, apart, colon_splits}
+use Rattle.message.proofs.Parts.{text_behind_lem, identifier_behind, joined, text_is, identifier_few, apart, colon_splits}
 use Rattle.message.proofs.Status.{Zulu, none_or_zulu, status_read}
 
 -- ---- how many bytes
@@ -83,41 +83,41 @@ module _ (addressee text identifier : List ℕ) (nine : length addressee ≡ add
   abbrev behind : List ℕ
   behind = text ++ identifier_text identifier
 
-  abbrev whole_lem : List ℕ
-  whole_lem = message_text addressee text identifier
+  abbrev whole : List ℕ
+  whole = message_text addressee text identifier
 
-  in_line : whole_lem ≡ addressee ++ colon ∷ behind
+  in_line : whole ≡ addressee ++ colon ∷ behind
   unfolding message_text addressee_text
   in_line = append_snoc addressee colon behind
 
-  behind_is : behind_colon whole_lem ≡ behind
+  behind_is : behind_colon whole ≡ behind
   unfolding message_text
   behind_is = drop_at (addressee_text addressee) behind 10 (addressee_10 addressee nine)
 
-  addressee_is : take addressee_bytes whole_lem ≡ addressee
+  addressee_is : take addressee_bytes whole ≡ addressee
   addressee_is = ap (take addressee_bytes) in_line ∙ take_at addressee (colon ∷ behind) addressee_bytes nine
 
-  colon_is : get_or whole_lem addressee_bytes 0 ≡ colon
+  colon_is : get_or whole addressee_bytes 0 ≡ colon
   colon_is = ap (λ (l : List ℕ). get_or l addressee_bytes 0) in_line ∙ get_or_at addressee colon behind 0 addressee_bytes nine
 
-  more_than_nine : addressee_bytes < length whole_lem
+  more_than_nine : addressee_bytes < length whole
   unfolding message_text
   more_than_nine = omega (arith, length-append (addressee_text addressee) behind, addressee_10 addressee nine)
 
   module _ (is : is_text text ≡ true) where
     -- its text is the one written
-    pub message_text_back : text_in (behind_colon whole_lem) ≡ text
+    pub message_text_back : text_in (behind_colon whole) ≡ text
     message_text_back = ap text_in behind_is ∙ text_behind_lem text identifier is
 
     -- and so is its identifier, of any bytes or of none
-    pub message_identifier_back : identifier_in (behind_colon whole_lem) ≡ identifier
+    pub message_identifier_back : identifier_in (behind_colon whole) ≡ identifier
     message_identifier_back = ap identifier_in behind_is ∙ identifier_behind text identifier is
 
     -- the addressee, and the lengths of the two
-    pub message_reads_back : length identifier ≤ 5 → read_message whole_lem ≡ message_accepted addressee (length text) (length identifier)
+    pub message_reads_back : length identifier ≤ 5 → read_message whole ≡ message_accepted addressee (length text) (length identifier)
     unfolding read_message is_message
     message_reads_back few =
-        rw (lt-ltb addressee_bytes (length whole_lem) more_than_nine, eq-eqb (get_or whole_lem addressee_bytes 0) colon colon_is, ap is_addressed behind_is ∙ joined_lem text identifier is few, addressee_is, message_text_back, message_identifier_back)
+        rw (lt-ltb addressee_bytes (length whole) more_than_nine, eq-eqb (get_or whole addressee_bytes 0) colon colon_is, ap is_addressed behind_is ∙ joined text identifier is few, addressee_is, message_text_back, message_identifier_back)
 
 -- ---- a message that was read is its parts
 

@@ -4,7 +4,7 @@ use mathlib.Core.Path.{◌≡◌}
 use mathlib.Core.Bool.{Bool}
 use mathlib.Core.List.{List}
 use Prim.Native.Nat.{ℕ}
-use Rattle.laws.specs.Lists.{zeros_lem}
+use Rattle.laws.specs.Lists.{zeros}
 use Rattle.laws.proofs.Unique.{one_value}
 use Rattle.buffer.specs.declared.Answer.{Answer}
 use Rattle.buffer.specs.Wrote.{ends, wrote}
@@ -16,8 +16,8 @@ use Rattle.message.specs.declared.StatusRead.{StatusRead}
 use Rattle.message.specs.Message.{is_text, read_message, addressee_text, identifier_text, message_text, identifier_refusal, message_refusal}
 use Rattle.message.specs.Status.{read_status, status_text, status_time_refusal, is_status_text, status_refusal}
 
-pub unique_is_blank : (addressee : List ℕ) (r r' : Bool) → r ≡ zeros_lem addressee → r' ≡ zeros_lem addressee → r ≡ r'
-unique_is_blank addressee r r' = one_value r r' (zeros_lem addressee)
+pub unique_is_blank : (addressee : List ℕ) (r r' : Bool) → r ≡ zeros addressee → r' ≡ zeros addressee → r ≡ r'
+unique_is_blank addressee r r' = one_value r r' (zeros addressee)
 
 pub unique_is_text : (s : List ℕ) (r r' : Bool) → r ≡ is_text s → r' ≡ is_text s → r ≡ r'
 unique_is_text s r r' = one_value r r' (is_text s)

@@ -6,7 +6,7 @@ use Rattle.laws.specs.Bytes.{space, digit0, digit9, capital_a, capital_k, capita
 use Rattle.laws.proofs.Every.{all, all_at, and_left, and_right, beq_eq}
 use Rattle.laws.proofs.Tests.{and_first, or_either, within_high}
 use Rattle.lonlat.specs.Latitude.{is_digit_or_blank}
-use Rattle.mic_e.specs.Character.{is_character, is_last_lem, is_flagged, digit_of, bit_of, character_of, flag_bit}
+use Rattle.mic_e.specs.Character.{is_character, is_last, is_flagged, digit_of, bit_of, character_of, flag_bit}
 use Rattle.mic_e.specs.Message.{is_custom, is_standard}
 use Rattle.mic_e.specs.declared.Bit.{Bit}
 use Rattle.mic_e.specs.declared.Bit.TheVariants.{Zero, Custom, Standard}
@@ -26,8 +26,8 @@ character_low c e = go (is_digit c) (within capital_a capital_l c) (within capit
 pub character_ascii : (c : ℕ) → is_character c ≡ true → ltb c 0x80 ≡ true
 character_ascii c e = lt-ltb c 0x80 (character_low c e)
 
-pub last_ascii : (c : ℕ) → is_last_lem c ≡ true → ltb c 0x80 ≡ true
-unfolding is_last_lem
+pub last_ascii : (c : ℕ) → is_last c ≡ true → ltb c 0x80 ≡ true
+unfolding is_last
 last_ascii c e = character_ascii c (and_first (is_character c) (not (within capital_a capital_k c)) e)
 
 -- ---- as written
@@ -76,8 +76,8 @@ bit_back x d h = rw (h.custom, h.standard) (go x)
     go Standard = refl
 
 module _ (flag : Bool) (d : ℕ) (h : Carries (flag_bit flag) d) where
-  pub flag_last : is_last_lem (character_of (flag_bit flag) d) ≡ true
-  unfolding is_last_lem is_custom flag_bit
+  pub flag_last : is_last (character_of (flag_bit flag) d) ≡ true
+  unfolding is_last is_custom flag_bit
   flag_last = rw (h.stands, h.custom) (go flag)
     where
       go : (f : Bool) → not (is_custom (flag_bit f)) ≡ true

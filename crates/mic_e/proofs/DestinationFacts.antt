@@ -9,7 +9,7 @@ use Rattle.numbers.specs.Sign.{is_minus}
 use Rattle.lonlat.specs.Latitude.{is_digit_or_blank, latitude_in, latitude_places, read_latitude, blanked_places, north_or_south, latitude_text}
 use Rattle.lonlat.proofs.Texts.{latitude_of_eight, latitude_of_text, blanked_six, blanked_at, latitude_text_places, latitude_text_letter}
 use Rattle.lonlat.proofs.Theorems.{latitude_reads_back}
-use Rattle.mic_e.specs.Character.{is_character, is_last_lem, flag_bit}
+use Rattle.mic_e.specs.Character.{is_character, is_last, flag_bit}
 use Rattle.mic_e.specs.Longitude.{hundred_of}
 use Rattle.mic_e.specs.Message.{message_of, message_by, is_one, is_custom, is_standard, bits_of}
 use Rattle.mic_e.specs.Destination.{are_characters, text_in, destination_with, read_destination, characters_of, destination_bytes}
@@ -122,21 +122,21 @@ destination_stands latitude blanks m longitude few = all_stand latitude blanks f
 characters_ascii : (a b c d e f : ℕ) → are_characters (a ∷ b ∷ c ∷ d ∷ e ∷ f ∷ []) ≡ true → every (λ x. ltb x 0x80) (a ∷ b ∷ c ∷ d ∷ e ∷ f ∷ []) ≡ true
 unfolding are_characters every
 characters_ascii a b c d e f h =
-    let h₅ = is_last_lem e && is_last_lem f in
-    let h₄ = is_last_lem d && h₅ in
+    let h₅ = is_last e && is_last f in
+    let h₄ = is_last d && h₅ in
     let h₃ = is_character c && h₄ in
     let h₂ = is_character b && h₃ in
     let q₁ = and_second (is_character a) h₂ h in
     let q₂ = and_second (is_character b) h₃ q₁ in
     let q₃ = and_second (is_character c) h₄ q₂ in
-    let q₄ = and_second (is_last_lem d) h₅ q₃ in
+    let q₄ = and_second (is_last d) h₅ q₃ in
     rw (
       character_ascii a (and_first (is_character a) h₂ h),
       character_ascii b (and_first (is_character b) h₃ q₁),
       character_ascii c (and_first (is_character c) h₄ q₂),
-      last_ascii d (and_first (is_last_lem d) h₅ q₃),
-      last_ascii e (and_first (is_last_lem e) (is_last_lem f) q₄),
-      last_ascii f (and_second (is_last_lem e) (is_last_lem f) q₄),
+      last_ascii d (and_first (is_last d) h₅ q₃),
+      last_ascii e (and_first (is_last e) (is_last f) q₄),
+      last_ascii f (and_second (is_last e) (is_last f) q₄),
     )
 
 pub destination_ascii : (latitude : ℤ) (blanks : ℕ) (m : Message) (longitude : ℤ) → blanks ≤ 5 → every (λ x. ltb x 0x80) (destination_bytes latitude blanks m longitude) ≡ true

@@ -7,7 +7,7 @@ use Rattle.lonlat.specs.Angle.{most_longitude}
 use Rattle.numbers.specs.Sign.{signed_of}
 use Rattle.lonlat.specs.declared.Longitude.{Longitude}
 use Rattle.mic_e.specs.Turn.{less_if}
-use Rattle.mic_e.specs.Longitude.{offset_of, wrapped, size_of_lem, read_longitude, degrees_byte, hundred_for, minutes_byte, longitude_field}
+use Rattle.mic_e.specs.Longitude.{offset_of, wrapped, size_of, read_longitude, degrees_byte, hundred_for, minutes_byte, longitude_field}
 use Rattle.mic_e.specs.declared.LongitudeField.TheVariants.{Read, Refused}
 use Rattle.mic_e.proofs.Turn.{less_if_split, wrapped_plain, wrapped_mid, wrapped_high}
 use Rattle.mic_e.proofs.MotionFacts.{Bytes}
@@ -17,7 +17,7 @@ pub record Lies (size offset a b c : ℕ) : Type 0 where
   pub b_from : 28 ≤ b
   pub c_from : 28 ≤ c
   pub degrees_to : a - 28 + offset ≤ 255
-  pub size_is : size_of_lem offset a b c ≡ size
+  pub size_is : size_of offset a b c ≡ size
   pub size_to : size ≤ most_longitude
 
 apart : (l : Longitude) → Refused ≡ Read l → ⊥
@@ -26,7 +26,7 @@ apart l e = let z : ◌≡◌ {A = ℕ} 0 1 = cc in omega arith
 module _ (hundred west : Bool) (a b c : ℕ) where
   -- what is read has the bytes' size, on that side
   pub reads_lies : (l : Longitude) → read_longitude hundred west a b c ≡ Read l
-      → Lies (size_of_lem (offset_of hundred) a b c) (offset_of hundred) a b c × (l.0 ≡ signed_of west (size_of_lem (offset_of hundred) a b c))
+      → Lies (size_of (offset_of hundred) a b c) (offset_of hundred) a b c × (l.0 ≡ signed_of west (size_of (offset_of hundred) a b c))
   unfolding read_longitude
   reads_lies l e =
       let n = apart l in
@@ -34,7 +34,7 @@ module _ (hundred west : Bool) (a b c : ℕ) where
       let g₂ = guard (ltb b 28) Refused _ (Read l) n g₁.1 in
       let g₃ = guard (ltb c 28) Refused _ (Read l) n g₂.1 in
       let g₄ = guard (ltb 255 (a - 28 + offset_of hundred)) Refused _ (Read l) n g₃.1 in
-      let g₅ = guard (ltb most_longitude (size_of_lem (offset_of hundred) a b c)) Refused _ (Read l) n g₄.1 in (
+      let g₅ = guard (ltb most_longitude (size_of (offset_of hundred) a b c)) Refused _ (Read l) n g₄.1 in (
         record {
           a_from = ltb-false _ _ g₁.0;
           b_from = ltb-false _ _ g₂.0;
@@ -46,8 +46,8 @@ module _ (hundred west : Bool) (a b c : ℕ) where
         same g₅.1,
       )
     where
-      same : Read (record { 0 = signed_of west (size_of_lem (offset_of hundred) a b c) }) ≡ Read l → l.0 ≡ signed_of west (size_of_lem (offset_of hundred) a b c)
-      same q = let r : l ≡ record { 0 = signed_of west (size_of_lem (offset_of hundred) a b c) } = cc in ap (λ (x : Longitude). x.0) r
+      same : Read (record { 0 = signed_of west (size_of (offset_of hundred) a b c) }) ≡ Read l → l.0 ≡ signed_of west (size_of (offset_of hundred) a b c)
+      same q = let r : l ≡ record { 0 = signed_of west (size_of (offset_of hundred) a b c) } = cc in ap (λ (x : Longitude). x.0) r
 
   pub lies_reads : (size : ℕ) → Lies size (offset_of hundred) a b c → read_longitude hundred west a b c ≡ Read (record { 0 = signed_of west size })
   unfolding read_longitude
@@ -86,7 +86,7 @@ written_minutes m h =
 
 module _ (size : ℕ) (h : size < most_longitude) where
   pub written_lies : Lies size (offset_of (hundred_for (size / 6000))) (longitude_field size).first (longitude_field size).second (longitude_field size).third
-  unfolding longitude_field size_of_lem
+  unfolding longitude_field size_of
   written_lies =
       let d = written_degrees (size / 6000) (omega arith) in
       let m = written_minutes (size / 100 % 60) (omega arith) in

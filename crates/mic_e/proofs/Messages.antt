@@ -7,7 +7,7 @@ use Rattle.mic_e.specs.declared.Bit.TheVariants.{Zero, Custom, Standard}
 use Rattle.mic_e.specs.declared.Bits.{Bits}
 use Rattle.mic_e.specs.declared.Message.{Message}
 use Rattle.mic_e.specs.declared.Message.TheVariants.{M0, M1, M2, M3, M4, M5, M6, C0, C1, C2, C3, C4, C5, C6, Emergency, Unknown}
-use Rattle.mic_e.specs.Message.{is_custom, is_standard, is_one, message_by, message_of, bits, bits_of, message_number, messages_lem, message_at}
+use Rattle.mic_e.specs.Message.{is_custom, is_standard, is_one, message_by, message_of, bits, bits_of, message_number, messages, message_at}
 use Rattle.mic_e.specs.Private.{three_bits, bit_if_odd, bits_in}
 
 -- ---- by number
@@ -20,16 +20,16 @@ past (x ∷ l) d (suc n) h = past l d n (omega arith)
 
 pub past_messages : (n : ℕ) → 15 < n → Unknown ≡ message_at n
 unfolding message_at
-past_messages n h = past messages_lem Unknown n (omega arith)
+past_messages n h = past messages Unknown n (omega arith)
 
 same_at : {A : Type 0} (l : List A) (d e : A) (n : ℕ) → n < length l → get_or l n d ≡ get_or l n e
 same_at [] d e n h = absurd (omega arith)
 same_at (x ∷ l) d e zero h = refl
 same_at (x ∷ l) d e (suc n) h = same_at l d e n (omega arith)
 
-pub among_messages : (n : ℕ) → n ≤ 15 → get_or messages_lem n M0 ≡ message_at n
+pub among_messages : (n : ℕ) → n ≤ 15 → get_or messages n M0 ≡ message_at n
 unfolding message_at
-among_messages n h = same_at messages_lem M0 Unknown n (omega arith)
+among_messages n h = same_at messages M0 Unknown n (omega arith)
 
 pub number_back : (m : Message) → message_at (message_number m) ≡ m
 unfolding message_at message_number

@@ -3,7 +3,7 @@
 -- Assumes nothing.
 use Rattle.std.proofs.Common.{◌≡◌, ℕ, ◌+◌, ◌-◌, ◌*◌, ◌/◌, ◌%◌, ◌<◌, ◌≤◌, ltb, ◌⊎◌, ap, inl, inr, ⊎_elim, arith, ltb-false, ltb-true, le-ltb}
 use Rattle.laws.proofs.Tests.{bool_cases, guard}
-use Rattle.mic_e.specs.Motion.{most_speed, most_course, knots, degrees_lem, read_motion, tens_of, motion_field}
+use Rattle.mic_e.specs.Motion.{most_speed, most_course, knots, degrees, read_motion, tens_of, motion_field}
 use Rattle.mic_e.specs.declared.Field.{Field}
 use Rattle.mic_e.specs.declared.Speed.{Speed}
 use Rattle.mic_e.specs.declared.Course.{Course}
@@ -16,7 +16,7 @@ pub record Moves (speed course a b c : ℕ) : Type 0 where
   pub c_from : 28 ≤ c
   pub speed_is : knots a b ≡ speed
   pub speed_to : speed ≤ most_speed
-  pub course_is : degrees_lem b c ≡ course
+  pub course_is : degrees b c ≡ course
   pub course_to : course ≤ most_course
 
 apart : (v : Speed) (d : Course) → Refused ≡ Read v d → ⊥
@@ -30,11 +30,11 @@ reads_moves a b c v d e =
     let g₂ = guard (ltb b 28) Refused _ (Read v d) n g₁.1 in
     let g₃ = guard (ltb c 28) Refused _ (Read v d) n g₂.1 in
     let g₄ = guard (ltb most_speed (knots a b)) Refused _ (Read v d) n g₃.1 in
-    let g₅ = guard (ltb most_course (degrees_lem b c)) Refused _ (Read v d) n g₄.1 in
+    let g₅ = guard (ltb most_course (degrees b c)) Refused _ (Read v d) n g₄.1 in
     let s : knots a b ≡ v.0 = same_speed g₅.1 in
-    let t : degrees_lem b c ≡ d.0 = same_course g₅.1 in
+    let t : degrees b c ≡ d.0 = same_course g₅.1 in
     let hs : knots a b ≤ most_speed = ltb-false _ _ g₄.0 in
-    let ht : degrees_lem b c ≤ most_course = ltb-false _ _ g₅.0 in
+    let ht : degrees b c ≤ most_course = ltb-false _ _ g₅.0 in
     record {
       a_from = ltb-false _ _ g₁.0;
       b_from = ltb-false _ _ g₂.0;
@@ -45,11 +45,11 @@ reads_moves a b c v d e =
       course_to = omega arith;
     }
   where
-    same_speed : Read (record { 0 = knots a b }) (record { 0 = degrees_lem b c }) ≡ Read v d → knots a b ≡ v.0
+    same_speed : Read (record { 0 = knots a b }) (record { 0 = degrees b c }) ≡ Read v d → knots a b ≡ v.0
     same_speed q = let r : record { 0 = knots a b } ≡ v = cc in ap (λ (x : Speed). x.0) r
 
-    same_course : Read (record { 0 = knots a b }) (record { 0 = degrees_lem b c }) ≡ Read v d → degrees_lem b c ≡ d.0
-    same_course q = let r : record { 0 = degrees_lem b c } ≡ d = cc in ap (λ (x : Course). x.0) r
+    same_course : Read (record { 0 = knots a b }) (record { 0 = degrees b c }) ≡ Read v d → degrees b c ≡ d.0
+    same_course q = let r : record { 0 = degrees b c } ≡ d = cc in ap (λ (x : Course). x.0) r
 
 pub moves_reads : (s t a b c : ℕ) → Moves s t a b c → read_motion a b c ≡ Read (record { 0 = s }) (record { 0 = t })
 unfolding read_motion
@@ -64,7 +64,7 @@ tens_cases s =
     ⊎_elim (λ e. inl (rw e, ltb-true _ _ e)) (λ e. inr (rw e, ltb-false _ _ e)) (bool_cases (ltb (s / 10) 20))
 
 pub written_moves : (s t : ℕ) → s ≤ most_speed → t ≤ most_course → Moves s t (motion_field s t).first (motion_field s t).second (motion_field s t).third
-unfolding motion_field knots degrees_lem
+unfolding motion_field knots degrees
 written_moves s t hs ht =
     let tens : ((tens_of s ≡ s / 10 + 80) × (s / 10 < 20)) ⊎ ((tens_of s ≡ s / 10) × (20 ≤ s / 10)) = tens_cases s in
     let fifth : ℕ = 10 * (s % 10) + t / 100 + 4 + 28 in

@@ -147,18 +147,18 @@ module _ (s : List ℕ) (hundred west : Bool) (i : Information) where
   range_read : (v : Speed) (d : Course) → read_motion (get_or s 3 0) (get_or s 4 0) (get_or s 5 0) ≡ Motion-read v d → (v.0 ≤ most_speed) × (d.0 ≤ most_course)
   range_read v d e = let h = reads_moves _ _ _ v d e in (h.speed_to, h.course_to)
 
-  parted_lem : read_information s hundred west ≡ Information-read i
+  parted : read_information s hundred west ≡ Information-read i
       → (ltb (length s) 8 ≡ false)
       × (information_of (get_or s 6 0) (get_or s 7 0) (read_longitude hundred west (get_or s 0 0) (get_or s 1 0) (get_or s 2 0)) (read_motion (get_or s 3 0) (get_or s 4 0) (get_or s 5 0)) ≡ Information-read i)
   unfolding read_information
-  parted_lem e = guard (ltb (length s) 8) Information-refused _ _ (no_information i) e
+  parted e = guard (ltb (length s) 8) Information-refused _ _ (no_information i) e
 
   -- it has its 8 bytes
   pub information_long : read_information s hundred west ≡ Information-read i → 8 ≤ length s
-  information_long e = ltb-false (length s) 8 (parted_lem e).0
+  information_long e = ltb-false (length s) 8 (parted e).0
 
   pub read_information_found : read_information s hundred west ≡ Information-read i → InformationFound west i
-  read_information_found e = informed west i (get_or s 6 0) (get_or s 7 0) _ _ longitude_read range_read (parted_lem e).1
+  read_information_found e = informed west i (get_or s 6 0) (get_or s 7 0) _ _ longitude_read range_read (parted e).1
 
   -- the side that the destination gave is the longitude's own, where it is not 0
   pub information_side_is_the_angle's : read_information s hundred west ≡ Information-read i → (i.longitude.0 ≡ pos 0 → ⊥) → west ≡ is_minus i.longitude.0
@@ -202,15 +202,15 @@ sited P call d (Latitude-read l b south sixty) h e =
 sited P call d Latitude-refused h e = absurd (no_destination d e)
 
 module _ (call : List ℕ) (d : Destination) (read : read_destination call ≡ Destination-read d) where
-  carried_lem : destination_with call (read_latitude (text_in call)) ≡ Destination-read d
+  carried : destination_with call (read_latitude (text_in call)) ≡ Destination-read d
   unfolding read_destination
-  carried_lem =
+  carried =
       let g = passed (eqb (length call) 6) _ Destination-refused _ (no_destination d) read in
       (passed (are_characters call) _ Destination-refused _ (no_destination d) g.1).1
 
   -- in range, on the side that was read, and a multiple of the width that the blanks leave
   pub read_destination_found : LatitudeFound d.latitude d.blanks d.south
-  read_destination_found = sited (λ l b south sixty. LatitudeFound l b south) call d (read_latitude (text_in call)) (λ l b south sixty. read_latitude_found l b south sixty (text_in call)) carried_lem
+  read_destination_found = sited (λ l b south sixty. LatitudeFound l b south) call d (read_latitude (text_in call)) (λ l b south sixty. read_latitude_found l b south sixty (text_in call)) carried
 
   -- the side that was read is the latitude's own, where it is not 0
   pub destination_side_is_the_angle's : (d.latitude.0 ≡ pos 0 → ⊥) → d.south ≡ is_minus d.latitude.0
@@ -224,11 +224,11 @@ module _ (call : List ℕ) (d : Destination) (read : read_destination call ≡ D
       (λ l b south sixty e.
       latitude_side_is_the_letter's l b south sixty (text_in call) e
       ∙ picked (λ letter flag. eqb letter capital_s ≡ not flag) capital_n capital_s refl refl (is_flagged (get_or call 3 0)))
-      carried_lem
+      carried
 
   -- its minutes are those that its third and fourth characters show, blanks as 0 (document 02, R-8)
   pub destination_minutes_are_the_digits' : d.sixty ≡ leb 60 (minutes_of (counted_digits (latitude_places (text_in call))))
   destination_minutes_are_the_digits' =
       sited (λ l b south sixty. sixty ≡ leb 60 (minutes_of (counted_digits (latitude_places (text_in call))))) call d (read_latitude (text_in call))
       (λ l b south sixty. latitude_minutes_are_the_digits' l b south sixty (text_in call))
-      carried_lem
+      carried

@@ -13,8 +13,8 @@ unfoldable pub is_character : ℕ → Bool
 is_character c = is_digit c || (within capital_a capital_l c || within capital_p capital_z c)
 
 -- "The last three refuse `A-K`"
-unfoldable pub is_last_lem : ℕ → Bool
-is_last_lem c = is_character c && not (within capital_a capital_k c)
+unfoldable pub is_last : ℕ → Bool
+is_last c = is_character c && not (within capital_a capital_k c)
 
 -- the digit or blank, as a character of text
 unfoldable pub digit_of : ℕ → ℕ

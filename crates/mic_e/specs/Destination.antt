@@ -7,7 +7,7 @@ use Rattle.numbers.specs.Sign.{is_minus}
 use Rattle.lonlat.specs.Latitude.{read_latitude, latitude_text, latitude_refusal}
 use Rattle.lonlat.specs.declared.LatitudeRead.{LatitudeRead}
 use Rattle.lonlat.specs.declared.LatitudeRead.TheVariants.{Read as Latitude-read, Refused as Latitude-refused}
-use Rattle.mic_e.specs.Character.{is_character, is_last_lem, is_flagged, digit_of, bit_of, character_of, flag_bit}
+use Rattle.mic_e.specs.Character.{is_character, is_last, is_flagged, digit_of, bit_of, character_of, flag_bit}
 use Rattle.mic_e.specs.Longitude.{longitude_out, hundred_of}
 use Rattle.mic_e.specs.Message.{message_of, bits_of}
 use Rattle.mic_e.specs.declared.Bits.{Bits}
@@ -22,7 +22,7 @@ use Rattle.mic_e.specs.declared.DestinationWritten.{DestinationWritten}
 unfoldable pub are_characters : List ℕ → Bool
 are_characters call =
     is_character (slice_index call 0) && (is_character (slice_index call 1) && (is_character (slice_index call 2)
-    && (is_last_lem (slice_index call 3) && (is_last_lem (slice_index call 4) && is_last_lem (slice_index call 5)))))
+    && (is_last (slice_index call 3) && (is_last (slice_index call 4) && is_last (slice_index call 5)))))
 
 -- the latitude's text: the digits and blanks, and the letter that the fourth character means
 unfoldable pub text_in : List ℕ → List ℕ

@@ -20,8 +20,8 @@ unfoldable pub wrapped : ℕ → ℕ
 wrapped v = cond (nat_lt v 180) v (cond (nat_lt v 190) (v - 80) (cond (nat_lt v 200) (v - 190) v))
 
 -- "Minutes of 60 or more less 60. Hundredths as they are."
-unfoldable pub size_of_lem : ℕ → ℕ → ℕ → ℕ → ℕ
-size_of_lem offset a b c = 6000 * wrapped (a - 28 + offset) + 100 * less_if 60 (b - 28) + (c - 28)
+unfoldable pub size_of : ℕ → ℕ → ℕ → ℕ → ℕ
+size_of offset a b c = 6000 * wrapped (a - 28 + offset) + 100 * less_if 60 (b - 28) + (c - 28)
 
 -- "Subtract 28 from each ..; below 28 is 12. Degrees plus offset over 255 is 12 .. The sum may not pass 1080000."
 unfoldable pub read_longitude : Bool → Bool → ℕ → ℕ → ℕ → LongitudeField
@@ -30,8 +30,8 @@ read_longitude hundred west a b c =
     (cond (nat_lt b 28) Refused
     (cond (nat_lt c 28) Refused
     (cond (nat_lt 255 (a - 28 + offset_of hundred)) Refused
-    (cond (nat_lt most_longitude (size_of_lem (offset_of hundred) a b c)) Refused
-    (Read (record { 0 = signed_of west (size_of_lem (offset_of hundred) a b c) }))))))
+    (cond (nat_lt most_longitude (size_of (offset_of hundred) a b c)) Refused
+    (Read (record { 0 = signed_of west (size_of (offset_of hundred) a b c) }))))))
 
 -- document 01's number
 unfoldable pub longitude_number : LongitudeField → ℕ

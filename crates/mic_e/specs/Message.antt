@@ -81,12 +81,12 @@ message_number Emergency = 14
 message_number Unknown = 15
 
 -- the messages in the order of their numbers
-abbrev pub messages_lem : List Message
-messages_lem = M0 ∷ M1 ∷ M2 ∷ M3 ∷ M4 ∷ M5 ∷ M6 ∷ C0 ∷ C1 ∷ C2 ∷ C3 ∷ C4 ∷ C5 ∷ C6 ∷ Emergency ∷ Unknown ∷ []
+abbrev pub messages : List Message
+messages = M0 ∷ M1 ∷ M2 ∷ M3 ∷ M4 ∷ M5 ∷ M6 ∷ C0 ∷ C1 ∷ C2 ∷ C3 ∷ C4 ∷ C5 ∷ C6 ∷ Emergency ∷ Unknown ∷ []
 
 -- the message of a number; above the last, Unknown
 unfoldable pub message_at : ℕ → Message
-message_at n = slice_index_or messages_lem n Unknown
+message_at n = slice_index_or messages n Unknown
 
 -- the highest number of a message
 abbrev pub most_message : ℕ

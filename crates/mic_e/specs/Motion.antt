@@ -21,8 +21,8 @@ unfoldable pub knots : ℕ → ℕ → ℕ
 knots a b = less_if 800 (10 * (a - 28) + (b - 28) / 10)
 
 -- "Course is 100 times the fifth's remainder by ten plus the sixth, 400 off if 400 or more"
-unfoldable pub degrees_lem : ℕ → ℕ → ℕ
-degrees_lem b c = less_if 400 (100 * ((b - 28) % 10) + (c - 28))
+unfoldable pub degrees : ℕ → ℕ → ℕ
+degrees b c = less_if 400 (100 * ((b - 28) % 10) + (c - 28))
 
 -- "Subtract 28 from each ..; below 28 is 12"; then the speed's limit and the course's
 unfoldable pub read_motion : ℕ → ℕ → ℕ → Motion
@@ -31,8 +31,8 @@ read_motion a b c =
     (cond (nat_lt b 28) Refused
     (cond (nat_lt c 28) Refused
     (cond (nat_lt most_speed (knots a b)) Refused
-    (cond (nat_lt most_course (degrees_lem b c)) Refused
-    (Read (record { 0 = knots a b }) (record { 0 = degrees_lem b c }))))))
+    (cond (nat_lt most_course (degrees b c)) Refused
+    (Read (record { 0 = knots a b }) (record { 0 = degrees b c }))))))
 
 -- document 01's number
 unfoldable pub motion_number : Motion → ℕ

@@ -1,5 +1,6 @@
 // Mic-E reports: the destination that carries a latitude, a message and two flags, and the eight bytes of
 // information that carry longitude, speed, course and symbol. Angles are lonlat's, by its promise alone.
+#![tactic(auto)]
 ghost use Rattle.std.specs.Prelude.{◌≡◌, ◌+◌, ◌<◌, ◌≤◌, false, length, if◌then◌else◌, slice_index, unsigned_abs};
 ghost use Rattle.laws.specs.Bytes.{capital_n, capital_s};
 ghost use Rattle.buffer.specs.Wrote.{ends, wrote};

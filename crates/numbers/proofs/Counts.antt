@@ -9,7 +9,7 @@ use Rattle.laws.proofs.Each.{every_more, every_not, every_end, every_at}
 use Rattle.laws.proofs.Tests.{within_low, within_high}
 use Rattle.laws.proofs.Classes.{in_class, not_in_class, class_place}
 use Rattle.numbers.specs.Sign.{number_on}
-use Rattle.numbers.specs.Numbers.{number_after, number_of_lem}
+use Rattle.numbers.specs.Numbers.{number_after, number_of}
 use Rattle.numbers.specs.declared.Count.{Count}
 use Rattle.numbers.specs.declared.Count.TheVariants.{Is, Over, Bad}
 use Rattle.numbers.specs.declared.Number.{Number}
@@ -59,18 +59,18 @@ no_less v [] = omega arith
 no_less v (d ∷ s) = omega (arith, no_less (10 * v + (d - digit0)) s)
 
 -- so far v was read, of i digits
-module _ (s : List ℕ) (i v : ℕ) (e : number_of_lem s ≡ number_after v (drop i s)) where
-  pub grown_more : i < length s → number_of_lem s ≡ number_after (10 * v + (get_or s i 0 - digit0)) (drop (i + 1) s)
+module _ (s : List ℕ) (i v : ℕ) (e : number_of s ≡ number_after v (drop i s)) where
+  pub grown_more : i < length s → number_of s ≡ number_after (10 * v + (get_or s i 0 - digit0)) (drop (i + 1) s)
   unfolding number_after
   grown_more h = e ∙ rw (next 0 s i h)
 
   pub grown_over : (most : ℕ) → i < length s → most < 10 * v + (get_or s i 0 - digit0) → Over ≡ count_of s most
   unfolding count_of
   grown_over most h k =
-      let m : number_of_lem s ≡ number_after (10 * v + (get_or s i 0 - digit0)) (drop (i + 1) s) = grown_more h in
-      rw (lt-leb (number_of_lem s) most (omega (arith, no_less (10 * v + (get_or s i 0 - digit0)) (drop (i + 1) s))))
+      let m : number_of s ≡ number_after (10 * v + (get_or s i 0 - digit0)) (drop (i + 1) s) = grown_more h in
+      rw (lt-leb (number_of s) most (omega (arith, no_less (10 * v + (get_or s i 0 - digit0)) (drop (i + 1) s))))
 
-  pub grown_whole : length s ≤ i → number_of_lem s ≡ v
+  pub grown_whole : length s ≤ i → number_of s ≡ v
   unfolding number_after
   grown_whole h = e ∙ rw (drop_of_length-le s h)
 
@@ -94,11 +94,11 @@ module _ (s : List ℕ) (most : ℕ) (digit : Bool) (e : digit ≡ every is_digi
 -- what is read is at most the most
 pub count_small : (s : List ℕ) (most n : ℕ) → Is n ≡ read_count s most → n ≤ most
 unfolding read_count count_of
-count_small s most n e = go (eqb (length s) 0) (every is_digit s) (leb (number_of_lem s) most) refl e
+count_small s most n e = go (eqb (length s) 0) (every is_digit s) (leb (number_of s) most) refl e
   where
-    go : (p q t : Bool) → leb (number_of_lem s) most ≡ t → Is n ≡ cond p Bad (cond q (cond t (Is (number_of_lem s)) Over) Bad) → n ≤ most
+    go : (p q t : Bool) → leb (number_of s) most ≡ t → Is n ≡ cond p Bad (cond q (cond t (Is (number_of s)) Over) Bad) → n ≤ most
     go true q t f e = absurd (let z : ◌≡◌ {A = ℕ} 0 1 = cc in omega arith)
-    go false true true f e = let m : n ≡ number_of_lem s = cc in omega (arith, leb-true (number_of_lem s) most f)
+    go false true true f e = let m : n ≡ number_of s = cc in omega (arith, leb-true (number_of s) most f)
     go false true false f e = absurd (let z : ◌≡◌ {A = ℕ} 0 1 = cc in omega arith)
     go false false t f e = absurd (let z : ◌≡◌ {A = ℕ} 0 1 = cc in omega arith)
 

@@ -7,7 +7,7 @@ use Rattle.laws.specs.Bytes.{dash, digit0}
 use Rattle.numbers.specs.declared.Sides.{Sides}
 use Rattle.numbers.specs.Sign.{is_minus, sides_of}
 use Rattle.numbers.specs.Numbers.{digits_by, digits, decimal}
-use Rattle.buffer.specs.Filled.{filled_lem, added}
+use Rattle.buffer.specs.Filled.{filled, added}
 use Rattle.buffer.proofs.Filled.{same_piece}
 
 -- as many as there are, or more: the same digits
@@ -89,9 +89,9 @@ part_spelt : (text : List ℕ) (at n : ℕ) → length text ≡ 20 → drop at t
 part_spelt text at n e d = take_all (20 - at) (drop at text) (omega (arith, length-drop at text)) ∙ d
 
 pub count_put : (text out out' : List ℕ) (from at n r : ℕ) → length text ≡ 20 → drop from text ≡ digits n
-    → filled_lem out' r ≡ added (filled_lem out at) (take (20 - from) (drop from text))
-    → filled_lem out' r ≡ added (filled_lem out at) (digits n)
-count_put text out out' from at n r e d w = same_piece (filled_lem out at) (filled_lem out' r) (take (20 - from) (drop from text)) (digits n) (part_spelt text from n e d) w
+    → filled out' r ≡ added (filled out at) (take (20 - from) (drop from text))
+    → filled out' r ≡ added (filled out at) (digits n)
+count_put text out out' from at n r e d w = same_piece (filled out at) (filled out' r) (take (20 - from) (drop from text)) (digits n) (part_spelt text from n e d) w
 
 decimal_plus : (z : ℤ) → is_minus z ≡ false → decimal z ≡ digits (nat_abs z)
 unfolding decimal is_minus
@@ -113,18 +113,18 @@ module _ (text out out' : List ℕ) (from at r : ℕ) (y z : ℤ) (sides : Sides
   unfolding sides_of
   sided = ap (λ (x : Sides). x.minus) are ∙ ap is_minus same
 
-  pub plus_put : sides.minus ≡ false → filled_lem out' r ≡ added (filled_lem out at) (take (20 - from) (drop from text)) → filled_lem out' r ≡ added (filled_lem out at) (decimal z)
-  plus_put m w = same_piece (filled_lem out at) (filled_lem out' r) (digits sides.size) (decimal z) (sized ∙ sym (decimal_plus z (sym sided ∙ m))) (count_put text out out' from at sides.size r e d w)
+  pub plus_put : sides.minus ≡ false → filled out' r ≡ added (filled out at) (take (20 - from) (drop from text)) → filled out' r ≡ added (filled out at) (decimal z)
+  plus_put m w = same_piece (filled out at) (filled out' r) (digits sides.size) (decimal z) (sized ∙ sym (decimal_plus z (sym sided ∙ m))) (count_put text out out' from at sides.size r e d w)
 
   -- the dash goes before the digits, which leave room for it
   pub minus_put : 9 < from → from < 20 → sides.minus ≡ true
-      → filled_lem out' r ≡ added (filled_lem out at) (take (20 - (from - 1)) (drop (from - 1) (set text (from - 1) dash)))
-      → filled_lem out' r ≡ added (filled_lem out at) (decimal z)
+      → filled out' r ≡ added (filled out at) (take (20 - (from - 1)) (drop (from - 1) (set text (from - 1) dash)))
+      → filled out' r ≡ added (filled out at) (decimal z)
   minus_put h k m w =
       let s : suc (from - 1) ≡ from = omega arith in
       let t : List ℕ = set text (from - 1) dash in
       let p : drop (from - 1) t ≡ decimal z = stored text (from - 1) dash (omega arith) ∙ ap (λ (j : ℕ). dash ∷ drop j text) s ∙ ap (λ (l : List ℕ). dash ∷ l) (d ∙ sized) ∙ sym (decimal_minus z (sym sided ∙ m)) in
-      same_piece (filled_lem out at) (filled_lem out' r) (take (20 - (from - 1)) (drop (from - 1) t)) (decimal z)
+      same_piece (filled out at) (filled out' r) (take (20 - (from - 1)) (drop (from - 1) t)) (decimal z)
       (take_all (20 - (from - 1)) (drop (from - 1) t) (omega (arith, length-drop (from - 1) t, length-set text (from - 1) dash)) ∙ p) w
 
 -- ---- how many there are

@@ -7,7 +7,7 @@ use Rattle.laws.specs.Lists.{every}
 use Rattle.laws.proofs.Each.{every_snoc}
 use Rattle.laws.proofs.Tests.{within_yes}
 use Rattle.numbers.specs.Sign.{signed_of, most_on, number_on}
-use Rattle.numbers.specs.Numbers.{number_after, number_of_lem}
+use Rattle.numbers.specs.Numbers.{number_after, number_of}
 use Rattle.numbers.specs.declared.Count.TheVariants.{Is}
 use Rattle.numbers.specs.declared.Number.TheVariants as number
 use Rattle.numbers.specs.Numbers.{digits_by, digits, decimal, count_of, read_count, on_side, read_number}
@@ -93,7 +93,7 @@ by_digits (suc left) n = go (ltb n 10) refl (by_digits left (n / 10))
     go false e r = every_snoc is_digit (digits_by left (n / 10)) (digit0 + n % 10) r (within_yes digit0 digit9 (digit0 + n % 10) (omega arith) (omega arith))
 
 pub count_back : (n most : ℕ) → n ≤ most → read_count (digits n) most ≡ Is n
-unfolding read_count count_of digits number_of_lem
+unfolding read_count count_of digits number_of
 count_back n most h =
     let f = by_first (suc n) n (omega arith) in
     rw (ne_eqb (length (digits n)) 0 (λ e. omega arith), by_digits (suc n) n, digits_read n, le-leb n most h)

@@ -2,7 +2,7 @@
 -- Assumes nothing.
 use Rattle.std.proofs.Common.{◌≡◌, ℕ, Bool, List, ℤ}
 use Rattle.laws.proofs.Unique.{one_value}
-use Rattle.buffer.specs.Filled.{filled_lem, added}
+use Rattle.buffer.specs.Filled.{filled, added}
 use Rattle.buffer.proofs.Unique.{one_filled}
 use Rattle.numbers.specs.declared.Sides.{Sides}
 use Rattle.numbers.specs.declared.Count.{Count}
@@ -29,11 +29,11 @@ pub unique_read_number : (s : List ℕ) (r r' : Number) → r ≡ read_number s 
 unique_read_number s r r' = one_value r r' (read_number s)
 
 module _ (r r' : ℕ) (o o' : List ℕ) where
-  pub unique_put_count : (n : ℕ) (out : List ℕ) (at : ℕ) → filled_lem o r ≡ added (filled_lem out at) (digits n) → filled_lem o' r' ≡ added (filled_lem out at) (digits n) → (r ≡ r') × (o ≡ o')
-  unique_put_count n out at = one_filled r r' o o' (added (filled_lem out at) (digits n))
+  pub unique_put_count : (n : ℕ) (out : List ℕ) (at : ℕ) → filled o r ≡ added (filled out at) (digits n) → filled o' r' ≡ added (filled out at) (digits n) → (r ≡ r') × (o ≡ o')
+  unique_put_count n out at = one_filled r r' o o' (added (filled out at) (digits n))
 
-  pub unique_put_number : (n : ℤ) (out : List ℕ) (at : ℕ) → filled_lem o r ≡ added (filled_lem out at) (decimal n) → filled_lem o' r' ≡ added (filled_lem out at) (decimal n) → (r ≡ r') × (o ≡ o')
-  unique_put_number n out at = one_filled r r' o o' (added (filled_lem out at) (decimal n))
+  pub unique_put_number : (n : ℤ) (out : List ℕ) (at : ℕ) → filled o r ≡ added (filled out at) (decimal n) → filled o' r' ≡ added (filled out at) (decimal n) → (r ≡ r') × (o ≡ o')
+  unique_put_number n out at = one_filled r r' o o' (added (filled out at) (decimal n))
 
-  pub unique_put_hex : (b : ℕ) (out : List ℕ) (at : ℕ) → filled_lem o r ≡ added (filled_lem out at) (hex_pair b) → filled_lem o' r' ≡ added (filled_lem out at) (hex_pair b) → (r ≡ r') × (o ≡ o')
-  unique_put_hex b out at = one_filled r r' o o' (added (filled_lem out at) (hex_pair b))
+  pub unique_put_hex : (b : ℕ) (out : List ℕ) (at : ℕ) → filled o r ≡ added (filled out at) (hex_pair b) → filled o' r' ≡ added (filled out at) (hex_pair b) → (r ≡ r') × (o ≡ o')
+  unique_put_hex b out at = one_filled r r' o o' (added (filled out at) (hex_pair b))

@@ -27,8 +27,8 @@ number_after v [] = v
 number_after v (b ∷ t) = number_after (10 * v + (b - digit0)) t
 
 -- the decimal number that digits write
-unfoldable pub number_of_lem : List ℕ → ℕ
-number_of_lem t = number_after 0 t
+unfoldable pub number_of : List ℕ → ℕ
+number_of t = number_after 0 t
 
 -- below ten the one digit; else those of the tenth and the last one behind them. `left` bounds their number
 unfoldable pub digits_by : ℕ → ℕ → List ℕ
@@ -45,7 +45,7 @@ decimal (negsuc n) = dash ∷ digits (suc n)
 
 -- the number of digits, if it is at most `most`
 unfoldable pub count_of : List ℕ → ℕ → Count
-count_of s most = cond (nat_le (number_of_lem s) most) (Is (number_of_lem s)) Over
+count_of s most = cond (nat_le (number_of s) most) (Is (number_of s)) Over
 
 -- digits alone, at least one
 unfoldable pub read_count : List ℕ → ℕ → Count

@@ -1,5 +1,7 @@
 // Numbers: taken apart by their sign and put together again, read from text and put into a buffer as text, in decimal and in
 // hexadecimal.
+#![tactic(auto)]
+
 ghost use Rattle.std.specs.Prelude.{◌≡◌, ◌<◌, true, length, drop};
 ghost use Rattle.laws.specs.Bytes.{is_digit};
 ghost use Rattle.laws.specs.Lists.{every};

@@ -1,6 +1,7 @@
 // Says for each Mic-E packet of a capture whether its field stands on the page of a setting. The setting is the program's
 // arguments; the capture, at most 65,536 bytes, its standard input. What is wrong or fails is said on standard error, by a word
 // at the start of the line that ./tusselgro turns into a status.
+#![tactic(auto)]
 mod table;
 
 use settings::Setting;

@@ -10,7 +10,7 @@ use lib.ListN.{length, take, drop, replicate, length-append, length-drop}
 use lib.Seq.{length-take-le}
 use Rattle.buffer.specs.declared.Answer.{Answer}
 use Rattle.buffer.specs.Wrote.{Wrote, ends, refused_by, over_by, wrote}
-use Rattle.buffer.specs.Filled.{Filled, filled_lem, front_of, added}
+use Rattle.buffer.specs.Filled.{Filled, filled, front_of, added}
 use Rattle.buffer.proofs.Wrote.{passed_on}
 use Rattle.buffer.proofs.Answers.{refusal_is, bytes_are, reported_is, front_is}
 use Rattle.buffer.proofs.Filled.{added_length, added_len, added_front}
@@ -63,7 +63,7 @@ module _ (framed : Bool) (h : Header) (w : Answer) (head : List ℕ) (e : ends w
       passed_on a w.refusal (or_else (head_refusal framed h) (over_by most_bytes bytes)) bytes out f z
       (ap (λ (n : ℕ). or_else n (over_by most_bytes bytes)) (sym says) ∙ or_first w.refusal (over_by most_bytes bytes) z)
 
-  module _ (z : w.refusal ≡ 0) (body : List ℕ) (short : length body ≤ 27) (later : List ℕ) (m : ℕ) (p : filled_lem later m ≡ added (filled_lem head w.reported) body) where
+  module _ (z : w.refusal ≡ 0) (body : List ℕ) (short : length body ≤ 27) (later : List ℕ) (m : ℕ) (p : filled later m ≡ added (filled head w.reported) body) where
     none : head_refusal framed h ≡ 0
     none = sym says ∙ z
 
@@ -76,21 +76,21 @@ module _ (framed : Bool) (h : Header) (w : Answer) (head : List ℕ) (e : ends w
         ∙ length-append (head_bytes framed h) (drop (length (head_bytes framed h)) scratch)
         ∙ omega (arith, length-drop (length (head_bytes framed h)) scratch, room none)
 
-    fits_lem : w.reported + length body ≤ length head
-    fits_lem = omega (arith, reported, long, head_short framed h none)
+    fits : w.reported + length body ≤ length head
+    fits = omega (arith, reported, long, head_short framed h none)
 
     front : take m later ≡ head_bytes framed h ++ body
     unfolding front_of
     front =
         ap front_of p
-        ∙ added_front (filled_lem head w.reported) body fits_lem
+        ∙ added_front (filled head w.reported) body fits
         ∙ ap (λ (l : List ℕ). l ++ body) (front_is w head (head_bytes framed h) scratch (head_refusal framed h) e none (room none))
 
     pub behind_within : m ≤ length later
     behind_within =
-        let n : length later ≡ length head = ap (λ (f : Filled). length f.bytes) p ∙ added_length (filled_lem head w.reported) body in
-        let l : m ≡ w.reported + length body = ap (λ (f : Filled). f.len) p ∙ added_len (filled_lem head w.reported) body fits_lem in
-        omega (arith, fits_lem)
+        let n : length later ≡ length head = ap (λ (f : Filled). length f.bytes) p ∙ added_length (filled head w.reported) body in
+        let l : m ≡ w.reported + length body = ap (λ (f : Filled). f.len) p ∙ added_len (filled head w.reported) body fits in
+        omega (arith, fits)
 
     pub behind_long : m ≡ length (take m later)
     behind_long = sym (length-take-le m later behind_within)

@@ -53,20 +53,20 @@ unfolding outer_within
 outer_too_long strict most framed s r l w = rw (lt-ltb most (length s) l) w
 
 module _ (strict : Bool) (most : ℕ) (framed : Bool) (s : List ℕ) (l : length s ≤ most) (h : HeaderRead) (e : h ≡ cond framed (read_frame_header s) (read_header_text s)) where
-  fits_lem : (r : Outer) → r ≡ outer_after strict h s → r ≡ outer_within strict most framed s
+  fits : (r : Outer) → r ≡ outer_after strict h s → r ≡ outer_within strict most framed s
   unfolding outer_within
-  fits_lem r w = rw (le-ltb most (length s) l, ← e) w
+  fits r w = rw (le-ltb most (length s) l, ← e) w
 
   pub outer_without_header : (r : Outer) → (h.refusal ≡ 0 → ⊥) → r ≡ outer_refused s h.refusal → r ≡ outer_within strict most framed s
-  outer_without_header r z w = fits_lem r (without_header strict h s r z w)
+  outer_without_header r z w = fits r (without_header strict h s r z w)
 
   module _ (z : h.refusal ≡ 0) (b : BodyRead) (q : b ≡ read_body_by strict h.header.to s h.body) where
     pub outer_without_body : (r : Outer) → (b.refusal ≡ 0 → ⊥) → r ≡ outer_refused s b.refusal → r ≡ outer_within strict most framed s
-    outer_without_body r n w = fits_lem r (without_body strict h s r b z q n w)
+    outer_without_body r n w = fits r (without_body strict h s r b z q n w)
 
     pub outer_made : (to : Callsign) (x : Header) → b.refusal ≡ 0 → to ≡ kept_to b.body.kind h.header.to → x ≡ header_to h.header to
         → record { header = x; body = b.body; at = h.body; refusal = 0 } ≡ outer_within strict most framed s
-    outer_made to x n f g = fits_lem (record { header = x; body = b.body; at = h.body; refusal = 0 }) (made_of strict h s b to x z q n f g)
+    outer_made to x n f g = fits (record { header = x; body = b.body; at = h.body; refusal = 0 }) (made_of strict h s b to x z q n f g)
 
 -- a frame or a line: 1 is the header's
 refused_outer : (strict : Bool) (h : HeaderRead) (s : List ℕ) → h ≡ header_refused 1 → outer_after strict h s ≡ outer_refused s 1
@@ -131,10 +131,10 @@ own_from : (strict : Bool) (left : ℕ) (h : HeaderRead) (s : List ℕ) → h.re
 unfolding outer_after outer_of packet_of
 own_from strict left h s z e = rw (eq-eqb h.refusal 0 z) (go (eqb (own strict h s).refusal 0))
   where
-    made_lem : Outer
-    made_lem = record { header = header_to h.header (kept_to (own strict h s).body.kind h.header.to); body = (own strict h s).body; at = h.body; refusal = 0 }
+    made : Outer
+    made = record { header = header_to h.header (kept_to (own strict h s).body.kind h.header.to); body = (own strict h s).body; at = h.body; refusal = 0 }
 
-    go : (t : Bool) → packet_from strict left (cond t made_lem (outer_refused s (own strict h s).refusal)) s ≡ cond t (record { refusal = 0; «record» = record_of h.header (own strict h s).body }) (packet_refused (own strict h s).refusal)
+    go : (t : Bool) → packet_from strict left (cond t made (outer_refused s (own strict h s).refusal)) s ≡ cond t (record { refusal = 0; «record» = record_of h.header (own strict h s).body }) (packet_refused (own strict h s).refusal)
     go true = unfold packet_from in rw e (unfold alone_of record_of in refl)
     go false = refused_from strict left s (own strict h s).refusal
 

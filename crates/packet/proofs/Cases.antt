@@ -8,17 +8,17 @@ use Prim.Native.Nat.{ℕ}
 use lib.IntN.{pos}
 use Rattle.laws.specs.Bytes.{comma, point, slash, dash, digit0, colon, greater, bang, capital_e, capital_n, within}
 use Rattle.laws.specs.Lists.{index_of, every, any_of, pad_to}
-use Rattle.callsign.specs.Utf8.{after_lem, characters, utf8}
-use Rattle.callsign.specs.Text.{joined_lem, made_lem, is_zero, call_accepted, parted_lem, read_unstarred, read_text as readCall}
-use Rattle.callsign.specs.Range.{call_part, ssid_part, text_of_lem as callText, with_star}
+use Rattle.callsign.specs.Utf8.{after, characters, utf8}
+use Rattle.callsign.specs.Text.{joined, made, is_zero, call_accepted, parted, read_unstarred, read_text as readCall}
+use Rattle.callsign.specs.Range.{call_part, ssid_part, text_of as callText, with_star}
 use Rattle.header.specs.Hop.{heard_as, call_hop, is_heard, is_qElement, heard_if}
-use Rattle.header.specs.Header.{blank_header, path_of, hops_of, header_of, header_accepted, unless_refused as unlessHeader, before_lem, with_hops}
-use Rattle.header.specs.Text.{on_first, fields, first_of, others_of, starts_q, hop_of, read_hop, hop_then, text_hops, stars_of, carried_lem}
+use Rattle.header.specs.Header.{blank_header, path_of, hops_of, header_of, header_accepted, unless_refused as unlessHeader, before, with_hops}
+use Rattle.header.specs.Text.{on_first, fields, first_of, others_of, starts_q, hop_of, read_hop, hop_then, text_hops, stars_of, carried}
 use Rattle.header.specs.Text.{read_route, read_before, read_header_text, hops_text, route_text, header_text}
 use Rattle.header.proofs.Theorems.{p11_text, p11_hops}
 use Rattle.numbers.specs.Sign.{signed_of, is_minus}
-use Rattle.lonlat.specs.Digits.{last_as, degrees_of, minutes_of, hundredths_of, value_of, size_of_lem, fits_lem, angle_in, places_of, text_of_lem}
-use Rattle.numbers.specs.Numbers.{number_after, number_of_lem, digit_of, digits_of}
+use Rattle.lonlat.specs.Digits.{last_as, degrees_of, minutes_of, hundredths_of, value_of, size_of, fits, angle_in, places_of, text_of}
+use Rattle.numbers.specs.Numbers.{number_after, number_of, digit_of, digits_of}
 use Rattle.lonlat.specs.Latitude.{blanks_in, rest_blank, counted_digits, latitude_with, latitude_in, read_latitude, north_or_south, blanked_places, latitude_text}
 use Rattle.lonlat.specs.Longitude.{longitude_with, longitude_in, read_longitude, east_or_west, longitude_text}
 use Rattle.time.specs.Time.{no_time, is_present, time_text}
@@ -29,7 +29,7 @@ use Rattle.body.specs.Body.{no_span, no_report, opening_of, span_from, position_
 use Rattle.body.specs.Written.{to_as, written_to, position_type, position_bytes, bytes_as, body_bytes, tail_as, tail_bytes}
 use Rattle.packet.specs.declared.Record.{Record}
 use Rattle.packet.specs.Packet.{kept_to, record_of, packet_of, holds_packet, unless_refused, body_behind, packet_after, read_any_text_by, read_text_by, read_text}
-use Rattle.packet.specs.Written.{written_header, bytes_of_lem, text_bytes}
+use Rattle.packet.specs.Written.{written_header, bytes_of, text_bytes}
 
 -- `X>Y,A,B*,C:!0000.00N/00000.00E-`
 abbrev pub p11_line : List ℕ
@@ -41,7 +41,7 @@ p11_line =
 abbrev pub p11_record : Record
 p11_record =
     record {
-      header = record { from = made_lem (0x58 ∷ []) []; to = made_lem (0x59 ∷ []) []; path = path_of p11_hops };
+      header = record { from = made (0x58 ∷ []) []; to = made (0x59 ∷ []) []; path = path_of p11_hops };
       body = record {
         kind = Position;
         place = record { latitude = record { 0 = pos 0 }; longitude = record { 0 = pos 0 }; blanks = 0; table = slash; code = dash; south = false; west = false };
@@ -60,15 +60,15 @@ pub p11_read : read_text p11_line ≡ record { refusal = 0; «record» = p11_rec
 unfolding
     read_text_by read_any_text_by packet_after unless_refused body_behind holds_packet packet_of record_of kept_to read_body_by opening_of body_after positioned_from time_at behind_time position_from position_body span_from read_header_text
     read_before read_route with_hops stars_of path_of header_of unlessHeader header_accepted first_of others_of fields on_first text_hops hop_then
-    before_lem read_hop starts_q hop_of readCall read_unstarred parted_lem call_accepted index_of utf8 characters after_lem within is_zero made_lem
-    joined_lem pad_to carried_lem any_of is_heard is_qElement heard_if heard_as call_hop read_position_by is_uncompressed is_numeric with_latitude with_longitude
+    before read_hop starts_q hop_of readCall read_unstarred parted call_accepted index_of utf8 characters after within is_zero made
+    joined pad_to carried any_of is_heard is_qElement heard_if heard_as call_hop read_position_by is_uncompressed is_numeric with_latitude with_longitude
     read_latitude latitude_in latitude_with read_longitude longitude_in longitude_with blanks_in rest_blank counted_digits every
-    last_as number_after number_of_lem degrees_of minutes_of hundredths_of value_of size_of_lem fits_lem angle_in signed_of
+    last_as number_after number_of degrees_of minutes_of hundredths_of value_of size_of fits angle_in signed_of
 p11_read = refl
 
 pub p11_written : text_bytes p11_record [] [] ≡ p11_line
 unfolding
-    text_bytes bytes_of_lem body_bytes bytes_as tail_bytes tail_as position_type position_bytes no_time is_present time_text written_header written_to to_as position_text latitude_text longitude_text
-    blanked_places north_or_south east_or_west is_minus text_of_lem places_of digits_of digit_of last_as header_text route_text hops_text
-    hops_of any_of is_heard heard_as call_hop callText call_part ssid_part with_star made_lem joined_lem pad_to path_of
+    text_bytes bytes_of body_bytes bytes_as tail_bytes tail_as position_type position_bytes no_time is_present time_text written_header written_to to_as position_text latitude_text longitude_text
+    blanked_places north_or_south east_or_west is_minus text_of places_of digits_of digit_of last_as header_text route_text hops_text
+    hops_of any_of is_heard heard_as call_hop callText call_part ssid_part with_star made joined pad_to path_of
 p11_written = refl

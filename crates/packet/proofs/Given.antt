@@ -10,9 +10,9 @@ use native.Mathlib.Numerals.{sub-one}
 use borrow.Author.Tests.{eqb-true, eqb-false, eq-eqb, ne_eqb, le-leb}
 use lib.Dec.{eqb, ltb, leb}
 use lib.ListN.{length, drop, length-drop}
-use Rattle.laws.specs.Lists.{pad_to, zeros_lem}
+use Rattle.laws.specs.Lists.{pad_to, zeros}
 use Rattle.callsign.specs.declared.Callsign.{Callsign}
-use Rattle.callsign.specs.Text.{made_lem, joined_lem, blank_call}
+use Rattle.callsign.specs.Text.{made, joined, blank_call}
 use Rattle.callsign.specs.Range.{in_range, is_blank_call}
 use Rattle.callsign.proofs.Made.{blank_range as blank-call-range}
 use Rattle.header.specs.declared.Header.{Header}
@@ -116,7 +116,7 @@ kept_range Status to e = e
 kept_range MicE to e = blank-call-range
 
 kept_blank : (k : Kind) (to : Callsign) → k ≡ MicE → is_blank_call (kept_to k to) ≡ true
-unfolding kept_to is_blank_call blank_call made_lem joined_lem pad_to zeros_lem
+unfolding kept_to is_blank_call blank_call made joined pad_to zeros
 kept_blank k to e = rw e
 
 -- a record that reading gives where so many packets may be inside: both headers, its body, and its comment and identifier within so many

@@ -20,7 +20,7 @@ use Rattle.packet.specs.declared.Record.{Record}
 use Rattle.packet.specs.Packet.{header_to}
 use Rattle.packet.specs.Range.{range_refusal}
 use Rattle.header.specs.Header.{most_bytes}
-use Rattle.packet.specs.Written.{written_header, bytes_of_lem, text_bytes, frame_bytes, or_else, record_refusal, text_refusal, frame_refusal}
+use Rattle.packet.specs.Written.{written_header, bytes_of, text_bytes, frame_bytes, or_else, record_refusal, text_refusal, frame_refusal}
 use Rattle.packet.specs.Private.{head_bytes, head_refusal, wrote_behind}
 use Rattle.packet.proofs.Order.{or_first, or_both, header_in, record_refuses, body_fine, header_left, not_blank, inside_refuses, frame_first}
 
@@ -88,7 +88,7 @@ module _ (r : Record) (text identifier : List ℕ) (b : BodyWritten) (h : Header
     tail_is = rw q (tail_bytes_lem r.body r.header.to text identifier accepted)
 
     pub body_written : (framed : Bool) (out : List ℕ) (w : Wrote) → w ≡ wrote_behind framed h (take b.len b.bytes) text (take b.tail_len b.tail) out → w ≡ written framed r text identifier out
-    unfolding wrote_behind head_refusal head_bytes frame_refusal text_refusal frame_bytes text_bytes bytes_of_lem
+    unfolding wrote_behind head_refusal head_bytes frame_refusal text_refusal frame_bytes text_bytes bytes_of
     body_written true out w e =
         let n = over_by most_bytes ((header_frame (written_header r) ++ body_bytes r.body) ++ (text ++ tail_bytes r.body identifier)) in
         e ∙ rw (header_is, bytes_are, tail_is, left, frame_first (written_header r) n)

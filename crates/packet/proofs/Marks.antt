@@ -33,7 +33,7 @@ use Rattle.packet.specs.declared.Record.{Record}
 use Rattle.packet.specs.Record.{blank_record, packet_refused}
 use Rattle.packet.specs.Range.{inner_in_range, record_in_range, range_refusal}
 use Rattle.packet.specs.Packet.{most_inner, header_to, kept_to, record_of, innermost_of, record_around, packet_after, read_any_text_by, read_any_text, read_text_by, read_text, read_frame_by, read_frame}
-use Rattle.packet.specs.Written.{written_header, bytes_of_lem, text_bytes, frame_bytes, content_refusal, record_refusal, text_refusal, frame_refusal}
+use Rattle.packet.specs.Written.{written_header, bytes_of, text_bytes, frame_bytes, content_refusal, record_refusal, text_refusal, frame_refusal}
 use Rattle.packet.proofs.Ways.{inside, by_way}
 
 -- ---- a record without its marks
@@ -102,11 +102,11 @@ same_of f e r = alike_without unmarked f e (written_header (unmarked_record r)) 
 
 module _ (r : Record) (text identifier : List ℕ) where
   pub unmarked_text_bytes : text_bytes (unmarked_record r) text identifier ≡ text_bytes r text identifier
-  unfolding text_bytes bytes_of_lem
+  unfolding text_bytes bytes_of
   unmarked_text_bytes = rw (same_of header_text unmarked_text r) (unfold unmarked_record in refl)
 
   pub unmarked_frame_bytes : frame_bytes (unmarked_record r) text identifier ≡ frame_bytes r text identifier
-  unfolding frame_bytes bytes_of_lem
+  unfolding frame_bytes bytes_of
   unmarked_frame_bytes = rw (same_of header_frame unmarked_frame r) (unfold unmarked_record in refl)
 
   pub unmarked_refusal_of_text : text_refusal (unmarked_record r) text identifier ≡ text_refusal r text identifier

@@ -81,12 +81,12 @@ not_15 : (b : Body) (text identifier : List ℕ) → body_refusal b text identif
 unfolding body_refusal refusal_as message_refusal identifier_refusal status_text_refusal
 not_15 b text identifier = go b.kind
   where
-    never_lem : (t : Bool) → ◌≡◌ {A = ℕ} (cond t 0 18) 15 → ⊥
-    never_lem true e = omega arith
-    never_lem false e = omega arith
+    never : (t : Bool) → ◌≡◌ {A = ℕ} (cond t 0 18) 15 → ⊥
+    never true e = omega arith
+    never false e = omega arith
 
     twice : (t u : Bool) → ◌≡◌ {A = ℕ} (cond t (cond u 0 18) 18) 15 → ⊥
-    twice true u e = never_lem u e
+    twice true u e = never u e
     twice false u e = omega arith
 
     go : (k : Kind) → refusal_as k b text identifier ≡ 15 → ⊥
@@ -94,7 +94,7 @@ not_15 b text identifier = go b.kind
     go Position e = omega arith
     go MicE e = omega arith
     go Message e = twice (is_text text) (leb (length identifier) most_identifier) e
-    go Status e = never_lem (is_status_text b.time text) e
+    go Status e = never (is_status_text b.time text) e
 
 -- ---- a record without a packet inside, and its body as written
 

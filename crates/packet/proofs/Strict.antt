@@ -15,7 +15,7 @@ use Rattle.header.specs.declared.Header.{Header}
 use Rattle.header.specs.declared.HeaderRead.{HeaderRead}
 use Rattle.header.specs.Text.{read_header_text}
 use Rattle.position.specs.Position.{usually, strictly}
-use Rattle.position.proofs.Strict.{unless, through_unless, number_of_lem, is_fault, either_fault}
+use Rattle.position.proofs.Strict.{unless, through_unless, number_of, is_fault, either_fault}
 use Rattle.body.specs.declared.BodyRead.{BodyRead}
 use Rattle.body.specs.Body.{body_refused}
 use Rattle.body.proofs.Strict.{body_fault, body_strictly, body_fault_lem, IsBeside, body_beside, is_sound_body, body_sound}
@@ -94,11 +94,11 @@ packet_fault_lem (suc k) h s =
 
 own_number : (h : Header) (b : BodyRead) → (packet_of h b).refusal ≡ b.refusal
 unfolding packet_of packet_refused
-own_number h b = number_of_lem (λ (p : PacketRead). p.refusal) b.refusal _ _ refl refl
+own_number h b = number_of (λ (p : PacketRead). p.refusal) b.refusal _ _ refl refl
 
 around_number : (h : Header) (at : ℕ) (p : PacketRead) → (packet_around h at p).refusal ≡ p.refusal
 unfolding packet_around packet_refused
-around_number h at p = number_of_lem (λ (q : PacketRead). q.refusal) p.refusal _ _ refl refl
+around_number h at p = number_of (λ (q : PacketRead). q.refusal) p.refusal _ _ refl refl
 
 module _ (left : ℕ) (h : HeaderRead) (s : List ℕ) where
   abbrev usual : PacketRead

@@ -32,7 +32,7 @@ use Rattle.packet.specs.declared.PacketRead.{PacketRead}
 use Rattle.packet.specs.Record.{packet_refused}
 use Rattle.packet.specs.Packet.{most_inner, header_to, record_of, packet_of, holds_packet, innermost_of, packet_after, read_any_text_by, read_any_text, read_text_by, read_text, read_frame_by, read_frame}
 use Rattle.packet.specs.Range.{inner_in_range, record_in_range, range_refusal}
-use Rattle.packet.specs.Written.{written_header, bytes_of_lem, text_bytes, frame_bytes, content_refusal, record_refusal, text_refusal, frame_refusal}
+use Rattle.packet.specs.Written.{written_header, bytes_of, text_bytes, frame_bytes, content_refusal, record_refusal, text_refusal, frame_refusal}
 use Rattle.packet.specs.Private.{head_bytes, head_refusal}
 use Rattle.packet.proofs.Ways.{alone_is}
 use Rattle.packet.proofs.Order.{or_none, or_both, record_refuses, header_left}
@@ -138,12 +138,12 @@ module _ (r : Record) (text identifier : List ℕ) (z : record_refusal r text id
   abbrev said : List ℕ
   said = body_bytes r.body ++ (text ++ tail_bytes r.body identifier)
 
-  long : (head : List ℕ) → length (bytes_of_lem head r text identifier) ≡ length head + length said
-  unfolding bytes_of_lem
+  long : (head : List ℕ) → length (bytes_of head r text identifier) ≡ length head + length said
+  unfolding bytes_of
   long head = ap length (append_assoc head (body_bytes r.body) (text ++ tail_bytes r.body identifier)) ∙ length-append head said
 
   module _ (short : length said ≤ 84) where
-    at_most_262 : (framed : Bool) → head_refusal framed (written_header r) ≡ 0 → length (bytes_of_lem (head_bytes framed (written_header r)) r text identifier) ≤ 262
+    at_most_262 : (framed : Bool) → head_refusal framed (written_header r) ≡ 0 → length (bytes_of (head_bytes framed (written_header r)) r text identifier) ≤ 262
     at_most_262 framed h = omega (arith, long (head_bytes framed (written_header r)), head_short framed (written_header r) h)
 
     header_taken : headerTextRefusal (written_header r) ≡ 0

@@ -17,7 +17,7 @@ use Rattle.body.proofs.Theorems.{destination_range}
 use Rattle.packet.specs.declared.Record.{Record}
 use Rattle.packet.specs.Range.{inner_in_range, record_in_range, range_refusal}
 use Rattle.packet.specs.Packet.{innermost_of}
-use Rattle.packet.specs.Written.{written_header, bytes_of_lem, frame_bytes, or_else, content_refusal, record_refusal, frame_refusal}
+use Rattle.packet.specs.Written.{written_header, bytes_of, frame_bytes, or_else, content_refusal, record_refusal, frame_refusal}
 use Rattle.packet.proofs.Order.{inside_refuses}
 
 unfoldable pub record_without_q : Record → Record
@@ -31,7 +31,7 @@ unfolding written_header record_without_q without_q header_of
 same_written r = refl
 
 pub without_q_bytes : (r : Record) (text identifier : List ℕ) → frame_bytes (record_without_q r) text identifier ≡ frame_bytes r text identifier
-unfolding frame_bytes bytes_of_lem
+unfolding frame_bytes bytes_of
 without_q_bytes r text identifier = rw (same_written r, same_frame (written_header r)) (unfold record_without_q in refl)
 
 -- ---- the range

@@ -21,16 +21,16 @@ unfoldable pub written_header : Record → Header
 written_header r = header_to r.header (written_to r.body r.header.to)
 
 -- the header's bytes, the body's, the comment's or text's, and the identifier's
-unfoldable pub bytes_of_lem : List ℕ → Record → List ℕ → List ℕ → List ℕ
-bytes_of_lem head r text identifier = (head ++ body_bytes r.body) ++ (text ++ tail_bytes r.body identifier)
+unfoldable pub bytes_of : List ℕ → Record → List ℕ → List ℕ → List ℕ
+bytes_of head r text identifier = (head ++ body_bytes r.body) ++ (text ++ tail_bytes r.body identifier)
 
 -- of a line
 unfoldable pub text_bytes : Record → List ℕ → List ℕ → List ℕ
-text_bytes r text identifier = bytes_of_lem (header_text (written_header r)) r text identifier
+text_bytes r text identifier = bytes_of (header_text (written_header r)) r text identifier
 
 -- of a frame
 unfoldable pub frame_bytes : Record → List ℕ → List ℕ → List ℕ
-frame_bytes r text identifier = bytes_of_lem (header_frame (written_header r)) r text identifier
+frame_bytes r text identifier = bytes_of (header_frame (written_header r)) r text identifier
 
 -- ---- the refusals
 

@@ -14,7 +14,7 @@ use Rattle.callsign.specs.declared.CallRead.{CallRead}
 use Rattle.callsign.specs.declared.AddressRead.{AddressRead}
 use Rattle.callsign.specs.declared.AddressWritten.{AddressWritten}
 use Rattle.callsign.specs.Text.{read_text}
-use Rattle.callsign.specs.Range.{range_refusal, text_of_lem, with_star}
+use Rattle.callsign.specs.Range.{range_refusal, text_of, with_star}
 use Rattle.callsign.specs.Address.{read_address}
 use Rattle.lonlat.specs.Latitude.{read_latitude, latitude_refusal, latitude_text}
 use Rattle.lonlat.specs.Longitude.{read_longitude, longitude_refusal, longitude_text}
@@ -70,8 +70,8 @@ module _ (s : List ℕ) where
   unique_tusselgro_read_status r r' = one_value r r' (status_in_c (read_status s))
 
 module _ (out : List ℕ) (a a' : Answer) (o o' : List ℕ) where
-  pub unique_tusselgro_write_callsign : (call : Callsign) (starred : Bool) → ends a o ≡ wrote (range_refusal call) (with_star (text_of_lem call) starred) out → ends a' o' ≡ wrote (range_refusal call) (with_star (text_of_lem call) starred) out → (a ≡ a') × (o ≡ o')
-  unique_tusselgro_write_callsign call starred = one_end a a' o o' (wrote (range_refusal call) (with_star (text_of_lem call) starred) out)
+  pub unique_tusselgro_write_callsign : (call : Callsign) (starred : Bool) → ends a o ≡ wrote (range_refusal call) (with_star (text_of call) starred) out → ends a' o' ≡ wrote (range_refusal call) (with_star (text_of call) starred) out → (a ≡ a') × (o ≡ o')
+  unique_tusselgro_write_callsign call starred = one_end a a' o o' (wrote (range_refusal call) (with_star (text_of call) starred) out)
 
   pub unique_tusselgro_write_latitude : (latitude : ℤ) (blanks : ℕ) → ends a o ≡ wrote (latitude_refusal latitude blanks) (latitude_text latitude blanks) out → ends a' o' ≡ wrote (latitude_refusal latitude blanks) (latitude_text latitude blanks) out → (a ≡ a') × (o ≡ o')
   unique_tusselgro_write_latitude latitude blanks = one_end a a' o o' (wrote (latitude_refusal latitude blanks) (latitude_text latitude blanks) out)

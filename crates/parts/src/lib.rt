@@ -1,6 +1,7 @@
 // The way in for C and Rust to the parts of a packet, for a plug-in that moves over one by one: callsigns, addresses, angles, times,
 // positions, Mic-E fields, messages and status lines read and written, as functions of the C ABI. It is a library of its own, since
 // what two functions share is compiled less well into each. No function asks more of its caller than its C type says.
+#![tactic(auto)]
 ghost use Rattle.std.specs.Prelude.{◌≡◌, length};
 ghost use Rattle.buffer.specs.Wrote.{ends, wrote};
 ghost use Rattle.callsign.specs.Text.{read_text};

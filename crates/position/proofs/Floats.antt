@@ -9,7 +9,7 @@ use Rattle.numbers.specs.declared.Sides.{Sides}
 use Rattle.numbers.proofs.Sign.{parts_size, parts_minus}
 use Rattle.position.specs.declared.Bounds.{Bounds}
 use Rattle.position.specs.Reach.{in_reach}
-use Rattle.position.specs.Bounds.{whole_lem, degree_width, degrees_of, center_of, range_of, no_bounds, bounds_of}
+use Rattle.position.specs.Bounds.{whole, degree_width, degrees_of, center_of, range_of, no_bounds, bounds_of}
 use Rattle.position.proofs.Reach.{reached}
 
 -- u is the test of the angle, z the angle as the code has it
@@ -29,7 +29,7 @@ module _ (most : ℕ) (angle : ℤ) (blanks : ℕ) (z : ℤ) (back : z ≡ angle
     bounds_plus k i = rw (reached most blanks angle z back u e h, ← parts_minus angle z back p f, k, ← parts_size angle z back p f, ← g, i)
 
 -- the last of the table
-pub degree_width_most : (blanks : ℕ) → 5 ≤ blanks → whole_lem 10 ≡ degree_width blanks
+pub degree_width_most : (blanks : ℕ) → 5 ≤ blanks → whole 10 ≡ degree_width blanks
 unfolding degree_width
 degree_width_most blanks h =
-    sym (get_or-eq_default (div binary64 (whole_lem 1) (whole_lem 6000) ∷ div binary64 (whole_lem 1) (whole_lem 600) ∷ div binary64 (whole_lem 1) (whole_lem 60) ∷ div binary64 (whole_lem 1) (whole_lem 6) ∷ whole_lem 1 ∷ []) (whole_lem 10) h)
+    sym (get_or-eq_default (div binary64 (whole 1) (whole 6000) ∷ div binary64 (whole 1) (whole 600) ∷ div binary64 (whole 1) (whole 60) ∷ div binary64 (whole 1) (whole 6) ∷ whole 1 ∷ []) (whole 10) h)

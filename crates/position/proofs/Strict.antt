@@ -31,8 +31,8 @@ module _ {A : Type 0} (refused : ℕ → A) where
   table_unless false r = refl
 
 -- of an answer that is made by a number, the number
-pub number_of_lem : {A : Type 0} (number : A → ℕ) (n : ℕ) (x y : A) → number x ≡ 0 → number y ≡ n → number (cond (eqb n 0) x y) ≡ n
-number_of_lem number n x y p q = picked (λ r none. eqb n 0 ≡ none → number r ≡ n) x y (λ e. p ∙ sym (eqb-true n 0 e)) (λ e. q) (eqb n 0) refl
+pub number_of : {A : Type 0} (number : A → ℕ) (n : ℕ) (x y : A) → number x ≡ 0 → number y ≡ n → number (cond (eqb n 0) x y) ≡ n
+number_of number n x y p q = picked (λ r none. eqb n 0 ≡ none → number r ≡ n) x y (λ e. p ∙ sym (eqb-true n 0 e)) (λ e. q) (eqb n 0) refl
 
 -- ---- the fault that only the strict reader finds; 0 is none
 

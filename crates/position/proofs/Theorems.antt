@@ -107,8 +107,8 @@ read_position_answered s =
       nothing = λ h. absurd (h refl);
       near = λ z. found_near s latitude longitude blanks south west l m;
       agree = found_agree s latitude longitude blanks south west l m;
-      latitude_whole = l.angle.whole_lem;
-      longitude_whole = m.whole_lem;
+      latitude_whole = l.angle.whole;
+      longitude_whole = m.whole;
     })
 
 -- ---- the boxes of a place whose angles are multiples of the width that its blanks leave, as those of a position that was read are:
@@ -140,36 +140,36 @@ cut_place p = record {
 
 -- a text of 8 bytes, one byte, a text of 9, one byte, and the rest
 module _ (n : List ℕ) (t : ℕ) (e : List ℕ) (c : ℕ) (rest : List ℕ) (eight : length n ≡ 8) (nine : length e ≡ 9) where
-  whole_lem : List ℕ
-  whole_lem = n ++ (t ∷ e ++ (c ∷ rest))
+  whole : List ℕ
+  whole = n ++ (t ∷ e ++ (c ∷ rest))
 
-  whole_long : fixed_bytes ≤ length whole_lem
-  unfolding whole_lem
+  whole_long : fixed_bytes ≤ length whole
+  unfolding whole
   whole_long = rw (length-append n (t ∷ e ++ (c ∷ rest)), length-append e (c ∷ rest)) (omega arith)
 
-  whole_first : get_or whole_lem 0 0 ≡ get_or n 0 0
-  unfolding whole_lem
+  whole_first : get_or whole 0 0 ≡ get_or n 0 0
+  unfolding whole
   whole_first = get_or-append n (t ∷ e ++ (c ∷ rest)) 0 0 (omega arith)
 
-  whole_north : take 8 whole_lem ≡ n
-  unfolding whole_lem
+  whole_north : take 8 whole ≡ n
+  unfolding whole
   whole_north = take_at n (t ∷ e ++ (c ∷ rest)) 8 eight
 
-  whole_table : get_or whole_lem 8 0 ≡ t
-  unfolding whole_lem
+  whole_table : get_or whole 8 0 ≡ t
+  unfolding whole
   whole_table = ap (λ (i : ℕ). get_or (n ++ (t ∷ e ++ (c ∷ rest))) i 0) (sym eight ∙ omega arith) ∙ get_or-append-add n (t ∷ e ++ (c ∷ rest)) 0 0
 
-  past_table : drop 9 whole_lem ≡ e ++ (c ∷ rest)
-  unfolding whole_lem
+  past_table : drop 9 whole ≡ e ++ (c ∷ rest)
+  unfolding whole
   past_table =
       ap (drop 9) (sym (append_assoc n (t ∷ []) (e ++ (c ∷ rest))))
       ∙ drop_at (n ++ (t ∷ [])) (e ++ (c ∷ rest)) 9 (length-append n (t ∷ []) ∙ rw eight)
 
-  whole_east : take 9 (drop 9 whole_lem) ≡ e
+  whole_east : take 9 (drop 9 whole) ≡ e
   whole_east = ap (take 9) past_table ∙ take_at e (c ∷ rest) 9 nine
 
-  whole_code : get_or whole_lem 18 0 ≡ c
-  whole_code = sym (get_or-drop 9 whole_lem 9 0) ∙ ap (λ (l : List ℕ). get_or l 9 0) past_table ∙ get_or_at e c rest 0 9 nine
+  whole_code : get_or whole 18 0 ≡ c
+  whole_code = sym (get_or-drop 9 whole 9 0) ∙ ap (λ (l : List ℕ). get_or l 9 0) past_table ∙ get_or_at e c rest 0 9 nine
 
 -- a place read from text whose parts are known
 parts_read : (s : List ℕ) (latitude : Latitude) (longitude : Longitude) (blanks : ℕ) (south west x y : Bool) → is_uncompressed s ≡ true → fixed_bytes ≤ length s
@@ -201,10 +201,10 @@ module _ (p : Place) (near : place_in_range p ≡ true) (comment : List ℕ) whe
   nine = longitude_text_length p.longitude.0
 
   s : List ℕ
-  s = whole_lem n p.table e p.code comment eight nine
+  s = whole n p.table e p.code comment eight nine
 
   text_whole : position_text p ++ comment ≡ s
-  unfolding position_text whole_lem s n e
+  unfolding position_text whole s n e
   text_whole = append_assoc n (p.table ∷ e ++ (p.code ∷ [])) comment ∙ ap {B = List ℕ} (λ l. n ++ (p.table ∷ l)) (append_assoc e (p.code ∷ []) comment)
 
   north_read : read_latitude (take 8 s) ≡ lat.Read (record { 0 = cut_angle p.blanks p.latitude.0 }) p.blanks (is_minus p.latitude.0) false

@@ -48,20 +48,20 @@ judged_in false n e h = absurd (omega arith)
 
 -- ---- the 19 bytes: a latitude's text in front of 19 zeros, a longitude's from the tenth on, and the symbol's bytes
 
-abbrev zeros_lem : List ℕ
-zeros_lem = replicate 19 0
+abbrev zeros : List ℕ
+zeros = replicate 19 0
 
 abbrev behind : List ℕ → List ℕ → List ℕ
 behind n e = e ++ drop 9 (mid_of 9 10 n)
 
 nineteen : (l m : List ℕ) (table code : ℕ) → length l ≡ 8 → length m ≡ 9
-    → set (set (put_mid 9 10 (l ++ drop 8 zeros_lem) (behind (l ++ drop 8 zeros_lem) m)) 8 table) 18 code ≡ l ++ (table ∷ m ++ (code ∷ []))
+    → set (set (put_mid 9 10 (l ++ drop 8 zeros) (behind (l ++ drop 8 zeros) m)) 8 table) 18 code ≡ l ++ (table ∷ m ++ (code ∷ []))
 nineteen l m table code h k =
     subst
-    (λ (x : List ℕ). set (set (put_mid 9 10 (x ++ drop 8 zeros_lem) (behind (x ++ drop 8 zeros_lem) m)) 8 table) 18 code ≡ x ++ (table ∷ m ++ (code ∷ [])))
+    (λ (x : List ℕ). set (set (put_mid 9 10 (x ++ drop 8 zeros) (behind (x ++ drop 8 zeros) m)) 8 table) 18 code ≡ x ++ (table ∷ m ++ (code ∷ [])))
     (elements_all 0 l 8 h)
     (subst
-    (λ (y : List ℕ). set (set (put_mid 9 10 (elements 0 l 0 8 ++ drop 8 zeros_lem) (behind (elements 0 l 0 8 ++ drop 8 zeros_lem) y)) 8 table) 18 code ≡ elements 0 l 0 8 ++ (table ∷ y ++ (code ∷ [])))
+    (λ (y : List ℕ). set (set (put_mid 9 10 (elements 0 l 0 8 ++ drop 8 zeros) (behind (elements 0 l 0 8 ++ drop 8 zeros) y)) 8 table) 18 code ≡ elements 0 l 0 8 ++ (table ∷ y ++ (code ∷ [])))
     (elements_all 0 m 9 k)
     refl)
 
@@ -72,7 +72,7 @@ still_nineteen n e table code h k = sym (simp length-set (same_len_mid 9 10 n e 
 -- ---- answers: a and b are what the leaves answer, n and e what they leave, v the test of the symbol
 
 module _ (p : Place) (r : Answer) (out : List ℕ) (a : Answer) (n : List ℕ)
-    (north : ends a n ≡ wrote (latitude_refusal p.latitude.0 p.blanks) (latitude_text p.latitude.0 p.blanks) zeros_lem) where
+    (north : ends a n ≡ wrote (latitude_refusal p.latitude.0 p.blanks) (latitude_text p.latitude.0 p.blanks) zeros) where
   north_in : Bool
   north_in = in_reach most_latitude (nat_abs p.latitude.0) p.blanks
 
@@ -87,7 +87,7 @@ module _ (p : Place) (r : Answer) (out : List ℕ) (a : Answer) (n : List ℕ)
   unfolding north_in
   judged =
       let j = latitude_judged p.latitude.0 p.blanks in
-      refusal_is a n (latitude_text p.latitude.0 p.blanks) zeros_lem (latitude_refusal p.latitude.0 p.blanks) north
+      refusal_is a n (latitude_text p.latitude.0 p.blanks) zeros (latitude_refusal p.latitude.0 p.blanks) north
       (λ z. omega (arith, eight (judged_in north_in _ j z)))
       ∙ j
 
@@ -100,16 +100,16 @@ module _ (p : Place) (r : Answer) (out : List ℕ) (a : Answer) (n : List ℕ)
     north_fine : north_in ≡ true
     north_fine = judged_in north_in a.refusal judged fine
 
-    n_is : n ≡ latitude_text p.latitude.0 p.blanks ++ drop 8 zeros_lem
+    n_is : n ≡ latitude_text p.latitude.0 p.blanks ++ drop 8 zeros
     unfolding north_in
     n_is =
-        bytes_are a n (latitude_text p.latitude.0 p.blanks) zeros_lem (latitude_refusal p.latitude.0 p.blanks) north
+        bytes_are a n (latitude_text p.latitude.0 p.blanks) zeros (latitude_refusal p.latitude.0 p.blanks) north
         (latitude_judged p.latitude.0 p.blanks ∙ rw north_fine)
         (omega (arith, eight north_fine))
         ∙ rw (eight north_fine)
 
     n_long : length n ≡ 19
-    n_long = ap length n_is ∙ length-append (latitude_text p.latitude.0 p.blanks) (drop 8 zeros_lem) ∙ rw (eight north_fine)
+    n_long = ap length n_is ∙ length-append (latitude_text p.latitude.0 p.blanks) (drop 8 zeros) ∙ rw (eight north_fine)
 
     rest_long : length (mid_of 9 10 n) ≡ 10
     rest_long = length-take-le 10 (drop 9 n) (omega (arith, length-drop 9 n, n_long))

@@ -11,13 +11,13 @@ use Rattle.position.specs.declared.BoundsAnswer.{BoundsAnswer}
 use Rattle.position.specs.Reach.{in_reach}
 
 -- a whole number as a float
-abbrev pub whole_lem : ℕ → Float
-whole_lem n = of_int binary64 (pos n)
+abbrev pub whole : ℕ → Float
+whole n = of_int binary64 (pos n)
 
 -- from_dmh: deg + min / 60. + hundredths / 6_000.
 unfoldable pub from_dmh : ℕ → ℕ → ℕ → Float
 from_dmh degrees minutes hundredths =
-    add binary64 (add binary64 (whole_lem degrees) (div binary64 (whole_lem minutes) (whole_lem 60))) (div binary64 (whole_lem hundredths) (whole_lem 6000))
+    add binary64 (add binary64 (whole degrees) (div binary64 (whole minutes) (whole 60))) (div binary64 (whole hundredths) (whole 6000))
 
 -- of the normalised degrees, minutes and hundredths of a size
 unfoldable pub degrees_of : ℕ → Float
@@ -31,20 +31,20 @@ center_of angle = cond (is_minus angle) (neg (degrees_of (unsigned_abs angle))) 
 unfoldable pub degree_width : ℕ → Float
 degree_width blanks =
     slice_index_or
-    (div binary64 (whole_lem 1) (whole_lem 6000) ∷ div binary64 (whole_lem 1) (whole_lem 600) ∷ div binary64 (whole_lem 1) (whole_lem 60) ∷ div binary64 (whole_lem 1) (whole_lem 6) ∷ whole_lem 1 ∷ [])
+    (div binary64 (whole 1) (whole 6000) ∷ div binary64 (whole 1) (whole 600) ∷ div binary64 (whole 1) (whole 60) ∷ div binary64 (whole 1) (whole 6) ∷ whole 1 ∷ [])
     blanks
-    (whole_lem 10)
+    (whole 10)
 
 -- Precision::range: (center - (width / 2.0))..=(center + (width / 2.0))
 unfoldable pub range_of : Float → ℕ → Bounds
 range_of center blanks = record {
-  lower = sub binary64 center (div binary64 (degree_width blanks) (whole_lem 2));
-  upper = add binary64 center (div binary64 (degree_width blanks) (whole_lem 2));
+  lower = sub binary64 center (div binary64 (degree_width blanks) (whole 2));
+  upper = add binary64 center (div binary64 (degree_width blanks) (whole 2));
 }
 
 -- "Out of range, both give 15 and bounds 0, 0."
 abbrev pub no_bounds : BoundsAnswer
-no_bounds = record { refusal = 15; bounds = record { lower = whole_lem 0; upper = whole_lem 0 } }
+no_bounds = record { refusal = 15; bounds = record { lower = whole 0; upper = whole 0 } }
 
 -- the range around an angle on its side
 unfoldable pub bounds_of : ℕ → ℤ → ℕ → BoundsAnswer

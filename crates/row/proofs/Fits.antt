@@ -13,7 +13,7 @@ use mir.Syntax.{w64}
 use mir.Val.{Fits}
 use Rattle.laws.specs.Bytes.{line_feed}
 use Rattle.laws.specs.Lists.{together}
-use Rattle.buffer.specs.Filled.{filled_lem, front_of, added_all}
+use Rattle.buffer.specs.Filled.{filled, front_of, added_all}
 use Rattle.buffer.proofs.Filled.{all_front}
 use Rattle.numbers.specs.Numbers.{digits, decimal}
 use Rattle.numbers.proofs.Digits.{count_width}
@@ -25,7 +25,7 @@ use Rattle.body.specs.declared.Kind.{Kind}
 use Rattle.packet.specs.declared.Record.{Record}
 use Rattle.packet.specs.declared.PacketRead.{PacketRead}
 use Rattle.row.proofs.Theorems.{outermost_to, own_to}
-use Rattle.row.specs.Row.{absent_lem, or_point, call_field, own_to_field, to_field, heard_among, heard_hops, angle_fields, absent_angles, place_fields, record_fields, refused_fields, row_fields, spaced, row_of, width_of}
+use Rattle.row.specs.Row.{absent, or_point, call_field, own_to_field, to_field, heard_among, heard_hops, angle_fields, absent_angles, place_fields, record_fields, refused_fields, row_fields, spaced, row_of, width_of}
 
 -- ---- fields with a byte behind each
 
@@ -67,7 +67,7 @@ pub absent_width : width_of absent_angles ≤ 24
 unfolding absent_angles width_of
 absent_width = omega arith
 
-pub no_to_width : length absent_lem ≤ 16
+pub no_to_width : length absent ≤ 16
 no_to_width = omega arith
 
 -- by the kind; k is what it is
@@ -112,6 +112,6 @@ module _ (number : ℕ) (read : PacketRead) (n : length (digits number) ≤ 20) 
 
 -- what stands at the front of a buffer of 142 bytes
 pub row_fits : (number : ℕ) (read : PacketRead) (text text' : List ℕ) (r : ℕ) → length (row_of number read) ≤ 142 → length text ≡ 142
-    → filled_lem text' r ≡ added_all (filled_lem text 0) (spaced (row_fields number read)) → take r text' ≡ row_of number read
+    → filled text' r ≡ added_all (filled text 0) (spaced (row_fields number read)) → take r text' ≡ row_of number read
 unfolding front_of row_of
 row_fits number read text text' r w h e = ap front_of e ∙ all_front text (spaced (row_fields number read)) (omega arith)

@@ -12,7 +12,7 @@ use mir.Val.{SFits, to_z, of_z}
 use Rattle.laws.specs.Bytes.{space, dash, line_feed, digit0}
 use Rattle.buffer.specs.declared.Answer.{Answer}
 use Rattle.buffer.specs.Wrote.{ends, wrote}
-use Rattle.buffer.specs.Filled.{Filled, filled_lem, added, added_all}
+use Rattle.buffer.specs.Filled.{Filled, filled, added, added_all}
 use Rattle.buffer.proofs.Filled.{two_added, all_then}
 use Rattle.numbers.specs.Numbers.{digits, decimal}
 use Rattle.numbers.proofs.Sign.{back}
@@ -122,7 +122,7 @@ module _ (number : ℕ) (read : PacketRead) (f g h k : Filled) (p : g ≡ added_
 -- a text of 142 bytes holds the fields, and the row is written from its front
 pub row_written : (strict : Bool) (number n : ℕ) (line text text' front out out' : List ℕ) (read : PacketRead) (w : Answer)
     → read ≡ read_text_by strict line → length (row_of number read) ≤ 142 → length text ≡ 142
-    → filled_lem text' n ≡ added_all (filled_lem text 0) (spaced (row_fields number read)) → front ≡ take n text'
+    → filled text' n ≡ added_all (filled text 0) (spaced (row_fields number read)) → front ≡ take n text'
     → ends w out' ≡ wrote 0 front out → ends w out' ≡ wrote 0 (row_by strict number line) out
 unfolding row_by
 row_written strict number n line text text' front out out' read w e h k p q s =

@@ -8,7 +8,7 @@ use Prim.Native.Nat.{ℕ, suc}
 use borrow.Author.Tests.{eq-eqb, ne_eqb}
 use lib.ListN.{length}
 use Rattle.callsign.specs.declared.Callsign.{Callsign}
-use Rattle.callsign.specs.Range.{in_range, text_of_lem}
+use Rattle.callsign.specs.Range.{in_range, text_of}
 use Rattle.callsign.proofs.Ranges.{text_in_use}
 use Rattle.header.specs.declared.Hop.{Hop}
 use Rattle.header.specs.Hop.{is_heard, is_qElement, calls_of}
@@ -20,7 +20,7 @@ use Rattle.packet.proofs.Theorems.{text_strictly}
 use Rattle.row.specs.Row.{or_point, call_field, own_to_field, to_field, heard_among, row_of, row_by, row}
 
 -- a callsign in range stands in its row as it would be written, and a point stands for an empty one
-pub call_as_written : (c : Callsign) → in_range c ≡ true → length c.text ≡ 16 → call_field c ≡ or_point (text_of_lem c)
+pub call_as_written : (c : Callsign) → in_range c ≡ true → length c.text ≡ 16 → call_field c ≡ or_point (text_of c)
 unfolding call_field
 call_as_written c e long = ap or_point (sym (text_in_use c e long))
 

@@ -24,8 +24,8 @@ use Rattle.packet.specs.Packet.{read_text_by}
 -- ---- fields
 
 -- "`-` is absent"
-abbrev pub absent_lem : List ℕ
-absent_lem = dash ∷ []
+abbrev pub absent : List ℕ
+absent = dash ∷ []
 
 -- "an accepted empty callsign prints `.`"
 unfoldable pub or_point : List ℕ → List ℕ
@@ -40,7 +40,7 @@ call_field c = or_point (take (text_len c) c.text)
 unfoldable pub own_to_field : Kind → Callsign → List ℕ
 own_to_field Unknown to = call_field to
 own_to_field Position to = call_field to
-own_to_field MicE to = absent_lem
+own_to_field MicE to = absent
 own_to_field Message to = call_field to
 own_to_field Status to = call_field to
 

@@ -1,6 +1,7 @@
 // A record in words, and written again: `KIND from= to= hops= lat= lon= blanks= table= code= flag= message= speed= course= comment=
 // text= frame= letters= zeros= time= addressee= id= inner= inner-from= inner-to= inner-hops= inner-zeros=`. Part of the programs
 // inspect and bench.
+#![tactic(auto)]
 use body::{Body, Kind, Report, Span};
 use callsign::Callsign;
 use header::{Header, Hop, Path};

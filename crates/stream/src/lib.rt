@@ -1,4 +1,5 @@
 // Standard input, a line at a time and of any length, or whole; and standard output in parts. Part of programs.
+#![tactic(auto)]
 mod whole;
 
 pub use whole::{Whole, gather, read_all};

@@ -3,7 +3,7 @@
 use Rattle.std.proofs.Common.{◌≡◌, ℕ, List, [], ◌∷◌, refl}
 use Rattle.laws.specs.Bytes.{digit0, digit9, slash, small_h, small_z, capital_z, within}
 use Rattle.laws.specs.Lists.{every}
-use Rattle.numbers.specs.Numbers.{digit_of, digits_of, number_after, number_of_lem}
+use Rattle.numbers.specs.Numbers.{digit_of, digits_of, number_after, number_of}
 use Rattle.time.specs.declared.Time.{Time}
 use Rattle.time.specs.declared.TimeRead.TheVariants.{Read, Refused}
 use Rattle.time.specs.Time.{is_day, no_time, is_no_time, in_day, is_day_time, is_clock_time, is_time, time_of, time_in, read_time, seven_bytes, present_text, is_present, time_text, time_in_range, time_refusal}
@@ -49,7 +49,7 @@ pub record Cases : Type 0 where
   pub lone_day : time_refusal (record { day = 9; hour = 0; minute = 0; second = 0; form = 0 }) ≡ 15
 
 pub cases : Cases
-unfolding is_day no_time is_no_time in_day is_day_time is_clock_time is_time time_of time_in read_time seven_bytes present_text is_present time_text time_in_range time_refusal within every digit_of digits_of number_after number_of_lem
+unfolding is_day no_time is_no_time in_day is_day_time is_clock_time is_time time_of time_in read_time seven_bytes present_text is_present time_text time_in_range time_refusal within every digit_of digits_of number_after number_of
 cases =
     record {
       utc = refl;

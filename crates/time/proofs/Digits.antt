@@ -4,20 +4,20 @@ use Rattle.std.proofs.Common.{◌≡◌, ℕ, ◌+◌, ◌-◌, ◌*◌, ◌/◌
 use Rattle.laws.specs.Bytes.{digit0, digit9, is_digit}
 use Rattle.laws.specs.Lists.{every}
 use Rattle.laws.proofs.Tests.{within_yes}
-use Rattle.numbers.specs.Numbers.{digit_of, digits_of, number_after, number_of_lem}
+use Rattle.numbers.specs.Numbers.{digit_of, digits_of, number_after, number_of}
 use Rattle.numbers.proofs.Counts.{a_digit}
 use Rattle.time.specs.Time.{time_of, time_in, seven_bytes}
 
 -- ---- two digits
 
 -- a number of two digits read again
-pub number_back : (v : ℕ) → v < 100 → number_of_lem (digits_of 2 v) ≡ v
-unfolding number_of_lem number_after digits_of digit_of
+pub number_back : (v : ℕ) → v < 100 → number_of (digits_of 2 v) ≡ v
+unfolding number_of number_after digits_of digit_of
 number_back v h = omega arith
 
 -- two digits written again
-pub digits_back : (a b : ℕ) → is_digit a ≡ true → is_digit b ≡ true → digits_of 2 (number_of_lem (a ∷ b ∷ [])) ≡ a ∷ b ∷ []
-unfolding number_of_lem number_after digits_of digit_of
+pub digits_back : (a b : ℕ) → is_digit a ≡ true → is_digit b ≡ true → digits_of 2 (number_of (a ∷ b ∷ [])) ≡ a ∷ b ∷ []
+unfolding number_of number_after digits_of digit_of
 digits_back a b p q =
     let da = a_digit a p in
     let db = a_digit b q in

@@ -5,7 +5,7 @@ use Rattle.laws.specs.Bytes.{digit0, is_digit}
 use Rattle.laws.specs.Lists.{every}
 use Rattle.laws.proofs.Lists.{elements_all}
 use Rattle.laws.proofs.Tests.{and_first, and_second}
-use Rattle.numbers.specs.Numbers.{number_after, number_of_lem}
+use Rattle.numbers.specs.Numbers.{number_after, number_of}
 use Rattle.numbers.proofs.Counts.{digit_yes, digit_no, digit_value}
 use Rattle.time.specs.declared.Time.{Time}
 use Rattle.time.specs.declared.TimeRead.TheVariants.{Read, Refused}
@@ -29,7 +29,7 @@ module _ (tens ones x : ℕ) (first : (x + digit0) % 2 ^ 8 ≡ tens) where
     no_ones k byte = no_pair tens ones (rw (digit_yes tens x first h, digit_no ones y second k byte))
 
     pub both_digits : y ≤ 9 → 10 * x + y ≡ pair_of tens ones
-    unfolding pair_of number_of_lem number_after
+    unfolding pair_of number_of number_after
     both_digits k =
         rw (digit_yes tens x first h, digit_yes ones y second k) (omega (arith, digit_value tens x first h, digit_value ones y second k))
 
@@ -66,11 +66,11 @@ module _ (a b c d e f g : ℕ) where
   pairs = (is_digit a && is_digit b) && ((is_digit c && is_digit d) && (is_digit e && is_digit f))
 
   abbrev told : Bool
-  told = is_time (time_of (number_of_lem (a ∷ b ∷ [])) (number_of_lem (c ∷ d ∷ [])) (number_of_lem (e ∷ f ∷ [])) g)
+  told = is_time (time_of (number_of (a ∷ b ∷ [])) (number_of (c ∷ d ∷ [])) (number_of (e ∷ f ∷ [])) g)
 
   judged_by_pairs : is_time (pairs_in (a ∷ b ∷ c ∷ d ∷ e ∷ f ∷ g ∷ [])) ≡ (pairs && told)
   unfolding pair_of
-  judged_by_pairs = three (is_digit a && is_digit b) (is_digit c && is_digit d) (is_digit e && is_digit f) (number_of_lem (a ∷ b ∷ [])) (number_of_lem (c ∷ d ∷ [])) (number_of_lem (e ∷ f ∷ [])) g
+  judged_by_pairs = three (is_digit a && is_digit b) (is_digit c && is_digit d) (is_digit e && is_digit f) (number_of (a ∷ b ∷ [])) (number_of (c ∷ d ∷ [])) (number_of (e ∷ f ∷ [])) g
 
   said_by_pairs : pairs ≡ true → pairs_in (a ∷ b ∷ c ∷ d ∷ e ∷ f ∷ g ∷ []) ≡ time_in (a ∷ b ∷ c ∷ d ∷ e ∷ f ∷ g ∷ [])
   unfolding pair_of time_in

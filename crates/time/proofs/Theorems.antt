@@ -8,7 +8,7 @@ use Rattle.laws.specs.Lists.{every}
 use Rattle.laws.proofs.Lists.{elements_all}
 use Rattle.laws.proofs.Each.{every_at}
 use Rattle.laws.proofs.Tests.{and_first, and_second, passed, picked}
-use Rattle.numbers.specs.Numbers.{number_of_lem}
+use Rattle.numbers.specs.Numbers.{number_of}
 use Rattle.time.specs.declared.Time.{Time}
 use Rattle.time.specs.declared.TimeRead.TheVariants.{Read, Refused}
 use Rattle.time.specs.Time.{is_clock, no_time, is_no_time, is_time, is_present, time_bytes, time_of, time_in, read_time, seven_bytes, present_text, time_text, time_in_range}
@@ -62,7 +62,7 @@ module _ (a b c d e f g : ℕ) (digits : every is_digit (a ∷ b ∷ c ∷ d ∷
   text_again : present_text (time_in (a ∷ b ∷ c ∷ d ∷ e ∷ f ∷ g ∷ [])) ≡ a ∷ b ∷ c ∷ d ∷ e ∷ f ∷ g ∷ []
   unfolding time_in seven_bytes
   text_again =
-      placed_text (number_of_lem (a ∷ b ∷ [])) (number_of_lem (c ∷ d ∷ [])) (number_of_lem (e ∷ f ∷ [])) g (is_clock g) refl
+      placed_text (number_of (a ∷ b ∷ [])) (number_of (c ∷ d ∷ [])) (number_of (e ∷ f ∷ [])) g (is_clock g) refl
       ∙ rw (digits_back a b (digit_of_lem 0 (omega arith)) (digit_of_lem 1 (omega arith)), digits_back c d (digit_of_lem 2 (omega arith)) (digit_of_lem 3 (omega arith)), digits_back e f (digit_of_lem 4 (omega arith)) (digit_of_lem 5 (omega arith)))
 
 -- the same of any seven bytes

@@ -4,7 +4,7 @@
 use Rattle.std.specs.Prelude.{ℕ, Bool, cond, not, ◌&&◌, ◌||◌, List, [], ◌∷◌, ◌++◌, length, take, drop, ◌==◌, nat_le, slice_index}
 use Rattle.laws.specs.Bytes.{slash, small_h, small_z, within, is_digit}
 use Rattle.laws.specs.Lists.{every}
-use Rattle.numbers.specs.Numbers.{number_of_lem, digits_of}
+use Rattle.numbers.specs.Numbers.{number_of, digits_of}
 use Rattle.time.specs.declared.Time.{Time}
 use Rattle.time.specs.declared.TimeRead.{TimeRead}
 use Rattle.time.specs.declared.TimeRead.TheVariants.{Read, Refused}
@@ -62,7 +62,7 @@ time_of first second third form =
 
 -- the numbers of "two digits each", and the letter behind them
 unfoldable pub time_in : List ℕ → Time
-time_in s = time_of (number_of_lem (take 2 s)) (number_of_lem (take 2 (drop 2 s))) (number_of_lem (take 2 (drop 4 s))) (slice_index s 6)
+time_in s = time_of (number_of (take 2 s)) (number_of (take 2 (drop 2 s))) (number_of (take 2 (drop 4 s))) (slice_index s 6)
 
 -- seven bytes, six digits first, that say a time
 unfoldable pub read_time : List ℕ → TimeRead

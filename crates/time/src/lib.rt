@@ -1,4 +1,5 @@
 // A time in seven bytes, as a packet carries it: six digits and the letter that says what they are; read and written.
+#![tactic(auto)]
 ghost use Rattle.std.specs.Prelude.{◌≡◌};
 ghost use Rattle.buffer.specs.Wrote.{ends, wrote};
 ghost use Rattle.time.specs.Time.{is_day, in_day, is_day_time, is_clock_time, is_time, no_time, is_no_time, time_of, read_time, seven_bytes, present_text, time_text, time_refusal};

@@ -1,5 +1,6 @@
 // A line of a capture held against the page of a setting: the row of a Mic-E packet, also of one inside others, and what was heard
 // so far. Part of the program on_page.
+#![tactic(auto)]
 mod against;
 mod heard;
 mod row;

@@ -1,4 +1,5 @@
 // The words of a request, and the pieces of an answer. Part of the programs inspect and bench.
+#![tactic(auto)]
 mod put;
 mod word;
 

@@ -1,12 +1,12 @@
 -- `blank` has nothing in it. Assumes nothing.
 use Rattle.std.proofs.Common.{refl}
 use Rattle.laws.specs.Lists.{pad_to}
-use Rattle.callsign.specs.Text.{joined_lem, made_lem, blank_call}
+use Rattle.callsign.specs.Text.{joined, made, blank_call}
 use Rattle.callsign.proofs.blank.Statement.{statement}
 use Rattle.callsign.proofs.blank.Tie as tie
 
 returns : tie.Need-returns
-unfolding blank_call made_lem joined_lem pad_to
+unfolding blank_call made joined pad_to
 returns c = refl
 
 pub blank-spec : {M : Type 1} → statement M

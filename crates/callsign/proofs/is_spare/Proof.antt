@@ -1,13 +1,13 @@
 -- A walk over all bytes: they are the first n and zeros as far as it came. Assumes nothing.
 use Rattle.std.proofs.Common.{◌≡◌, ◌-◌, ◌≤◌, ◌&&◌, drop, arith, length-take, rules}
-use Rattle.laws.specs.Lists.{zeros_lem}
+use Rattle.laws.specs.Lists.{zeros}
 use Rattle.laws.proofs.Lists.{prefix_length}
 use Rattle.callsign.proofs.Padded.{alike, alike_start, alike_more, alike_end}
 use Rattle.callsign.proofs.is_spare.Statement.{statement}
 use Rattle.callsign.proofs.is_spare.Tie as tie
 
 abbrev invariant-loop : tie.invariant-loop
-invariant-loop n text kept fine₀ i₀ fine i = (i ≤ 16) × (zeros_lem (drop n text) ≡ (fine && alike (drop i text) (drop i kept)))
+invariant-loop n text kept fine₀ i₀ fine i = (i ≤ 16) × (zeros (drop n text) ≡ (fine && alike (drop i text) (drop i kept)))
 
 abbrev decreases-loop : tie.decreases-loop
 decreases-loop n text kept fine₀ i₀ fine i = 16 - i

@@ -1,7 +1,7 @@
 -- `fill`: below a, the fields that begin with a byte below a were put. Assumes nothing.
 use Rattle.std.proofs.Common.{◌≡◌, ◌-◌, ◌≤◌, arith, rules}
-use Rattle.buffer.specs.Filled.{filled_lem, added}
-use Rattle.fields.specs.Each.{each_lem, row, all_fields, flat}
+use Rattle.buffer.specs.Filled.{filled, added}
+use Rattle.fields.specs.Each.{each, row, all_fields, flat}
 use Rattle.fields.specs.Search.{hits}
 use Rattle.fields.proofs.Each.{each_none}
 use Rattle.fields.proofs.Stored.{put_length, stored_none, stored_step, stored_room}
@@ -9,7 +9,7 @@ use Rattle.fields.proofs.fill.Statement.{statement}
 use Rattle.fields.proofs.fill.Tie as tie
 
 abbrev invariant-loop : tie.invariant-loop
-invariant-loop t out₀ at₀ a₀ out at a = (a ≤ 256) × (filled_lem out at ≡ added (filled_lem out₀ 0) (flat (each_lem a (row (hits t)))))
+invariant-loop t out₀ at₀ a₀ out at a = (a ≤ 256) × (filled out at ≡ added (filled out₀ 0) (flat (each a (row (hits t)))))
 
 abbrev decreases-loop : tie.decreases-loop
 decreases-loop t out₀ at₀ a₀ out at a = 256 - a

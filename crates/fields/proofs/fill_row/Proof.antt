@@ -1,8 +1,8 @@
 -- `fill_row`: below b, the fields that begin with a and a byte below b were put; outside the span there are none.
 -- Assumes nothing.
 use Rattle.std.proofs.Common.{◌≡◌, ◌-◌, ◌≤◌, arith, rules}
-use Rattle.buffer.specs.Filled.{filled_lem, added}
-use Rattle.fields.specs.Each.{each_lem, cell, row, flat}
+use Rattle.buffer.specs.Filled.{filled, added}
+use Rattle.fields.specs.Each.{each, cell, row, flat}
 use Rattle.fields.specs.Search.{hits, Spans, span_from}
 use Rattle.fields.proofs.Each.{each_none, each_top}
 use Rattle.fields.proofs.Stored.{put_length, stored_none, stored_step}
@@ -10,7 +10,7 @@ use Rattle.fields.proofs.fill_row.Statement.{statement}
 use Rattle.fields.proofs.fill_row.Tie as tie
 
 abbrev invariant-loop : tie.invariant-loop
-invariant-loop t a out₀ start from to at₀ b₀ out at b = Spans (hits t) a (span_from from to) × (b ≤ to) × (filled_lem out at ≡ added (filled_lem out₀ start) (flat (each_lem b (cell (hits t) a))))
+invariant-loop t a out₀ start from to at₀ b₀ out at b = Spans (hits t) a (span_from from to) × (b ≤ to) × (filled out at ≡ added (filled out₀ start) (flat (each b (cell (hits t) a))))
 
 abbrev decreases-loop : tie.decreases-loop
 decreases-loop t a out₀ start from to at₀ b₀ out at b = to - b

@@ -1,6 +1,6 @@
 -- `put`: three bytes are the one field; nothing put is no field. Assumes nothing.
 use Rattle.std.proofs.Common.{◌≡◌, ℕ, List, [], ◌∷◌, rules}
-use Rattle.buffer.specs.Filled.{filled_lem, added}
+use Rattle.buffer.specs.Filled.{filled, added}
 use Rattle.buffer.proofs.Filled.{added_none}
 use Rattle.fields.specs.Each.{flat}
 use Rattle.fields.specs.Search.{fields_of}
@@ -10,13 +10,13 @@ use Rattle.fields.proofs.put.Statement.{statement}
 use Rattle.fields.proofs.put.Tie as tie
 
 module _ (x : Third) (a b at : ℕ) (out : List ℕ) where
-  one : (d r : ℕ) (out' : List ℕ) → x ≡ At d → filled_lem out' r ≡ added (filled_lem out at) (a ∷ b ∷ d ∷ []) → filled_lem out' r ≡ added (filled_lem out at) (flat (fields_of a b x))
+  one : (d r : ℕ) (out' : List ℕ) → x ≡ At d → filled out' r ≡ added (filled out at) (a ∷ b ∷ d ∷ []) → filled out' r ≡ added (filled out at) (flat (fields_of a b x))
   unfolding fields_of flat
   one d r out' e w = rw e w
 
-  none : x ≡ Nowhere → filled_lem out at ≡ added (filled_lem out at) (flat (fields_of a b x))
+  none : x ≡ Nowhere → filled out at ≡ added (filled out at) (flat (fields_of a b x))
   unfolding fields_of flat
-  none e = rw e (added_none (filled_lem out at))
+  none e = rw e (added_none (filled out at))
 
 enum-known-x : tie.Need-enum-known-x
 enum-known-x c = search rules

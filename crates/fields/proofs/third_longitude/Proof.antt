@@ -1,7 +1,7 @@
 -- `third_longitude`: what is left to the hundredths is the third byte, if it is one. Assumes nothing.
 use Rattle.std.proofs.Common.{◌≡◌, ℕ, ◌+◌, ◌-◌, ◌<◌, ◌≤◌, Bool, sym, ◌∙◌, arith, rules}
 use Rattle.lonlat.specs.Angle.{most_longitude}
-use Rattle.mic_e.specs.Longitude.{offset_of, size_of_lem}
+use Rattle.mic_e.specs.Longitude.{offset_of, size_of}
 use Rattle.mic_e.proofs.LongitudeFacts.{Lies}
 use Rattle.fields.specs.Each.{cell}
 use Rattle.fields.specs.Search.{hits, fields_of, base_of}
@@ -32,7 +32,7 @@ module _ (m : ℕ) (hundred : Bool) (a b : ℕ) where
 
       -- the size is the base and the hundredths
       sum : (c : ℕ) → Lies m (offset_of hundred) a b c → low + (c - 28) ≡ m
-      unfolding size_of_lem
+      unfolding size_of
       sum c h = omega (arith, base.base_is, h.size_is)
 
       past : m < low → fields_of a b Nowhere ≡ cell (hits (Lying m hundred)) a b
@@ -42,7 +42,7 @@ module _ (m : ℕ) (hundred : Bool) (a b : ℕ) where
       far k = nowhere (λ c l h. omega (arith, sum c h))
 
       lies : m ≤ most_longitude → low ≤ m → Lies m (offset_of hundred) a b (m - low + 28)
-      unfolding size_of_lem
+      unfolding size_of
       lies k l = record { a_from = base.a_from; b_from = base.b_from; c_from = omega arith; degrees_to = base.degrees_to; size_is = omega (arith, base.base_is); size_to = k }
 
       there : m ≤ most_longitude → low ≤ m → m - low ≤ 227 → fields_of a b (At (m - low + 28)) ≡ cell (hits (Lying m hundred)) a b

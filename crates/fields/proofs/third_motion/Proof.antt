@@ -1,6 +1,6 @@
 -- `third_motion`: the course leaves one third byte, with or without 400. Assumes nothing.
 use Rattle.std.proofs.Common.{◌≡◌, ℕ, ◌+◌, ◌-◌, ◌*◌, ◌%◌, ◌^◌, ◌<◌, ◌≤◌, sym, ap, ◌∙◌, ⊎_elim, arith, rules}
-use Rattle.mic_e.specs.Motion.{most_course, degrees_lem}
+use Rattle.mic_e.specs.Motion.{most_course, degrees}
 use Rattle.mic_e.proofs.MotionFacts.{Moves}
 use Rattle.mic_e.proofs.Offset.{less_28, below_28}
 use Rattle.mic_e.proofs.Turn.{less_if_split}
@@ -27,13 +27,13 @@ module _ (s t a b : ℕ) where
 
 -- x is what the subtraction leaves of the second byte
 module _ (s t a b x : ℕ) (off : x ≡ b - 28) where
-  plain_lem : (r : Third) → t ≤ most_course → 100 * (x % 10) ≤ t → r ≡ third_at (hits (Moving s t)) a b (t - 100 * (x % 10)) → fields_of a b r ≡ cell (hits (Moving s t)) a b
-  plain_lem r m k e =
+  plain : (r : Third) → t ≤ most_course → 100 * (x % 10) ≤ t → r ≡ third_at (hits (Moving s t)) a b (t - 100 * (x % 10)) → fields_of a b r ≡ cell (hits (Moving s t)) a b
+  plain r m k e =
       ap (fields_of a b) e
       ∙ third_at_lem _ a b _ (λ c l q. rw off (course_plain s t a b c l (motion_hit s t a b c q) (rw (← off) k)))
 
   far : t < 100 * (x % 10) → t + 400 < 100 * (x % 10) → fields_of a b Nowhere ≡ cell (hits (Moving s t)) a b
-  unfolding degrees_lem
+  unfolding degrees
   far k n = nowhere s t a b (λ c l h. ⊎_elim (λ u. omega arith) (λ u. omega arith) (less_if_split 400 (100 * ((b - 28) % 10) + (c - 28))))
 
   round : (r : Third) → t < 100 * (x % 10) → 100 * (x % 10) ≤ t + 400 → r ≡ third_at (hits (Moving s t)) a b (t + 400 - 100 * (x % 10)) → fields_of a b r ≡ cell (hits (Moving s t)) a b
@@ -60,7 +60,7 @@ motion-at-requires : tie.Need-motion-at-requires
 motion-at-requires c κs = search rules
 
 returns-3 : tie.Need-returns-3
-returns-3 c = search (plain_lem, less_28)
+returns-3 c = search (plain, less_28)
 
 add-if4 : tie.Need-overflow-add-if4
 add-if4 c = search rules

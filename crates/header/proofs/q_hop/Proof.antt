@@ -1,7 +1,7 @@
 -- Three bytes and zeros. Assumes nothing.
 use mathlib.Core.Path.{refl}
 use Rattle.laws.specs.Lists.{pad_to}
-use Rattle.callsign.specs.Text.{joined_lem, made_lem}
+use Rattle.callsign.specs.Text.{joined, made}
 use Rattle.header.specs.Hop.{q_hop}
 use borrow.Author.Rules.{rules}
 use Rattle.header.proofs.q_hop.Statement.{statement}
@@ -17,7 +17,7 @@ array-write-text-3 : tie.Need-array-write-text-3
 array-write-text-3 c = search rules
 
 returns : tie.Need-returns
-unfolding q_hop made_lem joined_lem pad_to
+unfolding q_hop made joined pad_to
 returns c = refl
 
 pub q-hop-spec : {M : Type 1} → statement M

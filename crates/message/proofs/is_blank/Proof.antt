@@ -5,13 +5,13 @@ use Prim.Native.Nat.{◌≤◌, ◌-◌}
 use native.Mathlib.Omega.{arith}
 use borrow.Author.Rules.{rules}
 use lib.ListN.{drop}
-use Rattle.laws.specs.Lists.{zeros_lem}
+use Rattle.laws.specs.Lists.{zeros}
 use Rattle.message.proofs.Bytes.{zeros_more, zeros_end}
 use Rattle.message.proofs.is_blank.Statement.{statement}
 use Rattle.message.proofs.is_blank.Tie as tie
 
 abbrev invariant-loop : tie.invariant-loop
-invariant-loop addressee fine₀ i₀ fine i = (i ≤ 9) × (zeros_lem addressee ≡ (fine && zeros_lem (drop i addressee)))
+invariant-loop addressee fine₀ i₀ fine i = (i ≤ 9) × (zeros addressee ≡ (fine && zeros (drop i addressee)))
 
 abbrev decreases-loop : tie.decreases-loop
 decreases-loop addressee fine₀ i₀ fine i = 9 - i

@@ -7,12 +7,12 @@ use Rattle.mic_e.specs.declared.Bits.{Bits}
 use Rattle.mic_e.proofs.characters.Statement.{statement}
 use Rattle.mic_e.proofs.characters.Tie as tie
 
-made_lem : (t : List ℕ) (bits : Bits) (hundred west : Bool) (a b c d e f : ℕ)
+made : (t : List ℕ) (bits : Bits) (hundred west : Bool) (a b c d e f : ℕ)
     → a ≡ character_of bits.first (get_or t 0 0) → b ≡ character_of bits.second (get_or t 1 0) → c ≡ character_of bits.third (get_or t 2 0)
     → d ≡ character_of (flag_bit (eqb (get_or t 7 0) capital_n)) (get_or t 3 0) → e ≡ character_of (flag_bit hundred) (get_or t 5 0) → f ≡ character_of (flag_bit west) (get_or t 6 0)
     → a ∷ b ∷ c ∷ d ∷ e ∷ f ∷ [] ≡ characters_of t bits hundred west
 unfolding characters_of
-made_lem t bits hundred west a b c d e f p q r s u v = rw (p, q, r, s, u, v)
+made t bits hundred west a b c d e f p q r s u v = rw (p, q, r, s, u, v)
 
 array-read-character-of : tie.Need-array-read-character-of
 array-read-character-of c = search rules
@@ -54,7 +54,7 @@ flagged-requires-3 : tie.Need-flagged-requires-3
 flagged-requires-3 c κs = search rules
 
 returns : tie.Need-returns
-returns c = search made_lem
+returns c = search made
 
 pub characters-spec : {M : Type 1} → statement M
 characters-spec =

@@ -13,10 +13,10 @@ use Rattle.mic_e.proofs.information_bytes.Tie as tie
 short : (i : Information) (n : ℕ) → n ≡ nat_abs i.longitude.0 → information_out i ≡ false → n < most_longitude
 short i n e h = rw e (in_longitude i h)
 
-made_lem : (i : Information) (n : ℕ) (l m : Field) → n ≡ nat_abs i.longitude.0 → l ≡ longitude_field n → m ≡ motion_field i.speed.0 i.course.0
+made : (i : Information) (n : ℕ) (l m : Field) → n ≡ nat_abs i.longitude.0 → l ≡ longitude_field n → m ≡ motion_field i.speed.0 i.course.0
     → l.first ∷ l.second ∷ l.third ∷ m.first ∷ m.second ∷ m.third ∷ i.code ∷ i.table ∷ [] ≡ information_bytes i
 unfolding information_bytes
-made_lem i n l m e p q = rw (p, q, e)
+made i n l m e p q = rw (p, q, e)
 
 longitude-field-requires : tie.Need-longitude-field-requires
 longitude-field-requires c κs = search short
@@ -25,7 +25,7 @@ motion-field-requires : tie.Need-motion-field-requires
 motion-field-requires c κs = (search in_speed, search in_course)
 
 returns : tie.Need-returns
-returns c = search made_lem
+returns c = search made
 
 pub information-bytes-spec : {M : Type 1} → statement M
 information-bytes-spec =

@@ -8,7 +8,7 @@ use Rattle.lonlat.specs.declared.Longitude.{Longitude}
 use Rattle.lonlat.specs.declared.LongitudeMade.{LongitudeMade}
 use Rattle.lonlat.specs.declared.LongitudeMade.TheVariants.{Made, OutOfRange}
 use Rattle.mic_e.specs.Turn.{less_if}
-use Rattle.mic_e.specs.Longitude.{offset_of, wrapped, size_of_lem, read_longitude}
+use Rattle.mic_e.specs.Longitude.{offset_of, wrapped, size_of, read_longitude}
 use Rattle.mic_e.specs.declared.LongitudeField.{LongitudeField}
 use Rattle.mic_e.specs.declared.LongitudeField.TheVariants.{Read, Refused}
 use Rattle.mic_e.proofs.Offset.{taken, less_28, offsets}
@@ -39,7 +39,7 @@ module _ (hundred west : Bool) (a b c x y z o : ℕ) (wx : (x + 28) % 2 ^ 8 ≡ 
 
   module _ (d m : ℕ) (made : LongitudeMade) (near : x + o ≤ 255) (ed : d ≡ wrapped (x + o)) (em : m ≡ less_if 60 y) (e : made ≡ longitude_of (6000 * d + 100 * m + z) west) where
     reads : field_of made ≡ read_longitude hundred west a b c
-    unfolding read_longitude size_of_lem
+    unfolding read_longitude size_of
     reads =
         rw (e, ed, em)
         (made_field _ west

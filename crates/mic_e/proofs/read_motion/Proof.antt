@@ -2,7 +2,7 @@
 use Rattle.std.proofs.Common.{◌≡◌, ℕ, ◌+◌, ◌*◌, ◌/◌, ◌%◌, ◌^◌, ◌<◌, ◌≤◌, ◌∙◌, rules, le-ltb, lt-ltb}
 use Rattle.laws.proofs.Picks.{picks}
 use Rattle.mic_e.specs.Turn.{less_if}
-use Rattle.mic_e.specs.Motion.{read_motion, knots, degrees_lem}
+use Rattle.mic_e.specs.Motion.{read_motion, knots, degrees}
 use Rattle.mic_e.specs.declared.Motion.TheVariants.{Read, Refused}
 use Rattle.mic_e.proofs.Offset.{taken, less_28, offsets}
 use Rattle.mic_e.proofs.read_motion.Statement.{statement}
@@ -20,8 +20,8 @@ module _ (a b c x y z s : ℕ) (wx : (x + 28) % 2 ^ 8 ≡ a) (hx : x ≤ 227) (w
   fast h = simp (← is_speed, taken a x wx hx, taken b y wy hy, taken c z wz hz, lt-ltb 799 s h)
 
   module _ (d : ℕ) (hs : s ≤ 799) (ed : d ≡ less_if 400 (100 * (y % 10) + z)) where
-    is_course : d ≡ degrees_lem b c
-    unfolding degrees_lem
+    is_course : d ≡ degrees b c
+    unfolding degrees
     is_course = ed ∙ rw (less_28 b y wy hy, less_28 c z wz hz)
 
     turned : 360 < d → Refused ≡ read_motion a b c

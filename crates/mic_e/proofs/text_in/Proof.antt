@@ -6,11 +6,11 @@ use Rattle.mic_e.specs.Destination.{text_in}
 use Rattle.mic_e.proofs.text_in.Statement.{statement}
 use Rattle.mic_e.proofs.text_in.Tie as tie
 
-made_lem : (s : List ℕ) (a b c d e f l : ℕ) → a ≡ digit_of (get_or s 0 0) → b ≡ digit_of (get_or s 1 0) → c ≡ digit_of (get_or s 2 0) → d ≡ digit_of (get_or s 3 0)
+made : (s : List ℕ) (a b c d e f l : ℕ) → a ≡ digit_of (get_or s 0 0) → b ≡ digit_of (get_or s 1 0) → c ≡ digit_of (get_or s 2 0) → d ≡ digit_of (get_or s 3 0)
     → e ≡ digit_of (get_or s 4 0) → f ≡ digit_of (get_or s 5 0) → l ≡ cond (is_flagged (get_or s 3 0)) capital_n capital_s
     → a ∷ b ∷ c ∷ d ∷ point ∷ e ∷ f ∷ l ∷ [] ≡ text_in s
 unfolding text_in
-made_lem s a b c d e f l p q r t u v w = rw (p, q, r, t, u, v, w)
+made s a b c d e f l p q r t u v w = rw (p, q, r, t, u, v, w)
 
 shared-slice-read-digit-of : tie.Need-shared-slice-read-digit-of
 shared-slice-read-digit-of c = search rules
@@ -55,7 +55,7 @@ letter-of-requires : tie.Need-letter-of-requires
 letter-of-requires c κs = search rules
 
 returns : tie.Need-returns
-returns c = search made_lem
+returns c = search made
 
 pub text_in-spec : {M : Type 1} → statement M
 text_in-spec =

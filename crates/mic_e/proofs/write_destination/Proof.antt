@@ -33,15 +33,15 @@ module _ (lat lon : ℤ) (blanks : ℕ) (m : Message) (s : Sides) (es : s ≡ si
     same : r.refusal ≡ latitude_refusal lat blanks
     same = refusal_is r o (latitude_text lat blanks) (replicate 8 0) (latitude_refusal lat blanks) e (λ z. omega (arith, room z))
 
-    whole_lem : destination_refusal lat blanks lon ≡ r.refusal
+    whole : destination_refusal lat blanks lon ≡ r.refusal
     unfolding destination_refusal longitude_out sides_of
-    whole_lem =
+    whole =
         let k : nat_abs lon < most_longitude = omega (arith, ap (λ (x : Sides). x.size) es) in
         rw (lt-leb most_longitude (nat_abs lon) k) (sym same)
 
     refused : (r.refusal ≡ 0 → ⊥) → record { refusal = r.refusal; bytes = replicate 6 0 } ≡ write_destination lat blanks m lon
     unfolding write_destination
-    refused n = rw (whole_lem, ne_eqb r.refusal 0 n)
+    refused n = rw (whole, ne_eqb r.refusal 0 n)
 
     text : r.refusal ≡ 0 → o ≡ latitude_text lat blanks
     text z =
@@ -53,7 +53,7 @@ module _ (lat lon : ℤ) (blanks : ℕ) (m : Message) (s : Sides) (es : s ≡ si
     done : (bits : Bits) (hundred : Bool) (bytes : List ℕ) → r.refusal ≡ 0 → bits ≡ bits_of m → hundred ≡ hundred_for (s.size / 6000)
         → bytes ≡ characters_of o bits hundred s.minus → record { refusal = 0; bytes = bytes } ≡ write_destination lat blanks m lon
     unfolding write_destination destination_bytes hundred_of sides_of
-    done bits hundred bytes z p q w = rw (whole_lem, z, w, q, p, text z, es)
+    done bits hundred bytes z p q w = rw (whole, z, w, q, p, text z, es)
 
 sides-of-requires : tie.Need-sides-of-requires
 sides-of-requires c κs = search rules
