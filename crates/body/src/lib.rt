@@ -19,7 +19,7 @@ use position::Place;
 use time::{Time, TimeRead};
 
 // What a body is.
-#[derive(Drop)]
+#[derive(Clone, Copy)]
 pub enum Kind {
     Unknown,
     Position,
@@ -29,7 +29,7 @@ pub enum Kind {
 }
 
 // What a Mic-E report adds to a place.
-#[derive(Drop)]
+#[derive(Clone, Copy)]
 pub struct Report {
     pub speed: Speed,
     pub course: Course,
@@ -39,7 +39,7 @@ pub struct Report {
 
 // Where a part of the input that was read stands, and its length. Writers ignore both.
 #[repr(C)]
-#[derive(Drop)]
+#[derive(Clone, Copy)]
 pub struct Span {
     pub at: usize,
     pub len: usize,
@@ -47,7 +47,7 @@ pub struct Span {
 
 // A body by its parts. A part that the kind lacks is zero; a position or a status may have a time. The comment of a message or a
 // status is its text. The report stands first: it is what C has in another form, so a header in front of it is copied by itself.
-#[derive(Drop)]
+#[derive(Clone, Copy)]
 pub struct Body {
     pub report: Report,
     pub place: Place,
@@ -60,7 +60,7 @@ pub struct Body {
 }
 
 // What reading gives: the refusal's number and the blank body, or 0 and the body.
-#[derive(Drop)]
+#[derive(Clone, Copy)]
 pub struct BodyRead {
     pub body: Body,
     pub refusal: u8,
@@ -69,7 +69,7 @@ pub struct BodyRead {
 // What writing gives: the destination that goes with the body, its first `len` bytes, from the type byte up to the comment, and the
 // `tail_len` bytes behind that, which only a message has; the other bytes are zero. At 14 and 18 there are no bytes and the
 // destination is kept, at 15 there is neither.
-#[derive(Drop)]
+#[derive(Clone, Copy)]
 pub struct BodyWritten {
     pub to: Callsign,
     pub bytes: [u8; 27],
@@ -81,7 +81,7 @@ pub struct BodyWritten {
 
 // What a body's first byte says: a position (messaging or not) without a time or with one, a Mic-E report (current or old), a message,
 // a status, or none of these.
-#[derive(Drop)]
+#[derive(Clone, Copy)]
 enum Opening {
     Positioned { messaging: bool, timed: bool },
     Mic(bool),
@@ -91,7 +91,7 @@ enum Opening {
 }
 
 // The time of a position, or none, and the place behind it; or the refusal's number.
-#[derive(Drop)]
+#[derive(Clone, Copy)]
 struct TimeAt {
     behind: usize,
     time: Time,

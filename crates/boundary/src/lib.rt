@@ -25,7 +25,7 @@ use time::Time;
 
 // A report as C has it: its message is a number.
 #[repr(C)]
-#[derive(Drop)]
+#[derive(Clone, Copy)]
 pub struct CReport {
     pub speed: Speed,
     pub course: Course,
@@ -35,7 +35,7 @@ pub struct CReport {
 
 // A body as C has it: its kind is a number.
 #[repr(C)]
-#[derive(Drop)]
+#[derive(Clone, Copy)]
 pub struct CBody {
     pub report: CReport,
     pub place: Place,
@@ -49,7 +49,7 @@ pub struct CBody {
 
 // A record as C has it.
 #[repr(C)]
-#[derive(Drop)]
+#[derive(Clone, Copy)]
 pub struct CRecord {
     pub header: Header,
     pub body: CBody,
@@ -59,7 +59,7 @@ pub struct CRecord {
 
 // What reading gives: 0 and the record, or the refusal's number and zeros.
 #[repr(C)]
-#[derive(Drop)]
+#[derive(Clone, Copy)]
 pub struct CRead {
     pub record: CRecord,
     pub refusal: u8,

@@ -1,5 +1,6 @@
 // Lines of text: the parts of a line, and the lines of a lent capture.
 #![tactic(auto)]
+
 ghost use Rattle.std.specs.Prelude.{◌≡◌, take, drop};
 ghost use Rattle.lines.specs.Parts.{first_word, other_words};
 ghost use Rattle.lines.specs.Lines.{line_at};

@@ -14,7 +14,7 @@ use time::{Time, TimeRead};
 // addressee's nine bytes, spaces and all, and the refusal's number or 0. The text starts at the place 10, the identifier one behind
 // the text's end. At a refusal all else is 0.
 #[repr(C)]
-#[derive(Drop)]
+#[derive(Clone, Copy)]
 pub struct MessageRead {
     pub text: usize,
     pub identifier: usize,
@@ -23,7 +23,7 @@ pub struct MessageRead {
 }
 
 // What the bytes of a status read as: its time, or none. The text is what follows the time.
-#[derive(Drop)]
+#[derive(Clone, Copy)]
 pub enum StatusRead {
     Read(Time),
     Refused,

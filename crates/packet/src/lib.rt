@@ -19,7 +19,7 @@ use header::{Header, HeaderRead};
 
 // A packet by its parts: its own header, and how many packets are inside it, with the header of the innermost and its body. Without
 // one the body is the packet's own and the innermost header blank. The header that a Mic-E body belongs to has no destination.
-#[derive(Drop)]
+#[derive(Clone, Copy)]
 pub struct Record {
     pub header: Header,
     pub body: Body,
@@ -28,7 +28,7 @@ pub struct Record {
 }
 
 // What reading gives: the refusal's number and the blank record, or 0 and the record.
-#[derive(Drop)]
+#[derive(Clone, Copy)]
 pub struct PacketRead {
     pub record: Record,
     pub refusal: u8,
@@ -36,7 +36,7 @@ pub struct PacketRead {
 
 // A packet read by itself, whatever its body holds: its header, its body by the type byte, of Unknown kind where it holds a packet, and
 // the place of the body; or the refusal's number, nothing, and the end of the input for the place.
-#[derive(Drop)]
+#[derive(Clone, Copy)]
 pub struct Outer {
     pub header: Header,
     pub body: Body,

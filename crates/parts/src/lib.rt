@@ -85,7 +85,7 @@ pub extern "C" fn tusselgro_write_address(call: Callsign, field: u8, last: bool)
 
 // What reading a latitude gives: 0 and all that was seen, or the refusal's number and zeros.
 #[repr(C)]
-#[derive(Drop)]
+#[derive(Clone, Copy)]
 pub struct CLatitudeRead {
     pub latitude: Latitude,
     pub blanks: u8,
@@ -124,7 +124,7 @@ pub extern "C" fn tusselgro_read_latitude(text: &[u8]) -> CLatitudeRead
 
 // What reading a longitude gives: 0 and all that was seen, or the refusal's number and zeros.
 #[repr(C)]
-#[derive(Drop)]
+#[derive(Clone, Copy)]
 pub struct CLongitudeRead {
     pub longitude: Longitude,
     pub west: bool,
@@ -186,7 +186,7 @@ pub extern "C" fn tusselgro_write_longitude(longitude: i32, out: &mut [u8]) -> b
 
 // What reading a time gives: 0 and the time, or the refusal's number and zeros.
 #[repr(C)]
-#[derive(Drop)]
+#[derive(Clone, Copy)]
 pub struct CTimeRead {
     pub time: Time,
     pub refusal: u8,
@@ -234,7 +234,7 @@ pub extern "C" fn tusselgro_write_position(place: Place, out: &mut [u8]) -> buff
 
 // What reading a destination gives: 0 and what it says, its message by number, or the refusal's number and zeros.
 #[repr(C)]
-#[derive(Drop)]
+#[derive(Clone, Copy)]
 pub struct CDestinationRead {
     pub latitude: Latitude,
     pub message: u8,
@@ -307,7 +307,7 @@ pub extern "C" fn tusselgro_write_destination(
 
 // What reading the information gives: 0 and what it says, or the refusal's number and zeros.
 #[repr(C)]
-#[derive(Drop)]
+#[derive(Clone, Copy)]
 pub struct CInformationRead {
     pub information: Information,
     pub refusal: u8,
@@ -387,7 +387,7 @@ pub extern "C" fn tusselgro_write_message(
 
 // What reading a status gives: 0 and its time, or none; or the refusal's number and zeros.
 #[repr(C)]
-#[derive(Drop)]
+#[derive(Clone, Copy)]
 pub struct CStatusRead {
     pub time: Time,
     pub refusal: u8,

@@ -18,7 +18,7 @@ use std::num::wrapping_sub_u8;
 // Where something is: its angles, how many of their last digits are blank, its symbol, and whether its letters are S and W, also
 // at 0.
 #[repr(C)]
-#[derive(Drop)]
+#[derive(Clone, Copy)]
 pub struct Place {
     pub latitude: Latitude,
     pub longitude: Longitude,
@@ -31,7 +31,7 @@ pub struct Place {
 
 // What a position reads as: the refusal's number or 0, the place, and which of its angles has minutes of 60 or more.
 #[repr(C)]
-#[derive(Drop)]
+#[derive(Clone, Copy)]
 pub struct PositionRead {
     pub place: Place,
     pub latitude_sixty: bool,
@@ -279,7 +279,7 @@ pub fn write_position(p: Place, out: &mut [u8]) -> buffer::Answer
 
 // The lower and upper bound of an angle, in degrees.
 #[repr(C)]
-#[derive(Drop)]
+#[derive(Clone, Copy)]
 pub struct Bounds {
     pub lower: f64,
     pub upper: f64,
@@ -287,7 +287,7 @@ pub struct Bounds {
 
 // The bounds, or 15 and 0, 0.
 #[repr(C)]
-#[derive(Drop)]
+#[derive(Clone, Copy)]
 pub struct BoundsAnswer {
     pub refusal: u8,
     pub bounds: Bounds,
@@ -374,7 +374,7 @@ pub fn longitude_bounds(l: Longitude, blanks: u8) -> BoundsAnswer
 
 // The box for the page in half hundredths of a minute, or 15 and 0, 0.
 #[repr(C)]
-#[derive(Drop)]
+#[derive(Clone, Copy)]
 pub struct PageBox {
     pub refusal: u8,
     pub from: i32,

@@ -1,5 +1,6 @@
 // A time in seven bytes, as a packet carries it: six digits and the letter that says what they are; read and written.
 #![tactic(auto)]
+
 ghost use Rattle.std.specs.Prelude.{◌≡◌};
 ghost use Rattle.buffer.specs.Wrote.{ends, wrote};
 ghost use Rattle.time.specs.Time.{is_day, in_day, is_day_time, is_clock_time, is_time, no_time, is_no_time, time_of, read_time, seven_bytes, present_text, time_text, time_refusal};
@@ -10,7 +11,7 @@ use std::num::wrapping_sub_u8;
 // A time by its numbers. Its form is the byte behind its digits: `z`, day, hour and minute in UTC; `/`, the same in local time; `h`,
 // hour, minute and second in UTC. A number that the form lacks is 0, and all are where there is no time.
 #[repr(C)]
-#[derive(Drop)]
+#[derive(Clone, Copy)]
 pub struct Time {
     pub day: u8,
     pub hour: u8,
@@ -20,7 +21,7 @@ pub struct Time {
 }
 
 // What seven bytes read as.
-#[derive(Drop)]
+#[derive(Clone, Copy)]
 pub enum TimeRead {
     Read(Time),
     Refused,
