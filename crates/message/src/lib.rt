@@ -1,6 +1,7 @@
 // Messages and status lines, from the byte behind their type byte on: a message's addressee and how long its text and its identifier
 // are, and a status's time; read and written.
 #![tactic(auto)]
+
 ghost use Rattle.std.specs.Prelude.{◌≡◌, ◌≤◌, length, take};
 ghost use Rattle.laws.specs.Lists.{zeros};
 ghost use Rattle.buffer.specs.Wrote.{ends, wrote};
