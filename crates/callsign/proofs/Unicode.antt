@@ -119,7 +119,7 @@ none_begun t = refl
 
 pub ascii_front : (b : ℕ) (l : List ℕ) → b < 0x80 → utf8 (b ∷ l) ≡ utf8 l
 unfolding utf8 characters
-ascii_front b l h = rw (ascii_after b h)
+ascii_front b l h = ap (λ (rs : List Span). characters rs l) (ascii_after b h)
 
 -- and nothing else
 pub ascii_utf8 : (l : List ℕ) → every ascii l ≡ true → utf8 l ≡ true

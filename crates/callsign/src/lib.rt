@@ -1,6 +1,7 @@
 // One callsign: its text read and written, its UTF-8 judged, and its AX.25 address unpacked and packed by
 // shifts and masks.
 #![tactic(auto)]
+
 ghost use Rattle.std.specs.Prelude.{◌≡◌, ◌<◌, ◌≤◌, min, true, length, take, drop};
 ghost use Rattle.laws.specs.Bytes.{is_letter_or_digit, raised};
 ghost use Rattle.laws.specs.Lists.{every, pad_to, zeros};
@@ -17,7 +18,7 @@ use std::num::wrapping_sub_u8;
 // A callsign as it is written: call, dash and SSID in `text`, the rest of it zero. Without an SSID there is no dash. The mark says
 // that it was read from a text whose SSID was a lone `0`, which is dropped; nothing that judges or writes a callsign looks at it.
 #[repr(C)]
-#[derive(Drop)]
+#[derive(Clone, Copy)]
 pub struct Callsign {
     pub text: [u8; 16],
     pub call_len: u8,

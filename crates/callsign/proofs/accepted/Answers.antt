@@ -1,0 +1,7 @@
+-- An accepted text: its parts as they are given. Assumes nothing.
+use Rattle.callsign.specs.Text.{call_accepted}
+use Rattle.callsign.proofs.accepted.Goals as goal
+
+pub returns : goal.returns
+unfolding call_accepted
+returns c = rw c.call_as-call.ensures
