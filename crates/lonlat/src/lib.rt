@@ -1,5 +1,6 @@
 // Angles in whole hundredths of a minute: taken apart, put together, read from text and written to it.
 #![tactic(auto)]
+
 ghost use Rattle.std.specs.Prelude.{◌≡◌, ◌≤◌, ◌||◌, length, if◌then◌else◌, ◌==◌};
 ghost use Rattle.laws.specs.Lists.{every};
 ghost use Rattle.buffer.specs.Wrote.{ends, wrote};
@@ -14,12 +15,12 @@ use std::num::wrapping_sub_u8;
 
 // A latitude: signed hundredths of a minute, north positive.
 #[repr(C)]
-#[derive(Drop)]
+#[derive(Clone, Copy)]
 pub struct Latitude(pub i32);
 
 // A longitude: signed hundredths of a minute, east positive.
 #[repr(C)]
-#[derive(Drop)]
+#[derive(Clone, Copy)]
 pub struct Longitude(pub i32);
 
 // A longitude put together, or the refusal of one past 180 degrees.

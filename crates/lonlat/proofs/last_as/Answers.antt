@@ -1,16 +1,10 @@
 -- `last_as`: so far the first i bytes are those of the result, and the others as they were. Assumes nothing.
+use Rattle.std.proofs.Common.{rules}
 use Rattle.std.proofs.Common.{◌≡◌, ℕ, ◌+◌, ◌-◌, ◌<◌, ◌≤◌, List, ◌++◌, length, take, drop, set, sym, refl, ap, ◌∙◌, append-nil, arith, length-set, take-append-drop, drop_of_length-le, take_all}
 use Rattle.laws.proofs.Lists.{copy_more}
 use Rattle.lonlat.specs.Digits.{last_as}
 use Rattle.lonlat.proofs.Digits.{last_length, last_start, last_is}
-use Rattle.lonlat.proofs.last_as.Statement.{statement}
-use Rattle.lonlat.proofs.last_as.Tie as tie
-
-abbrev invariant-loop : tie.invariant-loop
-invariant-loop b n t₀ i₀ t i = (length t₀ - n ≤ i) × (i ≤ length t₀) × (length t ≡ length t₀) × (t ≡ take i (last_as b n t₀) ++ drop i t₀)
-
-abbrev decreases-loop : tie.decreases-loop
-decreases-loop b n t₀ i₀ t i = length t₀ - i
+use Rattle.lonlat.proofs.last_as.Goals as goal
 
 module _ (b n : ℕ) (t₀ : List ℕ) (few : n ≤ length t₀) where
   starts : t₀ ≡ take (length t₀ - n) (last_as b n t₀) ++ drop (length t₀ - n) t₀
@@ -29,45 +23,14 @@ module _ (b n : ℕ) (t₀ : List ℕ) (few : n ≤ length t₀) where
       let l : length (last_as b n t₀) ≤ i = rw (last_length b n t₀ few) k in
       e ∙ rw (take_all i (last_as b n t₀) l, drop_of_length-le t₀ k) (append-nil (last_as b n t₀))
 
-sub-i : tie.Need-overflow-sub-i invariant-loop decreases-loop
-sub-i c = omega arith
+pub loop-i-init : goal.loop-i-init
+loop-i-init c = (omega arith, omega arith, refl, search (rules, starts))
 
-loop-holds : tie.Need-loop-init invariant-loop decreases-loop
-loop-holds c = (omega arith, omega arith, refl, search starts)
-
-slice-write-t : tie.Need-slice-write-t invariant-loop decreases-loop
-slice-write-t c = omega arith
-
-add-i : tie.Need-overflow-add-i invariant-loop decreases-loop
-add-i c = omega arith
-
-loop-less : tie.Need-loop-smaller invariant-loop decreases-loop
-loop-less c = omega arith
-
-loop-again : tie.Need-loop-preserved invariant-loop decreases-loop
-loop-again c =
-    let a = c.before.before.args in
-    let l = c.before.loop in
+pub loop-i-preserved : goal.loop-i-preserved
+loop-i-preserved c = let a = c.args in
+    let l = c.loop-i in
     let k : l.i < length a.t.now = omega arith in
-    (omega arith, omega arith, simp length-set (omega arith), goes_on a.b a.n a.t.now c.before.before.requires l.t l.i l.invariant.0 k l.invariant.3)
+    (omega arith, omega arith, simp length-set (omega arith), goes_on a.b a.n a.t.now c.requires l.t l.i l.invariant.0 k l.invariant.3)
 
-same_length : tie.Need-same-length invariant-loop decreases-loop
-same_length c = omega arith
-
-returns : tie.Need-returns invariant-loop decreases-loop
-returns c = search ends_so
-
-pub last-as-spec : {M : Type 1} → statement M
-last-as-spec =
-    tie.close
-    (tie.spec
-    invariant-loop
-    decreases-loop
-    sub-i
-    loop-holds
-    slice-write-t
-    add-i
-    loop-less
-    loop-again
-    same_length
-    returns)
+pub returns : goal.returns
+returns c = search (rules, ends_so)
