@@ -1,6 +1,7 @@
 // An uncompressed position behind its type byte, or behind its time: read and written; and of its angles the bounds in degrees
 // and the box for the page.
 #![tactic(auto)]
+
 ghost use Rattle.std.specs.Prelude.{◌≡◌, ◌≤◌, true, length, take, drop, pos, unsigned_abs};
 ghost use Rattle.laws.specs.Bytes.{is_digit};
 ghost use Rattle.buffer.specs.Wrote.{ends, wrote};
