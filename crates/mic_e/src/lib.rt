@@ -1,6 +1,7 @@
 // Mic-E reports: the destination that carries a latitude, a message and two flags, and the eight bytes of
 // information that carry longitude, speed, course and symbol. Angles are lonlat's, by its promise alone.
 #![tactic(auto)]
+
 ghost use Rattle.std.specs.Prelude.{◌≡◌, ◌+◌, ◌<◌, ◌≤◌, false, length, if◌then◌else◌, slice_index, unsigned_abs};
 ghost use Rattle.laws.specs.Bytes.{capital_n, capital_s};
 ghost use Rattle.buffer.specs.Wrote.{ends, wrote};
@@ -22,12 +23,12 @@ use std::num::wrapping_sub_u8;
 
 // A speed in knots, at most 799.
 #[repr(C)]
-#[derive(Drop)]
+#[derive(Clone, Copy)]
 pub struct Speed(pub u32);
 
 // A course in degrees, at most 360; 0 is an unknown one.
 #[repr(C)]
-#[derive(Drop)]
+#[derive(Clone, Copy)]
 pub struct Course(pub u32);
 
 // Three bytes of information: a longitude or a motion.
@@ -54,7 +55,7 @@ pub enum LongitudeField {
 
 // What the eight bytes say: the symbol's code byte stands before its table byte.
 #[repr(C)]
-#[derive(Drop)]
+#[derive(Clone, Copy)]
 pub struct Information {
     pub longitude: Longitude,
     pub speed: Speed,
@@ -71,7 +72,7 @@ pub enum InformationRead {
 }
 
 // The standard messages, the custom ones, and two more.
-#[derive(Drop)]
+#[derive(Clone, Copy)]
 pub enum Message {
     M0,
     M1,
@@ -120,7 +121,7 @@ pub struct DestinationWritten {
 }
 
 // The bit of a destination's character: 0, a custom 1 or a standard 1.
-#[derive(Drop)]
+#[derive(Clone, Copy)]
 enum Bit {
     Zero,
     Custom,
