@@ -15,7 +15,6 @@ use Rattle.laws.specs.Bytes.{bang, equals, slash, at_sign}
 use Rattle.laws.proofs.Tests.{and_first, and_second, or_either}
 use Rattle.callsign.specs.declared.Callsign.{Callsign}
 use Rattle.time.specs.declared.Time.{Time}
-use Rattle.time.specs.declared.TimeRead.TheVariants as time
 use Rattle.time.specs.Time.{no_time, is_no_time, is_time, time_bytes, time_text, time_in_range}
 use Rattle.time.proofs.Tests.{no_letter, time_present}
 use Rattle.time.proofs.Theorems.{time_reads_back, no_time_is, no_time_no_bytes, a_time_seven_bytes}

@@ -1,6 +1,7 @@
 // The body of a packet, by its type byte: read from a place of the input on, and written around its text, with the destination that
 // goes with it.
 #![tactic(auto)]
+
 ghost use Rattle.std.specs.Prelude.{◌≡◌, cond, [], ◌+◌, ◌^◌, ◌≤◌, ◌<◌, length, drop};
 ghost use Rattle.callsign.specs.Range.{call_part};
 ghost use Rattle.time.specs.Time.{time_text};
