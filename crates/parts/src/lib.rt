@@ -2,6 +2,7 @@
 // positions, Mic-E fields, messages and status lines read and written, as functions of the C ABI. It is a library of its own, since
 // what two functions share is compiled less well into each. No function asks more of its caller than its C type says.
 #![tactic(auto)]
+
 ghost use Rattle.std.specs.Prelude.{◌≡◌, length};
 ghost use Rattle.buffer.specs.Wrote.{ends, wrote};
 ghost use Rattle.callsign.specs.Text.{read_text};
