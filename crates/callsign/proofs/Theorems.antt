@@ -71,18 +71,18 @@ marks_move_no_text zero c = (rw (marks.mark_in_range zero c), marks.mark_in_text
 pub marks_move_no_address : (zero : Bool) (c : Callsign) (field : Field) (last : Bool) → write_address (marked_as zero c) field last ≡ write_address c field last
 marks_move_no_address = marks.mark_in_address
 
--- ---- P10: hop N0_cALL_1, heard, last
+-- ---- P10: hop N0CALL-1, heard, last
 
-abbrev pub N0_cALL_1 : Callsign
-N0_cALL_1 = made (78 ∷ 48 ∷ 67 ∷ 65 ∷ 76 ∷ 76 ∷ []) (49 ∷ [])
+abbrev pub n0call_1 : Callsign
+n0call_1 = made (78 ∷ 48 ∷ 67 ∷ 65 ∷ 76 ∷ 76 ∷ []) (49 ∷ [])
 
 abbrev pub p10_bytes : List ℕ
 p10_bytes = 0x9c ∷ 0x60 ∷ 0x86 ∷ 0x82 ∷ 0x98 ∷ 0x98 ∷ 0xe3 ∷ []
 
-pub P10 : write_address N0_cALL_1 (Hop true) true ≡ record { refusal = 0; bytes = p10_bytes }
+pub P10 : write_address n0call_1 (Hop true) true ≡ record { refusal = 0; bytes = p10_bytes }
 unfolding write_address in_range text_len call_part ssid_part is_dashed utf8 characters after within zeros is_zero made joined pad_to ssid_number read_count count_of number_of number_after every packed_by packed_as sent raised seventh_of upper_bits bit
 P10 = refl
 
-pub p10_read : read_address p10_bytes ≡ address_as N0_cALL_1 true true
+pub p10_read : read_address p10_bytes ≡ address_as n0call_1 true true
 unfolding read_address address_of unpacked onto are_spaces last_of heard_of ssid_of ssid_text within raised made joined pad_to
 p10_read = refl

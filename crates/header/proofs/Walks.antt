@@ -14,7 +14,7 @@ use Rattle.laws.proofs.Tests.{and_second}
 use Rattle.laws.proofs.Each.{every_first, every_rest}
 use Rattle.callsign.specs.declared.Callsign.{Callsign}
 use Rattle.callsign.specs.Text.{blank_call, read_text}
-use Rattle.callsign.specs.Address.{call, read_address}
+use Rattle.callsign.specs.Address.{read_address}
 use Rattle.callsign.specs.Range.{in_range, text_of}
 use Rattle.callsign.proofs.Theorems.{text_is_in_range, address_is_in_range}
 use Rattle.callsign.proofs.Made.{blank_range}

@@ -1,5 +1,5 @@
--- A hop: a callsign, heard or not, or a Q element. Document 02, R-7: "The ten names are q_aC, q_aX, q_aU, q_ao, q_aO, q_aS, q_ar, q_aR, q_aZ and
--- q_aI, from the APRS-IS q construct page. Such an element counts among the eight, never has a star, and is passed over when stars are
+-- A hop: a callsign, heard or not, or a Q element. Document 02, R-7: "The ten names are qAC, qAX, qAU, qAo, qAO, qAS, qAr, qAR, qAZ and
+-- qAI, from the APRS-IS q construct page. Such an element counts among the eight, never has a star, and is passed over when stars are
 -- carried back."
 -- Assumes nothing.
 use Rattle.std.specs.Prelude.{ℕ, Bool, not, cond, List, [], ◌∷◌, eqb}

@@ -1,6 +1,7 @@
 // The header of a packet: source, destination, up to eight hops, and where the body starts; of a line of text and of an
 // AX.25 frame, read and written.
 #![tactic(auto)]
+
 ghost use Rattle.std.specs.Prelude.{◌≡◌, true, cond, ◌&&◌, [], ◌∷◌, ◌≤◌, max, length, take, drop};
 ghost use Rattle.laws.specs.Bytes.{capital_a, small_q};
 ghost use Rattle.laws.specs.Lists.{every};
@@ -27,7 +28,7 @@ pub const Q_ELEMENT: u8 = 2;
 
 // A hop of a packet's path. A heard Q element has no number.
 #[repr(C)]
-#[derive(Drop)]
+#[derive(Clone, Copy)]
 pub struct Hop {
     pub call: Callsign,
     pub kind: u8,
@@ -36,7 +37,7 @@ pub struct Hop {
 // How many hops there are, and the hops in their order; those beyond `count` are blank. The count stands first, since a header has a
 // gap behind its callsigns: next to it the hops are copied with the gap and without, and the compiler does not join the two.
 #[repr(C)]
-#[derive(Drop)]
+#[derive(Clone, Copy)]
 pub struct Path {
     pub count: usize,
     pub hops: [Hop; 8],
@@ -44,7 +45,7 @@ pub struct Path {
 
 // Source, destination and path.
 #[repr(C)]
-#[derive(Drop)]
+#[derive(Clone, Copy)]
 pub struct Header {
     pub from: Callsign,
     pub to: Callsign,
@@ -53,7 +54,7 @@ pub struct Header {
 
 // What reading gives: the refusal's number or 0, the header, the place of the first body byte, and the stars as typed, bit i for
 // hop i of a line (0 in a frame). At a refusal the header is blank, place and stars 0.
-#[derive(Drop)]
+#[derive(Clone, Copy)]
 pub struct HeaderRead {
     pub header: Header,
     pub body: usize,
@@ -62,14 +63,14 @@ pub struct HeaderRead {
 }
 
 // One hop read, or the refusal's number and a blank hop.
-#[derive(Drop)]
+#[derive(Clone, Copy)]
 struct HopRead {
     hop: Hop,
     refusal: u8,
 }
 
 // Hops read and their stars as typed, or the refusal's number and no hops.
-#[derive(Drop)]
+#[derive(Clone, Copy)]
 struct PathRead {
     path: Path,
     stars: u8,
@@ -574,7 +575,7 @@ pub fn is_blank(h: Header) -> bool
 // ---- pieces put into a scratch array, each judged by its own writer
 
 // The place behind the pieces that are put, and the greatest refusal of their writers or 0: 15 counts before 13.
-#[derive(Drop)]
+#[derive(Clone, Copy)]
 struct Put {
     at: usize,
     refusal: u8,

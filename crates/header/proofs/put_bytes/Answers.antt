@@ -1,0 +1,10 @@
+-- The writer gets what stands from the place on. Assumes nothing.
+use borrow.Author.Rules.{rules}
+use Rattle.header.proofs.Pieces.{place_fits, piece_put}
+use Rattle.header.proofs.put_bytes.Goals as goal
+
+pub overflow_add-result : goal.overflow_add-result
+overflow_add-result c = search (rules, place_fits)
+
+pub returns : goal.returns
+returns c = search (rules, piece_put)

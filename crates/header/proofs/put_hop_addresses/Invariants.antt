@@ -1,0 +1,11 @@
+-- The callsigns' addresses are put one by one; a Q element is left out. Assumes nothing.
+use Prim.Native.Nat.{◌-◌}
+use Rattle.header.specs.Private.{hop_address_pieces}
+use Rattle.header.proofs.Putting.{Putting}
+use Rattle.header.proofs.put_hop_addresses.Given as goal
+
+abbrev pub invariant-loop-i : goal.invariant-loop-i
+invariant-loop-i l = Putting hop_address_pieces l.initial.scratch l.initial.done l.hops l.n l.scratch l.done l.i
+
+abbrev pub decreases-loop-i : goal.decreases-loop-i
+decreases-loop-i l = l.n - l.i
