@@ -24,7 +24,7 @@ use Rattle.body.specs.declared.Kind.{Kind}
 use Rattle.body.specs.declared.Kind.TheVariants.{Unknown, Position, MicE, Message, Status}
 use Rattle.body.specs.declared.Body.{Body}
 use Rattle.body.specs.Range.{in_range_as, body_in_range}
-use Rattle.body.specs.Written.{mic_eCall, to_as, written_to}
+use Rattle.body.specs.Written.{mic_e_call, to_as, written_to}
 use Rattle.body.proofs.Judged.{mic_e_held}
 
 six_short : (l : List ℕ) → length l ≡ 6 → length (joined l []) ≤ 16
@@ -44,7 +44,7 @@ module _ (place : Place) (message : mic-e.Message) (near : place_in_range place 
 
 -- it is in range where the record's own is
 pub to_same : (b : Body) (to : Callsign) → body_in_range b to ≡ true → in_range (written_to b to) ≡ in_range to
-unfolding body_in_range written_to in_range_as to_as mic_eCall
+unfolding body_in_range written_to in_range_as to_as mic_e_call
 to_same b to = go b.kind
   where
     go : (k : Kind) → in_range_as k b to ≡ true → in_range (to_as k b to) ≡ in_range to

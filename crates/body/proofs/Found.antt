@@ -44,9 +44,9 @@ use Rattle.body.specs.declared.Kind.TheVariants.{Position, MicE, Message}
 use Rattle.body.specs.declared.Opening.{Opening}
 use Rattle.body.specs.declared.Opening.TheVariants.{Positioned, Mic, Addressed, Stated, Other}
 use Rattle.body.specs.declared.BodyRead.{BodyRead}
-use Rattle.body.specs.Body.{no_span, no_report, body_with, blank_body, body_accepted, body_refused, opening_of, span_from, position_body, position_from, time_refused, time_behind, time_at, behind_time, positioned_from, report_body, mic_eBody, identifier_span, message_body, status_body, body_after, read_body_by, read_body}
+use Rattle.body.specs.Body.{no_span, no_report, body_with, blank_body, body_accepted, body_refused, opening_of, span_from, position_body, position_from, time_refused, time_behind, time_at, behind_time, positioned_from, report_body, mic_e_body, identifier_span, message_body, status_body, body_after, read_body_by, read_body}
 use Rattle.body.proofs.Strict.{by_mode}
-use Rattle.body.specs.Range.{is_no_letter, is_no_place, is_no_report, is_place_alone, is_report_alone, is_bare, is_short, motion_in_range, unknown_in_range, position_in_range, mic_eIn_range, message_in_range, status_in_range, in_range_as, body_in_range, excepted_as, is_excepted}
+use Rattle.body.specs.Range.{is_no_letter, is_no_place, is_no_report, is_place_alone, is_report_alone, is_bare, is_short, motion_in_range, unknown_in_range, position_in_range, mic_e_in_range, message_in_range, status_in_range, in_range_as, body_in_range, excepted_as, is_excepted}
 
 no_report_lem : is_no_report no_report ≡ true
 unfolding is_no_report no_report message_number
@@ -159,7 +159,7 @@ module _ (s : List ℕ) (at : ℕ) (start : at ≤ length s) where
 
   module _ (current : Bool) (call : List ℕ) (d : Destination) (q : read_destination call ≡ destination.Read d) where
     report_found : (x : InformationRead) → read_information (drop at s) d.hundred d.west ≡ x → Found (length s) (report_body usually d x current (span_from s (at + 8)))
-    unfolding report_body body_in_range in_range_as is_excepted excepted_as mic_eIn_range is_report_alone no_time is_no_time letters_agree place_in_range in_reach motion_in_range is_short
+    unfolding report_body body_in_range in_range_as is_excepted excepted_as mic_e_in_range is_report_alone no_time is_no_time letters_agree place_in_range in_reach motion_in_range is_short
     report_found (information.Read i) e =
         let a = read_destination_found call d q in
         let b = read_information_found (drop at s) d.hundred d.west i e in
@@ -188,8 +188,8 @@ module _ (s : List ℕ) (at : ℕ) (start : at ≤ length s) where
         }
     report_found information.Refused e = blank_found _ (length s)
 
-  mic_e_found : (current : Bool) (call : List ℕ) (x : DestinationRead) → read_destination call ≡ x → Found (length s) (mic_eBody usually x (drop at s) current (span_from s (at + 8)))
-  unfolding mic_eBody
+  mic_e_found : (current : Bool) (call : List ℕ) (x : DestinationRead) → read_destination call ≡ x → Found (length s) (mic_e_body usually x (drop at s) current (span_from s (at + 8)))
+  unfolding mic_e_body
   mic_e_found current call (destination.Read d) e = report_found current call d e (read_information (drop at s) d.hundred d.west) refl
   mic_e_found current call destination.Refused e = blank_found _ (length s)
 

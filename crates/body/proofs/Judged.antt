@@ -25,7 +25,7 @@ use Rattle.mic_e.specs.Destination.{destination_refusal}
 use Rattle.mic_e.specs.Information.{information_out}
 use Rattle.body.specs.declared.Report.{Report}
 use Rattle.body.specs.declared.Body.{Body}
-use Rattle.body.specs.Range.{is_short, motion_in_range, is_no_addressee, is_report_alone, mic_eIn_range}
+use Rattle.body.specs.Range.{is_short, motion_in_range, is_no_addressee, is_report_alone, mic_e_in_range}
 use Rattle.body.specs.Written.{information_of}
 
 -- ---- what the writers refuse
@@ -76,8 +76,8 @@ pub record Reported (b : Body) (to : Callsign) : Type 0 where
   pub slow : b.report.speed.0 ≤ most_speed
   pub turned : b.report.course.0 ≤ most_course
 
-pub mic_e_held : (b : Body) (to : Callsign) → mic_eIn_range b to ≡ true → Reported b to
-unfolding mic_eIn_range is_report_alone is_short motion_in_range
+pub mic_e_held : (b : Body) (to : Callsign) → mic_e_in_range b to ≡ true → Reported b to
+unfolding mic_e_in_range is_report_alone is_short motion_in_range
 mic_e_held b to e =
     let e₂ = and_second (is_blank_call to) _ e in
     let e₃ = and_second (is_report_alone b) _ e₂ in

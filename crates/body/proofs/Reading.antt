@@ -47,7 +47,7 @@ use Rattle.body.specs.declared.Opening.TheVariants.{Positioned, Mic, Addressed, 
 use Rattle.body.specs.declared.Body.{Body}
 use Rattle.body.specs.declared.BodyRead.{BodyRead}
 use Rattle.body.specs.declared.TimeAt.{TimeAt}
-use Rattle.body.specs.Body.{no_span, no_report, body_with, blank_body, body_accepted, body_refused, opening_of, span_from, position_body, position_from, time_found, time_refused, time_behind, time_at, behind_time, positioned_from, report_body, mic_eBody, identifier_span, message_body, status_body, body_after, read_body_by}
+use Rattle.body.specs.Body.{no_span, no_report, body_with, blank_body, body_accepted, body_refused, opening_of, span_from, position_body, position_from, time_found, time_refused, time_behind, time_at, behind_time, positioned_from, report_body, mic_e_body, identifier_span, message_body, status_body, body_after, read_body_by}
 
 -- ---- the time of a position, if it is to have one
 
@@ -171,19 +171,19 @@ module _ (d : Destination) (s : List ℕ) (at : ℕ) (x : InformationRead) (q : 
       information_read t y e w = w ∙ rw (← information_is, z, ← j, y, e)
 
 module _ (strict : Bool) (to : Callsign) (info : List ℕ) (current : Bool) (comment : Span) (x : DestinationRead) (r : BodyRead) (q : x ≡ read_destination (call_part to)) where
-  pub destination_refused : x ≡ destination.Refused → r ≡ body_refused 11 → r ≡ mic_eBody strict (read_destination (call_part to)) info current comment
-  unfolding mic_eBody destination_number
+  pub destination_refused : x ≡ destination.Refused → r ≡ body_refused 11 → r ≡ mic_e_body strict (read_destination (call_part to)) info current comment
+  unfolding mic_e_body destination_number
   destination_refused z w = rw (← q, z) w
 
   -- o is the test of its minutes
   module _ (d : Destination) (z : x ≡ destination.Read d) (o : Bool) (j : o ≡ is_over strict d.sixty) where
-    pub destination_over : o ≡ true → r ≡ body_refused 11 → r ≡ mic_eBody strict (read_destination (call_part to)) info current comment
-    unfolding mic_eBody destination_number
+    pub destination_over : o ≡ true → r ≡ body_refused 11 → r ≡ mic_e_body strict (read_destination (call_part to)) info current comment
+    unfolding mic_e_body destination_number
     destination_over y w = rw (← q, z, ← j, y) w
 
     pub destination_read : o ≡ false → r ≡ report_body strict d (read_information info d.hundred d.west) current comment
-        → r ≡ mic_eBody strict (read_destination (call_part to)) info current comment
-    unfolding mic_eBody
+        → r ≡ mic_e_body strict (read_destination (call_part to)) info current comment
+    unfolding mic_e_body
     destination_read y w = rw (← q, z, ← j, y) w
 
 -- ---- a message
@@ -287,7 +287,7 @@ module _ (strict : Bool) (to : Callsign) (s : List ℕ) (from : ℕ) (o : Openin
   body_status e w = w ∙ sym (opens Stated e)
 
   pub body_mic_e : (current : Bool) → o ≡ Mic current
-      → r ≡ mic_eBody strict (read_destination (call_part to)) (drop (from + 1) s) current (span_from s (from + 1 + 8))
+      → r ≡ mic_e_body strict (read_destination (call_part to)) (drop (from + 1) s) current (span_from s (from + 1 + 8))
       → r ≡ read_body_by strict to s from
   unfolding body_after
   body_mic_e current e w = w ∙ sym (opens (Mic current) e)

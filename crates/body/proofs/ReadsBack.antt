@@ -31,9 +31,9 @@ use Rattle.body.specs.declared.Kind.{Kind}
 use Rattle.body.specs.declared.Kind.TheVariants.{MicE}
 use Rattle.body.specs.declared.Opening.TheVariants.{Mic}
 use Rattle.body.specs.declared.Body.{Body}
-use Rattle.body.specs.Body.{no_span, body_accepted, opening_of, span_from, report_body, mic_eBody, body_after, read_body_by, read_body}
+use Rattle.body.specs.Body.{no_span, body_accepted, opening_of, span_from, report_body, mic_e_body, body_after, read_body_by, read_body}
 use Rattle.body.specs.Range.{in_range_as, body_in_range}
-use Rattle.body.specs.Written.{mic_eCall, to_as, written_to, information_of, mic_eBytes, bytes_as, body_bytes}
+use Rattle.body.specs.Written.{mic_e_call, to_as, written_to, information_of, mic_e_bytes, bytes_as, body_bytes}
 use Rattle.body.proofs.Judged.{Reported, mic_e_held}
 
 -- a body with another place, and with its comment at that place and of that length
@@ -64,7 +64,7 @@ module _ (b : Body) (to : Callsign) (h : Reported b to) (width : nat_abs b.place
   info = information_bytes (information_of b.place b.report)
 
   abbrev input : List ℕ
-  input = before ++ (mic_eBytes b.place b.report ++ comment)
+  input = before ++ (mic_e_bytes b.place b.report ++ comment)
 
   near : nat_abs b.place.latitude.0 ≤ most_latitude
   near = reach_near most_latitude (nat_abs b.place.latitude.0) b.place.blanks (latitude_near b.place h.near)
@@ -79,24 +79,24 @@ module _ (b : Body) (to : Callsign) (h : Reported b to) (width : nat_abs b.place
       near few width
       (in_all (information_of b.place b.report) h.short h.slow h.turned)
 
-  called : read_destination (call_part (mic_eCall b.place b.report))
+  called : read_destination (call_part (mic_e_call b.place b.report))
       ≡ destination.Read (destination_for b.place.latitude.0 b.place.blanks b.report.message b.place.longitude.0)
-  unfolding mic_eCall destination_for
+  unfolding mic_e_call destination_for
   called =
       let bytes = destination_bytes b.place.latitude.0 b.place.blanks b.report.message b.place.longitude.0 in
       ap read_destination (made_call bytes []) ∙ destination_reads_back b.place.latitude.0 b.place.blanks b.report.message b.place.longitude.0 near few width
 
   sized : length input ≡ length before + 9 + length comment
-  unfolding mic_eBytes
-  sized = omega (arith, length-append before (mic_eBytes b.place b.report ++ comment), length-append info comment, information_length (information_of b.place b.report))
+  unfolding mic_e_bytes
+  sized = omega (arith, length-append before (mic_e_bytes b.place b.report ++ comment), length-append info comment, information_length (information_of b.place b.report))
 
   first : get_or input (length before) 0 ≡ cond b.report.current backquote apostrophe
-  unfolding mic_eBytes
+  unfolding mic_e_bytes
   first = get_or_at before (cond b.report.current backquote apostrophe) (info ++ comment) 0 (length before) refl
 
   rest : drop (length before + 1) input ≡ info ++ comment
-  unfolding mic_eBytes
-  rest = drop-append-add before (mic_eBytes b.place b.report ++ comment) 1
+  unfolding mic_e_bytes
+  rest = drop-append-add before (mic_e_bytes b.place b.report ++ comment) 1
 
   behind : span_from input (length before + 1 + 8) ≡ record { at = length before + 9; len = length comment }
   unfolding span_from
@@ -105,7 +105,7 @@ module _ (b : Body) (to : Callsign) (h : Reported b to) (width : nat_abs b.place
       let len : length input - (length before + 9) ≡ length comment = omega (arith, sized) in
       rw (at, len)
 
-  pub report_back : read_body (mic_eCall b.place b.report) input (length before)
+  pub report_back : read_body (mic_e_call b.place b.report) input (length before)
       ≡ body_accepted (record {
         kind = MicE;
         place = as_written b.place;
@@ -116,7 +116,7 @@ module _ (b : Body) (to : Callsign) (h : Reported b to) (width : nat_abs b.place
         identifier = no_span;
         addressee = no_addressee;
       })
-  unfolding read_body_by body_after mic_eBody report_body destination_for information_of as_written
+  unfolding read_body_by body_after mic_e_body report_body destination_for information_of as_written
   report_back =
       rw (
         lt-ltb (length before) (length input) (omega (arith, sized)),
@@ -130,8 +130,8 @@ module _ (b : Body) (to : Callsign) (h : Reported b to) (width : nat_abs b.place
 
 -- ---- of a body by its kind
 
-fixed_nine : (b : Body) → length (mic_eBytes b.place b.report) ≡ 9
-unfolding mic_eBytes
+fixed_nine : (b : Body) → length (mic_e_bytes b.place b.report) ≡ 9
+unfolding mic_e_bytes
 fixed_nine b = omega (arith, information_length (information_of b.place b.report))
 
 module _ (b : Body) (to : Callsign) (k : b.kind ≡ MicE) (e : body_in_range b to ≡ true) where
@@ -139,11 +139,11 @@ module _ (b : Body) (to : Callsign) (k : b.kind ≡ MicE) (e : body_in_range b t
   unfolding body_in_range in_range_as
   held = mic_e_held b to (ap (λ (x : Kind). in_range_as x b to) (sym k) ∙ e)
 
-  its_call : written_to b to ≡ mic_eCall b.place b.report
+  its_call : written_to b to ≡ mic_e_call b.place b.report
   unfolding written_to to_as
   its_call = ap (λ (x : Kind). to_as x b to) k
 
-  its_bytes : body_bytes b ≡ mic_eBytes b.place b.report
+  its_bytes : body_bytes b ≡ mic_e_bytes b.place b.report
   unfolding body_bytes bytes_as
   its_bytes = ap (λ (x : Kind). bytes_as x b) k
 
@@ -154,4 +154,4 @@ module _ (b : Body) (to : Callsign) (k : b.kind ≡ MicE) (e : body_in_range b t
   pub comment_back : (before comment : List ℕ) → drop (length before + 9) (before ++ (body_bytes b ++ comment)) ≡ comment
   comment_back before comment =
       rw its_bytes
-      (drop-append-add before (mic_eBytes b.place b.report ++ comment) 9 ∙ drop_at (mic_eBytes b.place b.report) comment 9 (fixed_nine b))
+      (drop-append-add before (mic_e_bytes b.place b.report ++ comment) 9 ∙ drop_at (mic_e_bytes b.place b.report) comment 9 (fixed_nine b))

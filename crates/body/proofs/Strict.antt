@@ -28,7 +28,7 @@ use Rattle.body.specs.declared.Opening.TheVariants.{Positioned, Mic, Addressed, 
 use Rattle.body.specs.declared.Span.{Span}
 use Rattle.body.specs.declared.TimeAt.{TimeAt}
 use Rattle.body.specs.declared.BodyRead.{BodyRead}
-use Rattle.body.specs.Body.{blank_body, body_accepted, body_refused, opening_of, span_from, position_body, position_from, time_at, behind_time, positioned_from, report_body, mic_eBody, body_after, read_body_by, read_body}
+use Rattle.body.specs.Body.{blank_body, body_accepted, body_refused, opening_of, span_from, position_body, position_from, time_at, behind_time, positioned_from, report_body, mic_e_body, body_after, read_body_by, read_body}
 
 -- ---- the fault that only the strict reader finds; 0 is none
 
@@ -80,8 +80,8 @@ report_strictly d (information.Read i) current comment = table_unless body_refus
 report_strictly d information.Refused current comment = refl
 
 mic_e_strictly : (q : DestinationRead) (info : List ℕ) (current : Bool) (comment : Span)
-    → mic_eBody strictly q info current comment ≡ unless body_refused (destination_fault q info) (mic_eBody usually q info current comment)
-unfolding mic_eBody destination_fault destination_number
+    → mic_e_body strictly q info current comment ≡ unless body_refused (destination_fault q info) (mic_e_body usually q info current comment)
+unfolding mic_e_body destination_fault destination_number
 mic_e_strictly (destination.Read d) info current comment = go d.sixty
   where
     go : (over : Bool)
@@ -171,9 +171,9 @@ behind_time_beside x s messaging = go (eqb x.refusal 0)
     go true n = ⊎_elim inl (λ b. inr (inl (same ∙ b.0, b.1))) (position_refused_too behind (λ z. n (same ∙ z)))
     go false n = inl refl
 
-mic_e_beside : (q : DestinationRead) (info : List ℕ) (current : Bool) (comment : Span) → ((mic_eBody usually q info current comment).refusal ≡ 0 → ⊥)
-    → IsBeside (mic_eBody usually q info current comment).refusal (destination_fault q info)
-unfolding mic_eBody destination_fault destination_number
+mic_e_beside : (q : DestinationRead) (info : List ℕ) (current : Bool) (comment : Span) → ((mic_e_body usually q info current comment).refusal ≡ 0 → ⊥)
+    → IsBeside (mic_e_body usually q info current comment).refusal (destination_fault q info)
+unfolding mic_e_body destination_fault destination_number
 mic_e_beside (destination.Read d) info current comment = go d.sixty (read_information info d.hundred d.west)
   where
     go : (over : Bool) (q : InformationRead) → ((report_body usually d q current comment).refusal ≡ 0 → ⊥)
@@ -236,8 +236,8 @@ behind_time_sound x s messaging = go (eqb x.refusal 0) refl
     go true e z = position_sound behind (sym (position_number (read_position behind) messaging x.time comment) ∙ z)
     go false e z = absurd (eqb-false x.refusal 0 e z)
 
-mic_e_sound : (q : DestinationRead) (info : List ℕ) (current : Bool) (comment : Span) → (mic_eBody usually q info current comment).refusal ≡ 0 → eqb (destination_fault q info) 0 ≡ is_sound_report q info
-unfolding mic_eBody destination_fault destination_number is_sound_report
+mic_e_sound : (q : DestinationRead) (info : List ℕ) (current : Bool) (comment : Span) → (mic_e_body usually q info current comment).refusal ≡ 0 → eqb (destination_fault q info) 0 ≡ is_sound_report q info
+unfolding mic_e_body destination_fault destination_number is_sound_report
 mic_e_sound (destination.Read d) info current comment = go (read_information info d.hundred d.west)
   where
     go : (q : InformationRead) → (report_body usually d q current comment).refusal ≡ 0 → eqb (cond d.sixty 11 (information_fault q)) 0 ≡ (not d.sixty && is_on_table q)

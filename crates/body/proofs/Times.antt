@@ -35,7 +35,7 @@ use Rattle.body.specs.declared.Span.{Span}
 use Rattle.body.specs.declared.Opening.{Opening}
 use Rattle.body.specs.declared.Opening.TheVariants.{Positioned, Mic, Addressed, Stated, Other}
 use Rattle.body.specs.declared.BodyRead.{BodyRead}
-use Rattle.body.specs.Body.{no_span, no_report, body_with, blank_body, body_accepted, body_refused, opening_of, span_from, position_body, position_from, time_refused, time_behind, time_at, behind_time, positioned_from, report_body, mic_eBody, identifier_span, message_body, status_body, body_after, read_body_by, read_body}
+use Rattle.body.specs.Body.{no_span, no_report, body_with, blank_body, body_accepted, body_refused, opening_of, span_from, position_body, position_from, time_refused, time_behind, time_at, behind_time, positioned_from, report_body, mic_e_body, identifier_span, message_body, status_body, body_after, read_body_by, read_body}
 
 -- behind the type byte stand the bytes from the place `at` on
 module _ (s : List ℕ) (at : ℕ) where
@@ -74,8 +74,8 @@ module _ (s : List ℕ) (at : ℕ) where
   report_time d (information.Read i) current comment = inl refl
   report_time d information.Refused current comment = blank_time 12
 
-  mic_e_time : (x : DestinationRead) (info : List ℕ) (current : Bool) (comment : Span) → TimeOf (mic_eBody usually x info current comment)
-  unfolding mic_eBody destination_number
+  mic_e_time : (x : DestinationRead) (info : List ℕ) (current : Bool) (comment : Span) → TimeOf (mic_e_body usually x info current comment)
+  unfolding mic_e_body destination_number
   mic_e_time (destination.Read d) info current comment = report_time d (read_information info d.hundred d.west) current comment
   mic_e_time destination.Refused info current comment = blank_time 11
 

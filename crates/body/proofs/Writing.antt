@@ -48,8 +48,8 @@ use Rattle.body.specs.declared.Kind.TheVariants.{Unknown, Position, MicE, Messag
 use Rattle.body.specs.declared.Report.{Report}
 use Rattle.body.specs.declared.Body.{Body}
 use Rattle.body.specs.declared.BodyWritten.{BodyWritten}
-use Rattle.body.specs.Range.{is_no_addressee, is_place_alone, is_report_alone, is_bare, is_short, motion_in_range, unknown_in_range, position_in_range, mic_eIn_range, message_in_range, status_in_range, in_range_as, body_in_range}
-use Rattle.body.specs.Written.{mic_eCall, to_as, written_to, information_of, position_type, position_bytes, mic_eBytes, message_bytes, status_bytes, bytes_as, body_bytes, tail_as, tail_bytes, refusal_as, body_refusal, most_fixed, most_tail, unwritten, written_as, written_or, write_body}
+use Rattle.body.specs.Range.{is_no_addressee, is_place_alone, is_report_alone, is_bare, is_short, motion_in_range, unknown_in_range, position_in_range, mic_e_in_range, message_in_range, status_in_range, in_range_as, body_in_range}
+use Rattle.body.specs.Written.{mic_e_call, to_as, written_to, information_of, position_type, position_bytes, mic_e_bytes, message_bytes, status_bytes, bytes_as, body_bytes, tail_as, tail_bytes, refusal_as, body_refusal, most_fixed, most_tail, unwritten, written_as, written_or, write_body}
 use Rattle.body.proofs.Judged.{destination_judges, information_judges}
 
 -- ---- in range or not, from a chain of tests
@@ -283,8 +283,8 @@ module _ (place : Place) (report : Report) (w : Answer) (last : List ℕ)
         → to ≡ made (take 6 call) (ssid_text (ssid_of 0))
         → k ≡ cond report.current backquote apostrophe
         → record { refusal = 0; to = to; bytes = k ∷ (last ++ []); tail = replicate most_tail 0; len = 9; tail_len = 0 }
-        ≡ cond out unwritten (written_as 0 (mic_eCall place report) (mic_eBytes place report) [])
-    unfolding written_as mic_eCall mic_eBytes pad_to ssid_text ssid_of
+        ≡ cond out unwritten (written_as 0 (mic_e_call place report) (mic_e_bytes place report) [])
+    unfolding written_as mic_e_call mic_e_bytes pad_to ssid_text ssid_of
     report_written call to k c t q =
         let six = destination_length place.latitude.0 place.blanks report.message place.longitude.0 in
         let whole : take 6 call ≡ call = ap (λ (n : ℕ). take n call) (sym (ap length c ∙ six)) ∙ take-length call in
@@ -312,8 +312,8 @@ module _ (latitude : ℤ) (blanks : ℕ) (message : mic-e.Message) (longitude : 
 module _ (b : Body) (to : Callsign) (u : Bool) (e : u ≡ is_blank_call to) (f : not u ≡ false) (x : Bool) (k : x ≡ is_report_alone b) (l : not x ≡ false)
     (v : Bool) (i : v ≡ letters_agree b.place) (j : not v ≡ false) (d : DestinationWritten)
     (q : d ≡ write_destination b.place.latitude.0 b.place.blanks b.report.message b.place.longitude.0) where
-  left : mic_eIn_range b to ≡ ((place_in_range b.place && is_short b.place) && motion_in_range b.report)
-  unfolding mic_eIn_range
+  left : mic_e_in_range b to ≡ ((place_in_range b.place && is_short b.place) && motion_in_range b.report)
+  unfolding mic_e_in_range
   left = rw (← e, not-false u f, ← k, not-false x l, ← i, not-false v j) (apart (place_in_range b.place) (is_short b.place) (motion_in_range b.report))
     where
       apart : (x y z : Bool) → (x && (y && z)) ≡ ((x && y) && z)
@@ -323,10 +323,10 @@ module _ (b : Body) (to : Callsign) (u : Bool) (e : u ≡ is_blank_call to) (f :
   placed : eqb d.refusal 0 ≡ (place_in_range b.place && is_short b.place)
   placed = destination_says b.place.latitude.0 b.place.blanks b.report.message b.place.longitude.0 d q ∙ destination_judges b.place
 
-  pub mic_e_out : (r x : BodyWritten) → (d.refusal ≡ 0 → ⊥) → r ≡ unwritten → r ≡ cond (mic_eIn_range b to) x unwritten
+  pub mic_e_out : (r x : BodyWritten) → (d.refusal ≡ 0 → ⊥) → r ≡ unwritten → r ≡ cond (mic_e_in_range b to) x unwritten
   mic_e_out r x z w = rw (left, ← placed, ne_eqb d.refusal 0 z) w
 
-  pub mic_e_written : (r x : BodyWritten) → d.refusal ≡ 0 → r ≡ cond (information_out (information_of b.place b.report)) unwritten x → r ≡ cond (mic_eIn_range b to) x unwritten
+  pub mic_e_written : (r x : BodyWritten) → d.refusal ≡ 0 → r ≡ cond (information_out (information_of b.place b.report)) unwritten x → r ≡ cond (mic_e_in_range b to) x unwritten
   mic_e_written r x z w =
       let fine = sym placed ∙ eq-eqb d.refusal 0 z in
       let judges = information_judges b.place b.report (and_second (place_in_range b.place) (is_short b.place) fine) in
@@ -352,7 +352,7 @@ module _ (b : Body) (to : Callsign) (text identifier : List ℕ) where
     unfolding in_range_as to_as bytes_as tail_as refusal_as written_or
     write_position k w = w ∙ sym (written_by Position k)
 
-    pub write_mic_e : b.kind ≡ MicE → r ≡ cond (mic_eIn_range b to) (written_as 0 (mic_eCall b.place b.report) (mic_eBytes b.place b.report) []) unwritten → r ≡ write_body b to text identifier
+    pub write_mic_e : b.kind ≡ MicE → r ≡ cond (mic_e_in_range b to) (written_as 0 (mic_e_call b.place b.report) (mic_e_bytes b.place b.report) []) unwritten → r ≡ write_body b to text identifier
     unfolding in_range_as to_as bytes_as tail_as refusal_as written_or
     write_mic_e k w = w ∙ sym (written_by MicE k)
 
@@ -382,7 +382,7 @@ unfolding status_in_range
 status_timed b e = and_second (is_no_addressee b) _ (and_second (is_bare b) _ e)
 
 pub fixed_short : (b : Body) (to : Callsign) → length b.addressee ≡ addressee_bytes → body_in_range b to ≡ true → length (body_bytes b) ≤ 27
-unfolding body_in_range body_bytes in_range_as bytes_as position_bytes mic_eBytes message_bytes status_bytes addressee_text
+unfolding body_in_range body_bytes in_range_as bytes_as position_bytes mic_e_bytes message_bytes status_bytes addressee_text
 fixed_short b to nine = go b.kind
   where
     go : (k : Kind) → in_range_as k b to ≡ true → length (bytes_as k b) ≤ 27

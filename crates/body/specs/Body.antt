@@ -159,11 +159,11 @@ report_body strict d (information.Read i) current comment =
 report_body strict d information.Refused current comment = body_refused (information_number information.Refused)
 
 -- "Mic-E: 11, then 12"; strictly 11 is given for the destination's minutes too, not for those of the information
-unfoldable pub mic_eBody : Bool → DestinationRead → List ℕ → Bool → Span → BodyRead
-mic_eBody strict (destination.Read d) info current comment =
+unfoldable pub mic_e_body : Bool → DestinationRead → List ℕ → Bool → Span → BodyRead
+mic_e_body strict (destination.Read d) info current comment =
     cond (is_over strict d.sixty) (body_refused (destination_number destination.Refused))
     (report_body strict d (read_information info d.hundred d.west) current comment)
-mic_eBody strict destination.Refused info current comment = body_refused (destination_number destination.Refused)
+mic_e_body strict destination.Refused info current comment = body_refused (destination_number destination.Refused)
 
 -- "the identifier's place and length, 0 and 0 where there is none": it stands past the `{` that ends the text
 unfoldable pub identifier_span : ℕ → ℕ → Span
@@ -186,7 +186,7 @@ status_body status.Refused s at = body_refused (status_number status.Refused)
 -- a status; of a Mic-E destination "6 call characters, SSID ignored"; only positions and reports have a strict rule
 unfoldable pub body_after : Bool → Opening → Callsign → List ℕ → ℕ → BodyRead
 body_after strict (Positioned messaging timed) to s at = positioned_from strict s at messaging timed
-body_after strict (Mic current) to s at = mic_eBody strict (read_destination (call_part to)) (drop at s) current (span_from s (at + 8))
+body_after strict (Mic current) to s at = mic_e_body strict (read_destination (call_part to)) (drop at s) current (span_from s (at + 8))
 body_after strict Addressed to s at = message_body (read_message (drop at s)) at
 body_after strict Stated to s at = status_body (read_status (drop at s)) s at
 body_after strict Other to s at = body_accepted blank_body

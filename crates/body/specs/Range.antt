@@ -81,8 +81,8 @@ unfoldable pub position_in_range : Body → Bool
 position_in_range b = is_place_alone b && (time_in_range b.time && position_fits b.place)
 
 -- no destination, nothing that a report lacks; letters, angles and precision, 180 degrees, speed and course
-unfoldable pub mic_eIn_range : Body → Callsign → Bool
-mic_eIn_range b to =
+unfoldable pub mic_e_in_range : Body → Callsign → Bool
+mic_e_in_range b to =
     is_blank_call to
     && (is_report_alone b
     && (letters_agree b.place
@@ -102,7 +102,7 @@ status_in_range b = is_bare b && (is_no_addressee b && is_status_time b.time)
 unfoldable pub in_range_as : Kind → Body → Callsign → Bool
 in_range_as Unknown b to = unknown_in_range b
 in_range_as Position b to = position_in_range b
-in_range_as MicE b to = mic_eIn_range b to
+in_range_as MicE b to = mic_e_in_range b to
 in_range_as Message b to = message_in_range b
 in_range_as Status b to = status_in_range b
 

@@ -25,14 +25,14 @@ use Rattle.body.specs.Range.{body_in_range}
 -- ---- the destination
 
 -- "the destination is built by value": six characters, no SSID
-unfoldable pub mic_eCall : Place → Report → Callsign
-mic_eCall place report = made (destination_bytes place.latitude.0 place.blanks report.message place.longitude.0) []
+unfoldable pub mic_e_call : Place → Report → Callsign
+mic_e_call place report = made (destination_bytes place.latitude.0 place.blanks report.message place.longitude.0) []
 
 -- by the kind
 unfoldable pub to_as : Kind → Body → Callsign → Callsign
 to_as Unknown b to = to
 to_as Position b to = to
-to_as MicE b to = mic_eCall b.place b.report
+to_as MicE b to = mic_e_call b.place b.report
 to_as Message b to = to
 to_as Status b to = to
 
@@ -62,8 +62,8 @@ unfoldable pub position_bytes : Place → Bool → Time → List ℕ
 position_bytes place messaging time = position_type messaging time ∷ (time_text time ++ position_text place)
 
 -- of a Mic-E report: "writing uses backquote or apostrophe"
-unfoldable pub mic_eBytes : Place → Report → List ℕ
-mic_eBytes place report = cond report.current backquote apostrophe ∷ information_bytes (information_of place report)
+unfoldable pub mic_e_bytes : Place → Report → List ℕ
+mic_e_bytes place report = cond report.current backquote apostrophe ∷ information_bytes (information_of place report)
 
 -- of a message: the type byte, the addressee and `:`
 unfoldable pub message_bytes : List ℕ → List ℕ
@@ -77,7 +77,7 @@ status_bytes time = greater ∷ time_text time
 unfoldable pub bytes_as : Kind → Body → List ℕ
 bytes_as Unknown b = []
 bytes_as Position b = position_bytes b.place b.messaging b.time
-bytes_as MicE b = mic_eBytes b.place b.report
+bytes_as MicE b = mic_e_bytes b.place b.report
 bytes_as Message b = message_bytes b.addressee
 bytes_as Status b = status_bytes b.time
 

@@ -9,9 +9,9 @@ ghost use Rattle.mic_e.specs.Destination.{read_destination, destination_bytes};
 ghost use Rattle.mic_e.specs.Information.{read_information, information_out};
 ghost use Rattle.message.specs.Message.{read_message, identifier_text, message_refusal};
 ghost use Rattle.message.specs.Status.{read_status, status_text_refusal};
-ghost use Rattle.body.specs.Body.{no_report, body_with, blank_body, body_accepted, body_refused, opening_of, span_from, time_found, time_refused, time_at, positioned_from, report_body, mic_eBody, identifier_span, message_body, status_body, read_body_by};
-ghost use Rattle.body.specs.Range.{is_no_letter, is_no_place, is_no_report, is_place_alone, is_report_alone, is_bare, unknown_in_range, position_in_range, mic_eIn_range, message_in_range, status_in_range};
-ghost use Rattle.body.specs.Written.{mic_eCall, information_of, position_type, position_bytes, mic_eBytes, message_bytes, status_bytes, unwritten, written_as, written_or, write_body};
+ghost use Rattle.body.specs.Body.{no_report, body_with, blank_body, body_accepted, body_refused, opening_of, span_from, time_found, time_refused, time_at, positioned_from, report_body, mic_e_body, identifier_span, message_body, status_body, read_body_by};
+ghost use Rattle.body.specs.Range.{is_no_letter, is_no_place, is_no_report, is_place_alone, is_report_alone, is_bare, unknown_in_range, position_in_range, mic_e_in_range, message_in_range, status_in_range};
+ghost use Rattle.body.specs.Written.{mic_e_call, information_of, position_type, position_bytes, mic_e_bytes, message_bytes, status_bytes, unwritten, written_as, written_or, write_body};
 
 use callsign::Callsign;
 use message::StatusRead;
@@ -325,7 +325,7 @@ fn read_report(d: Destination, s: &[u8], at: usize, current: bool, strict: bool)
 // A Mic-E report: its destination, and then its information from the place `at` on.
 fn read_mic_e(to: Callsign, s: &[u8], at: usize, current: bool, strict: bool) -> BodyRead
     requires { at ≤ length s.now }
-    ensures { result ≡ mic_eBody strict (read_destination (call_part to)) (drop at s.now) current (span_from s.now (at + 8)) }
+    ensures { result ≡ mic_e_body strict (read_destination (call_part to)) (drop at s.now) current (span_from s.now (at + 8)) }
 {
     let read = destination_of(to);
     match read {
@@ -600,7 +600,7 @@ fn write_position(b: Body, to: Callsign) -> BodyWritten
 // The information of a Mic-E report behind its type byte, with the characters of its destination.
 fn write_report(place: Place, report: Report, call: [u8; 6]) -> BodyWritten
     requires { call ≡ destination_bytes place.latitude.0 place.blanks report.message place.longitude.0 }
-    ensures { result ≡ cond (information_out (information_of place report)) unwritten (written_as 0 (mic_eCall place report) (mic_eBytes place report) []) }
+    ensures { result ≡ cond (information_out (information_of place report)) unwritten (written_as 0 (mic_e_call place report) (mic_e_bytes place report) []) }
 {
     let longitude = place.longitude;
     let speed = report.speed;
@@ -630,7 +630,7 @@ fn write_report(place: Place, report: Report, call: [u8; 6]) -> BodyWritten
 }
 
 fn write_mic_e(b: Body, to: Callsign) -> BodyWritten
-    ensures { result ≡ cond (mic_eIn_range b to) (written_as 0 (mic_eCall b.place b.report) (mic_eBytes b.place b.report) []) unwritten }
+    ensures { result ≡ cond (mic_e_in_range b to) (written_as 0 (mic_e_call b.place b.report) (mic_e_bytes b.place b.report) []) unwritten }
 {
     if !callsign::is_blank(to) {
         return unwritten();

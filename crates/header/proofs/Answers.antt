@@ -23,7 +23,7 @@ use Rattle.callsign.proofs.Made.{blank_range}
 use Rattle.callsign.proofs.Theorems.{text_is_in_range, address_is_in_range}
 use Rattle.header.specs.declared.Hop.{Hop}
 use Rattle.header.specs.declared.HeaderRead.{HeaderRead}
-use Rattle.header.specs.Hop.{heard_as, call_hop, is_heard, is_qElement}
+use Rattle.header.specs.Hop.{heard_as, call_hop, is_heard, is_q_element}
 use Rattle.header.specs.Header.{most_bytes, Hops, blank_hop, path_of, hops_of, header_of, blank_header, header_refused, header_accepted, unless_refused, with_hops}
 use Rattle.header.specs.Text.{fields, first_of, others_of, stars_of, carried, read_route, read_before, read_header_text, read_text_header}
 use Rattle.header.specs.Frame.{starts_with_pair, with_pair, read_source, read_frame_header}
@@ -197,14 +197,14 @@ module _ (ok : ℕ → Type 0) (s : List ℕ) (i : ℕ) (d : Hop) where
       let f : is_heard (get_or (carried t.typed) i d) ≡ true = rw (← t.back) (rw (get_or-append l (replicate (8 - length l) blank_hop) d i h) at e) in
       rw t.number (heard_then_set t.typed i d z f)
 
-  pub answered_set : {r : HeaderRead} → Answered ok Starred s r → i < r.header.path.count → is_qElement (get_or r.header.path.hops i d) ≡ false → (j : ℕ) → i ≤ j → is_set r.stars j ≡ true
+  pub answered_set : {r : HeaderRead} → Answered ok Starred s r → i < r.header.path.count → is_q_element (get_or r.header.path.hops i d) ≡ false → (j : ℕ) → i ≤ j → is_set r.stars j ≡ true
       → is_heard (get_or r.header.path.hops i d) ≡ true
   unfolding header_refused header_accepted header_of blank_header path_of pad_to
   answered_set (no n p) h c j o e = absurd (omega arith)
   answered_set (yes from to l body stars a b m q k t) h c j o e =
       let y = length_carried t.typed in
       let z : i < length t.typed = omega (arith, ap length t.back) in
-      let w : is_qElement (get_or (carried t.typed) i d) ≡ false = rw (← t.back) (rw (get_or-append l (replicate (8 - length l) blank_hop) d i h) at c) in
+      let w : is_q_element (get_or (carried t.typed) i d) ≡ false = rw (← t.back) (rw (get_or-append l (replicate (8 - length l) blank_hop) d i h) at c) in
       let f : is_heard (get_or l i d) ≡ true = rw t.back (set_then_heard t.typed i d z w j o (rw t.number at e)) in
       rw (get_or-append l (replicate (8 - length l) blank_hop) d i h) f
 

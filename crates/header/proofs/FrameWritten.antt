@@ -23,7 +23,7 @@ use Rattle.callsign.proofs.AddressBack.{address_seven}
 use Rattle.callsign.proofs.Theorems.{address_out_of_range, address_within_range}
 use Rattle.header.specs.declared.Hop.{Hop}
 use Rattle.header.specs.declared.Header.{Header}
-use Rattle.header.specs.Hop.{is_heard, is_qElement, calls_of}
+use Rattle.header.specs.Hop.{is_heard, is_q_element, calls_of}
 use Rattle.header.specs.Header.{hops_of}
 use Rattle.header.specs.Frame.{pair, is_none, hop_addresses, addresses, first_refusal, address_bytes, header_frame}
 use Rattle.header.specs.Range.{hop_in_range, header_in_range, frame_refusal}
@@ -83,16 +83,16 @@ one_judged c field last ok ps l j = go (in_range c) refl
 
 -- the address of a hop, before others; none of a Q element
 unfoldable with_hop : Hop → Bool → List AddressWritten → List AddressWritten
-with_hop h last l = cond (is_qElement h) l (write_address h.call (HopField (is_heard h)) last ∷ l)
+with_hop h last l = cond (is_q_element h) l (write_address h.call (HopField (is_heard h)) last ∷ l)
 
 hop_judged : (h : Hop) (last : Bool) (ok : Bool) (ps : List Piece) (l : List AddressWritten) → Judged ok ps l → Judged (hop_in_range h && ok) (hop_address_piece h last ∷ ps) (with_hop h last l)
 unfolding hop_address_piece with_hop
-hop_judged h last ok ps l j = go (is_tidy_hop h) refl (is_qElement h) refl
+hop_judged h last ok ps l j = go (is_tidy_hop h) refl (is_q_element h) refl
   where
     a : AddressWritten
     a = write_address h.call (HopField (is_heard h)) last
 
-    go : (t : Bool) → is_tidy_hop h ≡ t → (q : Bool) → is_qElement h ≡ q
+    go : (t : Bool) → is_tidy_hop h ≡ t → (q : Bool) → is_q_element h ≡ q
         → Judged (hop_in_range h && ok) (record { refusal = cond t (cond q 0 a.refusal) 15; bytes = cond q [] a.bytes } ∷ ps) (cond q l (a ∷ l))
     go false e q k = rw (untidy_hop h e) (out_judged ok ps l _ _ refl j)
     go true e true k = rw (tidy_q h e k) (in_judged ok ps l _ refl j)
@@ -100,7 +100,7 @@ hop_judged h last ok ps l j = go (is_tidy_hop h) refl (is_qElement h) refl
 
 with_hop_lem : (h : Hop) (l : List Hop) → with_hop h (is_none (calls_of l)) (hop_addresses (calls_of l)) ≡ hop_addresses (calls_of (h ∷ l))
 unfolding with_hop calls_of hop_addresses
-with_hop_lem h l = go (is_qElement h)
+with_hop_lem h l = go (is_q_element h)
   where
     go : (q : Bool) → cond q (hop_addresses (calls_of l)) (write_address h.call (HopField (is_heard h)) (is_none (calls_of l)) ∷ hop_addresses (calls_of l)) ≡ hop_addresses (cond q (calls_of l) (h ∷ calls_of l))
     go true = refl
@@ -144,7 +144,7 @@ frame_judged h e =
 hops_spelled : (l : List Hop) → bytes_of (hop_address_pieces l) ≡ address_bytes (hop_addresses (calls_of l))
 unfolding hop_address_pieces hop_address_piece bytes_of calls_of
 hops_spelled [] = unfold hop_addresses address_bytes in refl
-hops_spelled (h ∷ l) = go (is_qElement h) (hops_spelled l)
+hops_spelled (h ∷ l) = go (is_q_element h) (hops_spelled l)
   where
     go : (q : Bool) → bytes_of (hop_address_pieces l) ≡ address_bytes (hop_addresses (calls_of l))
         → cond q [] (write_address h.call (HopField (is_heard h)) (is_none (calls_of l))).bytes ++ bytes_of (hop_address_pieces l) ≡ address_bytes (hop_addresses (cond q (calls_of l) (h ∷ calls_of l)))
@@ -167,7 +167,7 @@ address_size c field last = go (eqb (write_address c field last).refusal 0) refl
 
 hop_size : (h : Hop) (last : Bool) → size_of (hop_address_piece h last) ≤ 7
 unfolding hop_address_piece
-hop_size h last = go (is_tidy_hop h) (is_qElement h) (address_size h.call (HopField (is_heard h)) last)
+hop_size h last = go (is_tidy_hop h) (is_q_element h) (address_size h.call (HopField (is_heard h)) last)
   where
     a : AddressWritten
     a = write_address h.call (HopField (is_heard h)) last

@@ -19,7 +19,7 @@ use Rattle.callsign.specs.Text.{joined, read_text}
 use Rattle.callsign.proofs.Ranges.{utf8_none, zero_none}
 use Rattle.callsign.proofs.Made.{made_written, made_range}
 use Rattle.header.specs.declared.Hop.{Hop}
-use Rattle.header.specs.Hop.{q_names, is_qName, not_heard, was_heard, q_element, heard_as, call_hop, q_hop, is_heard, is_qElement, is_call, calls_of, heard_if, any_heard}
+use Rattle.header.specs.Hop.{q_names, is_q_name, not_heard, was_heard, q_element, heard_as, call_hop, q_hop, is_heard, is_q_element, is_call, calls_of, heard_if, any_heard}
 use Rattle.header.specs.declared.HopRead.{HopRead}
 use Rattle.header.specs.Text.{starts_q, hop_refused, hop_named, hop_of, read_hop}
 use Rattle.header.specs.Range.{is_some_hop, hop_in_range}
@@ -36,29 +36,29 @@ unfolding is_heard call_hop heard_as
 call_heard c true = refl
 call_heard c false = refl
 
-pub call_is_call : (c : Callsign) (b : Bool) → is_qElement (call_hop c b) ≡ false
-unfolding is_qElement call_hop heard_as
+pub call_is_call : (c : Callsign) (b : Bool) → is_q_element (call_hop c b) ≡ false
+unfolding is_q_element call_hop heard_as
 call_is_call c true = refl
 call_is_call c false = refl
 
 -- a Q element is not heard
-pub q_unheard : (h : Hop) → is_qElement h ≡ true → is_heard h ≡ false
-unfolding is_qElement is_heard
+pub q_unheard : (h : Hop) → is_q_element h ≡ true → is_heard h ≡ false
+unfolding is_q_element is_heard
 q_unheard h e = let q = eqb-true h.kind q_element e in ne_eqb h.kind was_heard (λ z. omega arith)
 
 -- what is heard is a callsign
 pub heard_is_call : (h : Hop) (b : Bool) → (is_call h && (is_heard h && b)) ≡ (is_heard h && b)
-heard_is_call h b = go (is_qElement h) refl
+heard_is_call h b = go (is_q_element h) refl
   where
-    go : (k : Bool) → is_qElement h ≡ k → (not k && (is_heard h && b)) ≡ (is_heard h && b)
+    go : (k : Bool) → is_q_element h ≡ k → (not k && (is_heard h && b)) ≡ (is_heard h && b)
     go true e = rw (q_unheard h e)
     go false e = refl
 
 -- ---- who is heard
 
 module _ (b : Bool) (h : Hop) where
-  pub if_q : is_qElement (heard_if b h) ≡ is_qElement h
-  unfolding is_qElement heard_if heard_as
+  pub if_q : is_q_element (heard_if b h) ≡ is_q_element h
+  unfolding is_q_element heard_if heard_as
   if_q = go (eqb h.kind q_element) b
     where
       go : (k b : Bool) → eqb (cond k q_element (cond b was_heard not_heard)) q_element ≡ k
@@ -67,7 +67,7 @@ module _ (b : Bool) (h : Hop) where
       go false false = refl
 
   pub if_heard : is_heard (heard_if b h) ≡ (is_call h && b)
-  unfolding is_heard is_qElement heard_if heard_as
+  unfolding is_heard is_q_element heard_if heard_as
   if_heard = go (eqb h.kind q_element) b
     where
       go : (k b : Bool) → eqb (cond k q_element (cond b was_heard not_heard)) was_heard ≡ (not k && b)
@@ -82,7 +82,7 @@ module _ (b : Bool) (h : Hop) where
 -- of a Q element it does not matter whether it were heard
 pub if_call : (h : Hop) (a b : Bool) → heard_if ((is_call h && a) || b) h ≡ heard_if (a || b) h
 unfolding heard_if
-if_call h a b = go (is_qElement h)
+if_call h a b = go (is_q_element h)
   where
     go : (k : Bool) → ◌≡◌ {A = Hop} (record { call = h.call; kind = cond k q_element (heard_as ((not k && a) || b)) }) (record { call = h.call; kind = cond k q_element (heard_as (a || b)) })
     go true = refl
@@ -91,16 +91,16 @@ if_call h a b = go (is_qElement h)
 pub heard_among_calls : (l : List Hop) → any_heard (calls_of l) ≡ any_heard l
 unfolding any_of calls_of
 heard_among_calls [] = refl
-heard_among_calls (h ∷ l) = go (is_qElement h) refl (heard_among_calls l)
+heard_among_calls (h ∷ l) = go (is_q_element h) refl (heard_among_calls l)
   where
-    go : (k : Bool) → is_qElement h ≡ k → any_heard (calls_of l) ≡ any_heard l → any_heard (cond k (calls_of l) (h ∷ calls_of l)) ≡ (is_heard h || any_heard l)
+    go : (k : Bool) → is_q_element h ≡ k → any_heard (calls_of l) ≡ any_heard l → any_heard (cond k (calls_of l) (h ∷ calls_of l)) ≡ (is_heard h || any_heard l)
     go true e r = rw (q_unheard h e) r
     go false e r = ap (λ (b : Bool). is_heard h || b) r
 
 pub calls_few : (l : List Hop) → length (calls_of l) ≤ length l
 unfolding calls_of
 calls_few [] = omega arith
-calls_few (h ∷ l) = go (is_qElement h) (calls_few l)
+calls_few (h ∷ l) = go (is_q_element h) (calls_few l)
   where
     go : (k : Bool) → length (calls_of l) ≤ length l → length (cond k (calls_of l) (h ∷ calls_of l)) ≤ suc (length l)
     go true r = omega arith
@@ -109,26 +109,26 @@ calls_few (h ∷ l) = go (is_qElement h) (calls_few l)
 -- ---- names
 
 -- what is true of the ten is true of each
-of_each : (p : List ℕ → Bool) → every p q_names ≡ true → (t : List ℕ) → is_qName t ≡ true → p t ≡ true
-unfolding is_qName
+of_each : (p : List ℕ → Bool) → every p q_names ≡ true → (t : List ℕ) → is_q_name t ≡ true → p t ≡ true
+unfolding is_q_name
 of_each p e t n = among_holds p t q_names n e
 
-pub name_starts : (t : List ℕ) → is_qName t ≡ true → starts_q t ≡ true
+pub name_starts : (t : List ℕ) → is_q_name t ≡ true → starts_q t ≡ true
 unfolding starts_q every
 name_starts = of_each starts_q refl
 
-name_utf8 : (t : List ℕ) → is_qName t ≡ true → utf8 t ≡ true
+name_utf8 : (t : List ℕ) → is_q_name t ≡ true → utf8 t ≡ true
 unfolding utf8 characters after within every
 name_utf8 = of_each utf8 refl
 
-name_short : (t : List ℕ) → is_qName t ≡ true → length t ≤ 16
+name_short : (t : List ℕ) → is_q_name t ≡ true → length t ≤ 16
 unfolding every
 name_short t n = leb-true (length t) 16 (of_each (λ k. leb (length k) 16) refl t n)
 
-pub no_name : (t : List ℕ) → starts_q t ≡ false → is_qName t ≡ false
-no_name t e = go (is_qName t) refl
+pub no_name : (t : List ℕ) → starts_q t ≡ false → is_q_name t ≡ false
+no_name t e = go (is_q_name t) refl
   where
-    go : (k : Bool) → is_qName t ≡ k → k ≡ false
+    go : (k : Bool) → is_q_name t ≡ k → k ≡ false
     go true n = absurd (false≢true (sym e ∙ name_starts t n))
     go false n = refl
 
@@ -148,8 +148,8 @@ starts_as (x ∷ y ∷ z ∷ u ∷ t) e =
 
 -- ---- the tests, as the code makes them
 
-pub third_letters : (c : ℕ) → (eqb c capital_c || eqb c capital_x || eqb c capital_u || eqb c small_o || eqb c capital_o || eqb c capital_s || eqb c small_r || eqb c capital_r || eqb c capital_z || eqb c capital_i) ≡ is_qName (small_q ∷ capital_a ∷ c ∷ [])
-unfolding is_qName any_of same_bytes
+pub third_letters : (c : ℕ) → (eqb c capital_c || eqb c capital_x || eqb c capital_u || eqb c small_o || eqb c capital_o || eqb c capital_s || eqb c small_r || eqb c capital_r || eqb c capital_z || eqb c capital_i) ≡ is_q_name (small_q ∷ capital_a ∷ c ∷ [])
+unfolding is_q_name any_of same_bytes
 third_letters c = go (eqb c capital_c) (eqb c capital_x) (eqb c capital_u) (eqb c small_o) (eqb c capital_o) (eqb c capital_s) (eqb c small_r) (eqb c capital_r) (eqb c capital_z) (eqb c capital_i)
   where
     go : (a b c d e f g h i j : Bool) → (a || b || c || d || e || f || g || h || i || j) ≡ ((a && true) || ((b && true) || ((c && true) || ((d && true) || ((e && true) || ((f && true) || ((g && true) || ((h && true) || ((i && true) || ((j && true) || false))))))))))
@@ -169,22 +169,22 @@ module _ (u : Bool) (t : List ℕ) (e : u ≡ starts_q t) where
   pub third_there : u ≡ true → 2 < length t
   third_there s = rw (starts_as t (sym e ∙ s)) (omega arith)
 
-  pub name_by_third : (r : Bool) → u ≡ true → r ≡ is_qName (small_q ∷ capital_a ∷ get_or t 2 0 ∷ []) → r ≡ is_qName t
-  name_by_third r s q = q ∙ ap is_qName (sym (starts_as t (sym e ∙ s)))
+  pub name_by_third : (r : Bool) → u ≡ true → r ≡ is_q_name (small_q ∷ capital_a ∷ get_or t 2 0 ∷ []) → r ≡ is_q_name t
+  name_by_third r s q = q ∙ ap is_q_name (sym (starts_as t (sym e ∙ s)))
 
-  pub name_by_start : u ≡ false → false ≡ is_qName t
+  pub name_by_start : u ≡ false → false ≡ is_q_name t
   name_by_start s = sym (no_name t (sym e ∙ s))
 
   pub hop_by_third : (r : HopRead) → u ≡ true
-      → r ≡ cond (is_qName (small_q ∷ capital_a ∷ get_or t 2 0 ∷ [])) (hop_named (small_q ∷ capital_a ∷ get_or t 2 0 ∷ [])) (hop_refused 6) → r ≡ read_hop t
+      → r ≡ cond (is_q_name (small_q ∷ capital_a ∷ get_or t 2 0 ∷ [])) (hop_named (small_q ∷ capital_a ∷ get_or t 2 0 ∷ [])) (hop_refused 6) → r ≡ read_hop t
   unfolding read_hop
-  hop_by_third r s q = q ∙ ap (λ (k : List ℕ). cond (is_qName k) (hop_named k) (hop_refused 6)) (sym (starts_as t (sym e ∙ s))) ∙ rw (← e, s)
+  hop_by_third r s q = q ∙ ap (λ (k : List ℕ). cond (is_q_name k) (hop_named k) (hop_refused 6)) (sym (starts_as t (sym e ∙ s))) ∙ rw (← e, s)
 
   pub hop_by_call : (r : HopRead) → u ≡ false → r ≡ hop_of (read_text t) → r ≡ read_hop t
   unfolding read_hop
   hop_by_call r s q = q ∙ rw (← e, s)
 
 -- the hop of a name is in range
-pub name_range : (t : List ℕ) → is_qName t ≡ true → hop_in_range (q_hop t) ≡ true
-unfolding hop_in_range is_some_hop is_qElement q_hop joined
+pub name_range : (t : List ℕ) → is_q_name t ≡ true → hop_in_range (q_hop t) ≡ true
+unfolding hop_in_range is_some_hop is_q_element q_hop joined
 name_range t n = rw (made_written t [], n, made_range t [] (name_short t n) (name_utf8 t n) utf8_none zero_none)

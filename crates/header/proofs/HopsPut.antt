@@ -12,7 +12,7 @@ use Rattle.callsign.specs.declared.Field.TheVariants.{Hop as HopField}
 use Rattle.callsign.specs.Packed.{write_address}
 use Rattle.callsign.specs.Range.{range_refusal}
 use Rattle.header.specs.declared.Hop.{Hop}
-use Rattle.header.specs.Hop.{was_heard, q_element, is_heard, is_qElement}
+use Rattle.header.specs.Hop.{was_heard, q_element, is_heard, is_q_element}
 use Rattle.header.specs.Private.{Building, building, call_piece, address_piece, with_piece, is_tidy_hop, hop_piece, hop_address_piece}
 use Rattle.header.proofs.InRange.{untidy_hop, tidy_hop}
 use Rattle.header.proofs.Pieces.{piece_refused, nothing_put}
@@ -38,10 +38,10 @@ module _ (h : Hop) (u : Bool) (e : u ≡ is_tidy_hop h) (v : List ℕ) (at r : �
     hop_in b starred q = q ∙ rw (tidy_hop h tidy)
 
     pub q_left_out : (last : Bool) → h.kind ≡ q_element → at ≤ length v → building r v at ≡ with_piece (building r v at) (hop_address_piece h last)
-    unfolding hop_address_piece is_qElement
+    unfolding hop_address_piece is_q_element
     q_left_out last q m = nothing_put v at r (hop_address_piece h last) m (rw (tidy, eq-eqb h.kind q_element q))
 
     pub address_in : (b : Building) (last : Bool) → (h.kind ≡ q_element → ⊥) → b ≡ with_piece (building r v at) (address_piece (write_address h.call (HopField (eqb h.kind was_heard)) last))
         → b ≡ with_piece (building r v at) (hop_address_piece h last)
-    unfolding hop_address_piece is_qElement is_heard
+    unfolding hop_address_piece is_q_element is_heard
     address_in b last q w = w ∙ rw (tidy, ne_eqb h.kind q_element q)

@@ -16,7 +16,7 @@ use Rattle.callsign.proofs.Ranges.{from_range, found_in_range, text_in_use}
 use Rattle.header.specs.declared.Hop.{Hop}
 use Rattle.header.specs.declared.Path.{Path}
 use Rattle.header.specs.declared.Header.{Header}
-use Rattle.header.specs.Hop.{is_qName, was_heard, q_element, is_qElement, calls_of}
+use Rattle.header.specs.Hop.{is_q_name, was_heard, q_element, is_q_element, calls_of}
 use Rattle.header.specs.Header.{hops_of}
 use Rattle.header.specs.Range.{is_some_hop, hop_in_range, is_blank, path_in_range, header_in_range}
 use Rattle.header.specs.Private.{is_tidy_hop, is_tidy}
@@ -32,17 +32,17 @@ module _ (h : Hop) where
   -- one that the code refuses is out of range
   pub untidy_hop : is_tidy_hop h ≡ false → hop_in_range h ≡ false
   unfolding is_tidy_hop hop_in_range is_some_hop
-  untidy_hop = go (is_qElement h)
+  untidy_hop = go (is_q_element h)
     where
-      go : (q : Bool) → cond q (cond q (is_qName (text_of h.call)) (leb h.kind was_heard) && in_range h.call) (leb h.kind was_heard) ≡ false
-          → (cond q (is_qName (text_of h.call)) (leb h.kind was_heard) && in_range h.call) ≡ false
+      go : (q : Bool) → cond q (cond q (is_q_name (text_of h.call)) (leb h.kind was_heard) && in_range h.call) (leb h.kind was_heard) ≡ false
+          → (cond q (is_q_name (text_of h.call)) (leb h.kind was_heard) && in_range h.call) ≡ false
       go true e = e
       go false e = rw e
 
   -- of one that it takes, what its callsign is
   pub tidy_hop : is_tidy_hop h ≡ true → hop_in_range h ≡ in_range h.call
   unfolding is_tidy_hop hop_in_range is_some_hop
-  tidy_hop = go (is_qElement h) (is_qName (text_of h.call)) (in_range h.call)
+  tidy_hop = go (is_q_element h) (is_q_name (text_of h.call)) (in_range h.call)
     where
       go : (q n r : Bool) → cond q (cond q n (leb h.kind was_heard) && r) (leb h.kind was_heard) ≡ true
           → (cond q n (leb h.kind was_heard) && r) ≡ r
@@ -50,20 +50,20 @@ module _ (h : Hop) where
       go true false r e = absurd (false≢true e)
       go false n r e = rw e
 
-  pub tidy_q : is_tidy_hop h ≡ true → is_qElement h ≡ true → hop_in_range h ≡ true
+  pub tidy_q : is_tidy_hop h ≡ true → is_q_element h ≡ true → hop_in_range h ≡ true
   unfolding is_tidy_hop
   tidy_q e q = rw q at e
 
 -- ---- a Q element, where the code has judged its callsign
 
-pub unnamed : (c : Callsign) (u : Bool) → u ≡ in_range c → not u ≡ true → false ≡ (is_qName (text_of c) && in_range c)
-unnamed c u e n = rw (← e, not-true u n) (sym (and-false (is_qName (text_of c))))
+pub unnamed : (c : Callsign) (u : Bool) → u ≡ in_range c → not u ≡ true → false ≡ (is_q_name (text_of c) && in_range c)
+unnamed c u e n = rw (← e, not-true u n) (sym (and-false (is_q_name (text_of c))))
 
-pub named : (c : Callsign) (u : Bool) (n : ℕ) (r : Bool) → u ≡ in_range c → not u ≡ false → length c.text ≡ 16 → n ≡ min (text_len c) 16 → r ≡ is_qName (take n c.text) → r ≡ (is_qName (text_of c) && in_range c)
+pub named : (c : Callsign) (u : Bool) (n : ℕ) (r : Bool) → u ≡ in_range c → not u ≡ false → length c.text ≡ 16 → n ≡ min (text_len c) 16 → r ≡ is_q_name (take n c.text) → r ≡ (is_q_name (text_of c) && in_range c)
 named c u n r e k long q t =
     let i : in_range c ≡ true = found_in_range c u e k in
     let m : text_len c ≡ n = omega (arith, (from_range c i).size) in
-    t ∙ rw (i, text_in_use c i long, m) (sym (and-true (is_qName (take n c.text))))
+    t ∙ rw (i, text_in_use c i long, m) (sym (and-true (is_q_name (take n c.text))))
 
 -- the part of the text in use
 pub in_use_within : (c : Callsign) (n : ℕ) → n ≡ min (text_len c) 16 → length c.text ≡ 16 → n ≤ length c.text
@@ -72,8 +72,8 @@ in_use_within c n e long = omega arith
 pub in_use_long : (c : Callsign) (n : ℕ) → n ≡ min (text_len c) 16 → length c.text ≡ 16 → n ≡ length (take n c.text)
 in_use_long c n e long = part_length c.text n (in_use_within c n e long)
 
-pub q_in_range : (h : Hop) (r : Bool) → h.kind ≡ q_element → r ≡ (is_qName (text_of h.call) && in_range h.call) → r ≡ is_tidy_hop h
-unfolding is_tidy_hop hop_in_range is_some_hop is_qElement
+pub q_in_range : (h : Hop) (r : Bool) → h.kind ≡ q_element → r ≡ (is_q_name (text_of h.call) && in_range h.call) → r ≡ is_tidy_hop h
+unfolding is_tidy_hop hop_in_range is_some_hop is_q_element
 q_in_range h r k e = rw (eq-eqb h.kind q_element k) e
 
 -- ---- a path apart from its callsigns

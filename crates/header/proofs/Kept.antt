@@ -22,7 +22,7 @@ use Rattle.callsign.proofs.Theorems.{text_is_kept}
 use Rattle.header.specs.declared.Hop.{Hop}
 use Rattle.header.specs.declared.Header.{Header}
 use Rattle.header.specs.declared.HeaderRead.{HeaderRead}
-use Rattle.header.specs.Hop.{is_qName, call_hop, q_hop, is_heard, any_heard, heard_if}
+use Rattle.header.specs.Hop.{is_q_name, call_hop, q_hop, is_heard, any_heard, heard_if}
 use Rattle.header.specs.Header.{most_bytes, Hops, refused, these, before, path_of, hops_of, header_of, header_refused, header_accepted, unless_refused, with_hops}
 use Rattle.header.specs.Text.{on_first, fields, first_of, others_of, starts_q, hop_refused, hop_named, hop_of, read_hop, hop_then, text_hops, stars_of, carried, read_route, read_before, read_header_text, read_text_header}
 use Rattle.header.proofs.Hops.{call_heard, heard_is_call, if_heard, if_twice}
@@ -87,7 +87,7 @@ name_typed t = bare_written t
 
 pub hop_typed : (t : List ℕ) → (read_hop t).refusal ≡ 0 → with_star (typed_text (read_hop t).hop.call) (is_heard (read_hop t).hop) ≡ t
 unfolding read_hop hop_refused hop_named hop_of as_read
-hop_typed t = go (starts_q t) (is_qName t)
+hop_typed t = go (starts_q t) (is_q_name t)
   where
     go : (b n : Bool) → (cond b (cond n (hop_named t) (hop_refused 6)) (hop_of (read_text t))).refusal ≡ 0
         → with_star (typed_text (cond b (cond n (hop_named t) (hop_refused 6)) (hop_of (read_text t))).hop.call) (is_heard (cond b (cond n (hop_named t) (hop_refused 6)) (hop_of (read_text t))).hop) ≡ t

@@ -14,7 +14,7 @@ use lib.Seq.{length-take-le, take-suc}
 use Rattle.laws.specs.Lists.{any_of}
 use Rattle.laws.proofs.Tests.{or_neither}
 use Rattle.header.specs.declared.Hop.{Hop}
-use Rattle.header.specs.Hop.{was_heard, q_element, is_heard, is_qElement, is_call}
+use Rattle.header.specs.Hop.{was_heard, q_element, is_heard, is_q_element, is_call}
 use Rattle.header.specs.Private.{is_sought, up_to}
 
 -- ---- whether a hop is sought
@@ -24,7 +24,7 @@ unfolding is_sought is_heard
 sought_heard heard h e = rw e
 
 pub sought_call : (heard : Bool) (h : Hop) → heard ≡ false → not (eqb h.kind q_element) ≡ is_sought heard h
-unfolding is_sought is_qElement
+unfolding is_sought is_q_element
 sought_call heard h e = rw e
 
 pub sought_calls : (l : List Hop) (n : ℕ) → n ≡ up_to (is_sought false) l → n ≡ up_to is_call l

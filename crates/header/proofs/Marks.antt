@@ -18,7 +18,7 @@ use Rattle.header.specs.declared.Hop.{Hop}
 use Rattle.header.specs.declared.Path.{Path}
 use Rattle.header.specs.declared.Header.{Header}
 use Rattle.header.specs.declared.HeaderRead.{HeaderRead}
-use Rattle.header.specs.Hop.{not_heard, call_hop, is_heard, is_qElement, calls_of, any_heard}
+use Rattle.header.specs.Hop.{not_heard, call_hop, is_heard, is_q_element, calls_of, any_heard}
 use Rattle.header.specs.Header.{most_bytes, Hops, refused, these, before, blank_hop, path_of, hops_of, header_of, blank_header, header_refused, header_accepted, unless_refused, with_hops}
 use Rattle.header.specs.Text.{hops_text, route_text, header_text}
 use Rattle.header.specs.Frame.{starts_with_pair, address_hop, address_then, frame_hops, with_pair, read_source, read_frame_header, is_none, hop_addresses, addresses, header_frame}
@@ -47,9 +47,9 @@ heard_unmarked [] = refl
 heard_unmarked (h ∷ l) = ap (λ (b : Bool). is_heard h || b) (heard_unmarked l)
 
 calls_unmarked : (l : List Hop) → calls_of (map unmarked_hop l) ≡ map unmarked_hop (calls_of l)
-unfolding calls_of is_qElement unmarked_hop
+unfolding calls_of is_q_element unmarked_hop
 calls_unmarked [] = refl
-calls_unmarked (h ∷ l) = go (is_qElement h) (calls_unmarked l)
+calls_unmarked (h ∷ l) = go (is_q_element h) (calls_unmarked l)
   where
     go : (k : Bool) → calls_of (map unmarked_hop l) ≡ map unmarked_hop (calls_of l)
         → cond k (calls_of (map unmarked_hop l)) (unmarked_hop h ∷ calls_of (map unmarked_hop l)) ≡ map unmarked_hop (cond k (calls_of l) (h ∷ calls_of l))
@@ -59,7 +59,7 @@ calls_unmarked (h ∷ l) = go (is_qElement h) (calls_unmarked l)
 -- ---- the range
 
 hop_in_range_lem : (h : Hop) → hop_in_range (unmarked_hop h) ≡ hop_in_range h
-unfolding hop_in_range is_some_hop is_qElement unmarked_hop
+unfolding hop_in_range is_some_hop is_q_element unmarked_hop
 hop_in_range_lem h = rw (mark_in_range false h.call, mark_in_text false h.call)
 
 hop_of_blank : (h : Hop) → is_blank (unmarked_hop h) ≡ is_blank h

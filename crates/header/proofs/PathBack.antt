@@ -23,7 +23,7 @@ use Rattle.callsign.proofs.TextBack.{with_zero, typed_text, bare_written}
 use Rattle.callsign.proofs.TextAgain.{ends_in_star}
 use Rattle.callsign.proofs.Theorems.{text_reads_back}
 use Rattle.header.specs.declared.Hop.{Hop}
-use Rattle.header.specs.Hop.{is_qName, call_hop, q_hop, is_heard, is_qElement, any_heard, heard_if}
+use Rattle.header.specs.Hop.{is_q_name, call_hop, q_hop, is_heard, is_q_element, any_heard, heard_if}
 use Rattle.header.specs.declared.Header.{Header}
 use Rattle.header.specs.Header.{Hops, refused, these, before, hops_of}
 use Rattle.header.specs.Text.{on_first, fields, others_of, starts_q, hop_refused, hop_named, hop_of, read_hop, hop_then, text_hops, carried, hops_text}
@@ -41,7 +41,7 @@ spelled h = with_star (text_of h.call) (is_heard h)
 
 -- "of paths without a callsign so spelt": like a Q element; nor may a star be part of it
 unfoldable pub reads_alike : Hop → Bool
-reads_alike h = is_qElement h || not (starts_q (spelled h) || ends_in_star (text_of h.call))
+reads_alike h = is_q_element h || not (starts_q (spelled h) || ends_in_star (text_of h.call))
 
 -- a callsign with a star behind it or none
 module _ (c : Callsign) (b : Bool) where
@@ -61,8 +61,8 @@ call_again t b z e =
     let a = apart c b e in
     ap read_hop (spelled_call c b) ∙ sym (hop_by_call false (with_star (text_of c) b) (sym a.0) _ refl refl) ∙ ap hop_of (text_reads_back t z a.1 b) ∙ unfold call_hop in refl
 
-name_again : (t : List ℕ) (b : Bool) → starts_q t ≡ true → is_qName t ≡ true → read_hop (spelled (heard_if b (q_hop t))) ≡ record { refusal = 0; hop = unmarked_hop (heard_if b (q_hop t)) }
-unfolding spelled heard_if q_hop is_heard is_qElement with_star read_hop hop_named unmarked_hop
+name_again : (t : List ℕ) (b : Bool) → starts_q t ≡ true → is_q_name t ≡ true → read_hop (spelled (heard_if b (q_hop t))) ≡ record { refusal = 0; hop = unmarked_hop (heard_if b (q_hop t)) }
+unfolding spelled heard_if q_hop is_heard is_q_element with_star read_hop hop_named unmarked_hop
 name_again t b s n = rw (bare_written t, s, n, unmarked_made t [])
 
 heard_call : (c : Callsign) (a b : Bool) → heard_if b (call_hop c a) ≡ call_hop c b
@@ -71,11 +71,11 @@ heard_call c a b = rw (call_is_call c a) (unfold call_hop in refl)
 
 -- what a part can be
 module _ (t : List ℕ) where
-  as_name : starts_q t ≡ true → is_qName t ≡ true → (read_hop t).hop ≡ q_hop t
+  as_name : starts_q t ≡ true → is_q_name t ≡ true → (read_hop t).hop ≡ q_hop t
   unfolding read_hop hop_named
   as_name s n = rw (s, n)
 
-  as_neither : starts_q t ≡ true → is_qName t ≡ false → (read_hop t).refusal ≡ 6
+  as_neither : starts_q t ≡ true → is_q_name t ≡ false → (read_hop t).refusal ≡ 6
   unfolding read_hop hop_refused
   as_neither s n = rw (s, n)
 
@@ -86,9 +86,9 @@ module _ (t : List ℕ) where
 -- the hop of a part, with a star or without one
 hop_again : (t : List ℕ) (b : Bool) → (read_hop t).refusal ≡ 0 → reads_alike (heard_if b (read_hop t).hop) ≡ true
     → read_hop (spelled (heard_if b (read_hop t).hop)) ≡ record { refusal = 0; hop = unmarked_hop (heard_if b (read_hop t).hop) }
-hop_again t b = go (starts_q t) refl (is_qName t) refl
+hop_again t b = go (starts_q t) refl (is_q_name t) refl
   where
-    go : (k : Bool) → starts_q t ≡ k → (n : Bool) → is_qName t ≡ n → (read_hop t).refusal ≡ 0 → reads_alike (heard_if b (read_hop t).hop) ≡ true
+    go : (k : Bool) → starts_q t ≡ k → (n : Bool) → is_q_name t ≡ n → (read_hop t).refusal ≡ 0 → reads_alike (heard_if b (read_hop t).hop) ≡ true
         → read_hop (spelled (heard_if b (read_hop t).hop)) ≡ record { refusal = 0; hop = unmarked_hop (heard_if b (read_hop t).hop) }
     go true s true n z e = rw (as_name t s n) (name_again t b s n)
     go true s false n z e = absurd (omega (arith, as_neither t s n))
@@ -262,7 +262,7 @@ module _ (t : List ℕ) (l : List Hop) (e : text_hops 8 (others_of (fields t)) �
 carried_unmarked : (l : List Hop) → carried (map unmarked_hop l) ≡ map unmarked_hop (carried l)
 unfolding carried
 carried_unmarked [] = refl
-carried_unmarked (h ∷ l) = rw (heard_unmarked l, carried_unmarked l) (unfold heard_if is_heard is_qElement unmarked_hop in refl)
+carried_unmarked (h ∷ l) = rw (heard_unmarked l, carried_unmarked l) (unfold heard_if is_heard is_q_element unmarked_hop in refl)
 
 -- the hops' text, read as the hops of a line are, and its stars carried back
 pub record ReadsBack (l : List Hop) : Type 0 where

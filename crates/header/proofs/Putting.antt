@@ -13,7 +13,7 @@ use Rattle.laws.specs.Bytes.{comma}
 use Rattle.laws.specs.Lists.{any_of}
 use Rattle.header.specs.declared.Hop.{Hop}
 use Rattle.header.specs.declared.Put.{Put}
-use Rattle.header.specs.Hop.{is_heard, is_qElement, is_call, calls_of, any_heard}
+use Rattle.header.specs.Hop.{is_heard, is_q_element, is_call, calls_of, any_heard}
 use Rattle.header.specs.Frame.{is_none}
 use Rattle.header.specs.Private.{Piece, Building, building, plain, hop_piece, hop_address_piece, hop_address_pieces, with_piece, with_pieces, is_sought, up_to, hop_pieces}
 use Rattle.header.proofs.Last.{last_at, none_found}
@@ -115,7 +115,7 @@ module _ (v₀ : List ℕ) (p₀ : Put) (hops : List Hop) (n : ℕ) (v : List �
 none_called : (l : List Hop) → not (any_of is_call l) ≡ is_none (calls_of l)
 unfolding any_of calls_of is_none
 none_called [] = refl
-none_called (h ∷ l) = go (is_qElement h) (none_called l)
+none_called (h ∷ l) = go (is_q_element h) (none_called l)
   where
     go : (k : Bool) → not (any_of is_call l) ≡ is_none (calls_of l) → not (not k || any_of is_call l) ≡ is_none (cond k (calls_of l) (h ∷ calls_of l))
     go true r = r
@@ -127,23 +127,23 @@ unfolding is_sought
 none_left l = none_found is_call l ∙ none_called l
 
 -- of a Q element it does not matter whether it were the last
-q_piece : (h : Hop) (a b : Bool) → is_qElement h ≡ true → hop_address_piece h a ≡ hop_address_piece h b
+q_piece : (h : Hop) (a b : Bool) → is_q_element h ≡ true → hop_address_piece h a ≡ hop_address_piece h b
 unfolding hop_address_piece
 q_piece h a b e = rw e
 
 module _ (v₀ : List ℕ) (p₀ : Put) (hops : List Hop) (n : ℕ) (v : List ℕ) (p : Put) (i : ℕ) (g : Putting hop_address_pieces v₀ p₀ hops n v p i)
     (d : Hop) (last : ℕ) (lt : i < n) (f : length hops ≡ 8) (el : last ≡ up_to is_call (take n hops)) where
   -- a callsign is the last where no other follows
-  is_last : is_qElement (get_or hops i d) ≡ false → eqb (i + 1) last ≡ is_none (calls_of (slice (i + 1) n hops))
+  is_last : is_q_element (get_or hops i d) ≡ false → eqb (i + 1) last ≡ is_none (calls_of (slice (i + 1) n hops))
   is_last q =
       let k = g.few in
       let m : length (take n hops) ≡ n = length-take-le n hops (omega arith) in
       rw (el, add-one) (last_at is_call (take n hops) i d (omega arith) ∙ rw (get_or-take n hops i d lt, q) (none_called (slice (suc i) n hops)))
 
   its_piece : hop_address_piece (get_or hops i d) (is_none (calls_of (slice (i + 1) n hops))) ≡ hop_address_piece (get_or hops i d) (eqb (i + 1) last)
-  its_piece = go (is_qElement (get_or hops i d)) refl
+  its_piece = go (is_q_element (get_or hops i d)) refl
     where
-      go : (k : Bool) → is_qElement (get_or hops i d) ≡ k → hop_address_piece (get_or hops i d) (is_none (calls_of (slice (i + 1) n hops))) ≡ hop_address_piece (get_or hops i d) (eqb (i + 1) last)
+      go : (k : Bool) → is_q_element (get_or hops i d) ≡ k → hop_address_piece (get_or hops i d) (is_none (calls_of (slice (i + 1) n hops))) ≡ hop_address_piece (get_or hops i d) (eqb (i + 1) last)
       go true q = q_piece (get_or hops i d) _ _ q
       go false q = ap (hop_address_piece (get_or hops i d)) (sym (is_last q))
 

@@ -19,7 +19,7 @@ use Rattle.callsign.specs.declared.Callsign.{Callsign}
 use Rattle.callsign.specs.Range.{text_of, with_star}
 use Rattle.callsign.specs.Packed.{bit}
 use Rattle.header.specs.declared.Hop.{Hop}
-use Rattle.header.specs.Hop.{was_heard, q_element, is_heard, is_qElement, calls_of, heard_if, any_heard}
+use Rattle.header.specs.Hop.{was_heard, q_element, is_heard, is_q_element, calls_of, heard_if, any_heard}
 use Rattle.header.specs.Text.{stars_of, carried, hops_text}
 use Rattle.header.specs.Private.{carried_kind, starred_read}
 use Rattle.header.proofs.Hops.{heard_is_call, heard_among_calls, q_unheard, if_q, if_heard, if_twice, if_call}
@@ -104,7 +104,7 @@ turn l n out stars heard j kind d g e =
       few = k;
       full = f;
       up = omega arith;
-      held = ap (λ (o : List Hop). set o j (record { call = (get_or out j d).call; kind = kind })) g.held ∙ back_set l n j d (omega arith) (omega arith) _ (rw (e, x, g.some) (unfold heard_if carried_kind is_qElement in refl));
+      held = ap (λ (o : List Hop). set o j (record { call = (get_or out j d).call; kind = kind })) g.held ∙ back_set l n j d (omega arith) (omega arith) _ (rw (e, x, g.some) (unfold heard_if carried_kind is_q_element in refl));
       typed = omega (arith, back_stars l n j d (omega arith) (omega arith));
       some = rw (x, g.some) (sym (back_any l n j d (omega arith) (omega arith)));
     }
@@ -169,9 +169,9 @@ or_twice false false = refl
 any_carried : (l : List Hop) → any_heard (carried l) ≡ any_heard l
 unfolding any_of carried
 any_carried [] = refl
-any_carried (h ∷ l) = rw (if_heard (is_heard h || any_heard l) h, any_carried l) (go (is_qElement h) refl)
+any_carried (h ∷ l) = rw (if_heard (is_heard h || any_heard l) h, any_carried l) (go (is_q_element h) refl)
   where
-    go : (k : Bool) → is_qElement h ≡ k → ((not k && (is_heard h || any_heard l)) || any_heard l) ≡ (is_heard h || any_heard l)
+    go : (k : Bool) → is_q_element h ≡ k → ((not k && (is_heard h || any_heard l)) || any_heard l) ≡ (is_heard h || any_heard l)
     go true e = rw (q_unheard h e)
     go false e = or_twice (is_heard h) (any_heard l)
 
@@ -196,20 +196,20 @@ module _ (f : List Hop → List Hop) (by : Hop → List Hop → Bool) (none : f 
   calls_by : (l : List Hop) → calls_of (f l) ≡ f (calls_of l)
   unfolding calls_of
   calls_by [] = ap calls_of none ∙ sym none
-  calls_by (h ∷ l) = rw (one h l, if_q (by h l) h) (go (is_qElement h) (calls_by l))
+  calls_by (h ∷ l) = rw (one h l, if_q (by h l) h) (go (is_q_element h) (calls_by l))
     where
       go : (k : Bool) → calls_of (f l) ≡ f (calls_of l) → cond k (calls_of (f l)) (heard_if (by h l) h ∷ calls_of (f l)) ≡ f (cond k (calls_of l) (h ∷ calls_of l))
       go true r = r
       go false r = rw (one h (calls_of l), over h l, r)
 
 -- a Q element stays as it is
-pub q_stays : (b : Bool) (h : Hop) → is_qElement h ≡ true → heard_if b h ≡ h
-unfolding heard_if is_qElement
+pub q_stays : (b : Bool) (h : Hop) → is_q_element h ≡ true → heard_if b h ≡ h
+unfolding heard_if is_q_element
 q_stays b h e =
     let q : q_element ≡ h.kind = sym (eqb-true h.kind q_element e) in
     rw e (λ i. record { call = h.call; kind = q i })
 
-pub carried_stays : (l : List Hop) (i : ℕ) (d : Hop) → i < length l → is_qElement (get_or l i d) ≡ true → get_or (carried l) i d ≡ get_or l i d
+pub carried_stays : (l : List Hop) (i : ℕ) (d : Hop) → i < length l → is_q_element (get_or l i d) ≡ true → get_or (carried l) i d ≡ get_or l i d
 unfolding carried
 carried_stays [] i d h e = absurd (not-suc-le-zero h)
 carried_stays (x ∷ l) zero d h e = q_stays (is_heard x || any_heard l) x e

@@ -18,7 +18,7 @@ use Rattle.callsign.specs.Range.{call_part, ssid_part, text_of, with_star}
 use Rattle.callsign.proofs.AddressBack.{in_address}
 use Rattle.header.specs.declared.Hop.{Hop}
 use Rattle.header.specs.declared.Header.{Header}
-use Rattle.header.specs.Hop.{heard_as, call_hop, is_heard, is_qElement, calls_of, heard_if}
+use Rattle.header.specs.Hop.{heard_as, call_hop, is_heard, is_q_element, calls_of, heard_if}
 use Rattle.header.specs.Header.{most_bytes, blank_hop, these, before, path_of, hops_of, blank_header, header_refused, header_accepted}
 use Rattle.header.specs.Text.{on_first, fields, starts_q, hop_of, read_hop, hop_then, text_hops, stars_of, carried, read_header_text, read_text_header, hops_text, header_text}
 use Rattle.header.specs.Frame.{read_frame_header, header_frame}
@@ -98,13 +98,13 @@ star_by_bit = star_bit
 -- hop i of a text is heard exactly where it is a callsign and a bit j ≥ i of the stars as typed is set
 pub heard_by_stars : (s : List ℕ) (i : ℕ) (d : Hop) → i < (read_header_text s).header.path.count
     → (is_heard (get_or (read_header_text s).header.path.hops i d) ≡ true → (j : ℕ) × ((i ≤ j) × (is_set (read_header_text s).stars j ≡ true)))
-    × (is_qElement (get_or (read_header_text s).header.path.hops i d) ≡ false → (j : ℕ) → i ≤ j → is_set (read_header_text s).stars j ≡ true → is_heard (get_or (read_header_text s).header.path.hops i d) ≡ true)
+    × (is_q_element (get_or (read_header_text s).header.path.hops i d) ≡ false → (j : ℕ) → i ≤ j → is_set (read_header_text s).stars j ≡ true → is_heard (get_or (read_header_text s).header.path.hops i d) ≡ true)
 heard_by_stars s i d h = (answered_heard InText s i d (text_answered s) h, answered_set InText s i d (text_answered s) h)
 
 -- and so of a line
 pub line_heard_by_stars : (s : List ℕ) (i : ℕ) (d : Hop) → i < (read_text_header s).header.path.count
     → (is_heard (get_or (read_text_header s).header.path.hops i d) ≡ true → (j : ℕ) × ((i ≤ j) × (is_set (read_text_header s).stars j ≡ true)))
-    × (is_qElement (get_or (read_text_header s).header.path.hops i d) ≡ false → (j : ℕ) → i ≤ j → is_set (read_text_header s).stars j ≡ true → is_heard (get_or (read_text_header s).header.path.hops i d) ≡ true)
+    × (is_q_element (get_or (read_text_header s).header.path.hops i d) ≡ false → (j : ℕ) → i ≤ j → is_set (read_text_header s).stars j ≡ true → is_heard (get_or (read_text_header s).header.path.hops i d) ≡ true)
 line_heard_by_stars s i d h = (answered_heard InLine s i d (line_answered s) h, answered_set InLine s i d (line_answered s) h)
 
 -- a frame has none
@@ -118,7 +118,7 @@ stars_are_kept l = (written_stars (carried l), carried_starred (carried l) ∙ c
 -- ---- document 02, R-7: Q elements
 
 -- "never has a star": a Q element of a path as typed stays as it is, at its place, and so it is not heard
-pub q_elements_stay : (l : List Hop) (i : ℕ) (d : Hop) → i < length l → is_qElement (get_or l i d) ≡ true → (get_or (carried l) i d ≡ get_or l i d) × (is_heard (get_or (carried l) i d) ≡ false)
+pub q_elements_stay : (l : List Hop) (i : ℕ) (d : Hop) → i < length l → is_q_element (get_or l i d) ≡ true → (get_or (carried l) i d ≡ get_or l i d) × (is_heard (get_or (carried l) i d) ≡ false)
 q_elements_stay l i d h e = let s = carried_stays l i d h e in (s, ap is_heard s ∙ q_unheard (get_or l i d) e)
 
 -- "is passed over when stars are carried back": the callsigns are heard, and starred again, as if there were no Q elements
@@ -189,11 +189,11 @@ abbrev p11_typed : List Hop
 p11_typed = hop 65 false ∷ hop 66 true ∷ hop 67 false ∷ []
 
 pub p11_read : (text_hops 8 (fields p11_text) ≡ these p11_typed) × ((carried p11_typed ≡ p11_hops) × (stars_of p11_typed ≡ 2))
-unfolding fields on_first text_hops hop_then before read_hop starts_q hop_of read_text read_unstarred parted call_accepted index_of utf8 characters after within is_zero made joined pad_to carried any_of is_heard is_qElement heard_if heard_as call_hop stars_of bit
+unfolding fields on_first text_hops hop_then before read_hop starts_q hop_of read_text read_unstarred parted call_accepted index_of utf8 characters after within is_zero made joined pad_to carried any_of is_heard is_q_element heard_if heard_as call_hop stars_of bit
 p11_read = (refl, (refl, refl))
 
 p11_starred : starred_last p11_hops ≡ p11_typed
-unfolding starred_last any_of is_heard is_qElement heard_if heard_as call_hop
+unfolding starred_last any_of is_heard is_q_element heard_if heard_as call_hop
 p11_starred = refl
 
 -- with Q elements anywhere

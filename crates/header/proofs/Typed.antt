@@ -13,7 +13,7 @@ use Rattle.laws.specs.Lists.{any_of}
 use Rattle.laws.proofs.Tests.{and_second}
 use Rattle.callsign.specs.Packed.{bit}
 use Rattle.header.specs.declared.Hop.{Hop}
-use Rattle.header.specs.Hop.{heard_as, call_hop, is_heard, is_qElement, is_call, any_heard}
+use Rattle.header.specs.Hop.{heard_as, call_hop, is_heard, is_q_element, is_call, any_heard}
 use Rattle.header.specs.Header.{blank_hop}
 use Rattle.header.specs.Text.{stars_of, carried}
 use Rattle.header.proofs.Hops.{if_q, if_heard}
@@ -66,7 +66,7 @@ carried_at (x ∷ l) zero d h = if_heard (is_heard x || any_heard l) x
 carried_at (x ∷ l) (suc i) d h = carried_at l i d (le_of_suc-le-suc h)
 
 -- Q elements stay where they are
-pub carried_q : (l : List Hop) (i : ℕ) (d : Hop) → i < length l → is_qElement (get_or (carried l) i d) ≡ is_qElement (get_or l i d)
+pub carried_q : (l : List Hop) (i : ℕ) (d : Hop) → i < length l → is_q_element (get_or (carried l) i d) ≡ is_q_element (get_or l i d)
 unfolding carried
 carried_q [] i d h = absurd (not-suc-le-zero h)
 carried_q (x ∷ l) zero d h = if_q (is_heard x || any_heard l) x
@@ -103,7 +103,7 @@ module _ (l : List Hop) (i : ℕ) (d : Hop) (h : i < length l) where
   pub heard_then_set : is_heard (get_or (carried l) i d) ≡ true → (j : ℕ) × ((i ≤ j) × (is_set (stars_of l) j ≡ true))
   heard_then_set e = let r = star_from l i (and_second (is_call (get_or l i d)) (any_heard (drop i l)) (sym (carried_at l i d h) ∙ e)) in (r.0, (r.1.0, star_bit l r.0 ∙ r.1.1))
 
-  pub set_then_heard : is_qElement (get_or (carried l) i d) ≡ false → (j : ℕ) → i ≤ j → is_set (stars_of l) j ≡ true → is_heard (get_or (carried l) i d) ≡ true
+  pub set_then_heard : is_q_element (get_or (carried l) i d) ≡ false → (j : ℕ) → i ≤ j → is_set (stars_of l) j ≡ true → is_heard (get_or (carried l) i d) ≡ true
   set_then_heard q j k e =
-      let c : is_qElement (get_or l i d) ≡ false = sym (carried_q l i d h) ∙ q in
+      let c : is_q_element (get_or l i d) ≡ false = sym (carried_q l i d h) ∙ q in
       carried_at l i d h ∙ rw c (heard_from l i j k (sym (star_bit l j) ∙ e))

@@ -10,7 +10,7 @@ use Rattle.laws.proofs.Unique.{one_value}
 use Rattle.buffer.proofs.Wrote.{one_end}
 use Rattle.header.specs.declared.Header.{Header}
 use Rattle.header.specs.declared.HeaderRead.{HeaderRead}
-use Rattle.header.specs.Hop.{is_qName}
+use Rattle.header.specs.Hop.{is_q_name}
 use Rattle.header.specs.Header.{blank_header}
 use Rattle.header.specs.Text.{read_header_text, read_text_header, header_text}
 use Rattle.header.specs.Frame.{read_frame_header, header_frame}
@@ -19,8 +19,8 @@ use Rattle.header.specs.Range.{is_blank_header, text_refusal, frame_refusal}
 pub unique_blank : (r r' : Header) → r ≡ blank_header → r' ≡ blank_header → r ≡ r'
 unique_blank r r' = one_value r r' blank_header
 
-pub unique_is_q_name : (t : List ℕ) (r r' : Bool) → r ≡ is_qName t → r' ≡ is_qName t → r ≡ r'
-unique_is_q_name t r r' = one_value r r' (is_qName t)
+pub unique_is_q_name : (t : List ℕ) (r r' : Bool) → r ≡ is_q_name t → r' ≡ is_q_name t → r ≡ r'
+unique_is_q_name t r r' = one_value r r' (is_q_name t)
 
 pub unique_read_any_length : (s : List ℕ) (r r' : HeaderRead) → r ≡ read_header_text s → r' ≡ read_header_text s → r ≡ r'
 unique_read_any_length s r r' = one_value r r' (read_header_text s)

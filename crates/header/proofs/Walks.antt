@@ -22,7 +22,7 @@ use Rattle.callsign.proofs.TextBack.{text_refusal_lem}
 use Rattle.callsign.proofs.AddressBack.{address_refusal}
 use Rattle.header.specs.declared.Hop.{Hop}
 use Rattle.header.specs.Header.{Hops, refused, these, before, blank_hop}
-use Rattle.header.specs.Hop.{is_qName, not_heard, was_heard, q_element, heard_as, call_hop, is_heard, is_qElement, any_heard, heard_if}
+use Rattle.header.specs.Hop.{is_q_name, not_heard, was_heard, q_element, heard_as, call_hop, is_heard, is_q_element, any_heard, heard_if}
 use Rattle.header.specs.Text.{starts_q, hop_refused, hop_named, hop_of, read_hop, hop_then, text_hops, carried}
 use Rattle.header.specs.Frame.{address_hop, address_then, frame_hops}
 use Rattle.header.specs.Range.{is_some_hop, hop_in_range}
@@ -66,7 +66,7 @@ call_in_text s z = let m = text_refusal_lem s z in record { low = omega arith; h
 
 hop_in_text : (t : List ℕ) → ((read_hop t).refusal ≡ 0 → ⊥) → InText (read_hop t).refusal
 unfolding read_hop hop_refused hop_named hop_of
-hop_in_text t = go (starts_q t) (is_qName t)
+hop_in_text t = go (starts_q t) (is_q_name t)
   where
     go : (b n : Bool) → ((cond b (cond n (hop_named t) (hop_refused 6)) (hop_of (read_text t))).refusal ≡ 0 → ⊥) → InText (cond b (cond n (hop_named t) (hop_refused 6)) (hop_of (read_text t))).refusal
     go true true z = absurd (z refl)
@@ -84,9 +84,9 @@ call_range c b e = rw (call_is_call c b) (unfold call_hop heard_as in go b)
 
 hop_range : (t : List ℕ) → hop_in_range (read_hop t).hop ≡ true
 unfolding read_hop hop_refused hop_named hop_of blank_hop
-hop_range t = go (starts_q t) (is_qName t) refl
+hop_range t = go (starts_q t) (is_q_name t) refl
   where
-    go : (b n : Bool) → is_qName t ≡ n → hop_in_range (cond b (cond n (hop_named t) (hop_refused 6)) (hop_of (read_text t))).hop ≡ true
+    go : (b n : Bool) → is_q_name t ≡ n → hop_in_range (cond b (cond n (hop_named t) (hop_refused 6)) (hop_of (read_text t))).hop ≡ true
     go true true e = name_range t e
     go true false e = call_range blank_call false blank_range
     go false n e = call_range (read_text t).call (read_text t).starred (text_is_in_range t)
@@ -105,10 +105,10 @@ text_sound (suc k) (t ∷ ts) =
 -- whoever is heard, a hop in range stays so
 if_range : (b : Bool) (h : Hop) → hop_in_range h ≡ true → hop_in_range (heard_if b h) ≡ true
 unfolding hop_in_range is_some_hop
-if_range b h e = rw (if_q b h) (unfold heard_if heard_as in go (is_qElement h) b e)
+if_range b h e = rw (if_q b h) (unfold heard_if heard_as in go (is_q_element h) b e)
   where
-    go : (k b : Bool) → (cond k (is_qName (text_of h.call)) (leb h.kind was_heard) && in_range h.call) ≡ true
-        → (cond k (is_qName (text_of h.call)) (leb (cond k q_element (cond b was_heard not_heard)) was_heard) && in_range h.call) ≡ true
+    go : (k b : Bool) → (cond k (is_q_name (text_of h.call)) (leb h.kind was_heard) && in_range h.call) ≡ true
+        → (cond k (is_q_name (text_of h.call)) (leb (cond k q_element (cond b was_heard not_heard)) was_heard) && in_range h.call) ≡ true
     go true b e = e
     go false true e = and_second (leb h.kind was_heard) (in_range h.call) e
     go false false e = and_second (leb h.kind was_heard) (in_range h.call) e

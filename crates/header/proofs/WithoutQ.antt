@@ -10,7 +10,7 @@ use Rattle.laws.proofs.Tests.{and_first, and_second}
 use Rattle.laws.proofs.Each.{every_first, every_rest}
 use Rattle.header.specs.declared.Hop.{Hop}
 use Rattle.header.specs.declared.Header.{Header}
-use Rattle.header.specs.Hop.{is_qElement, calls_of}
+use Rattle.header.specs.Hop.{is_q_element, calls_of}
 use Rattle.header.specs.Header.{path_of, hops_of, header_of}
 use Rattle.header.specs.Frame.{addresses, header_frame}
 use Rattle.header.specs.Range.{hop_in_range, is_blank, path_in_range, header_in_range, frame_refusal}
@@ -26,16 +26,16 @@ without_q h = header_of h.from h.to (path_of (calls_of (hops_of h.path)))
 calls_twice : (l : List Hop) → calls_of (calls_of l) ≡ calls_of l
 unfolding calls_of
 calls_twice [] = refl
-calls_twice (h ∷ l) = go (is_qElement h) refl (calls_twice l)
+calls_twice (h ∷ l) = go (is_q_element h) refl (calls_twice l)
   where
-    go : (k : Bool) → is_qElement h ≡ k → calls_of (calls_of l) ≡ calls_of l → calls_of (cond k (calls_of l) (h ∷ calls_of l)) ≡ cond k (calls_of l) (h ∷ calls_of l)
+    go : (k : Bool) → is_q_element h ≡ k → calls_of (calls_of l) ≡ calls_of l → calls_of (cond k (calls_of l) (h ∷ calls_of l)) ≡ cond k (calls_of l) (h ∷ calls_of l)
     go true e r = r
     go false e r = rw (e, r)
 
 every_call : (p : Hop → Bool) (l : List Hop) → every p l ≡ true → every p (calls_of l) ≡ true
 unfolding calls_of every
 every_call p [] e = refl
-every_call p (h ∷ l) e = go (is_qElement h) (every_first p h l e) (every_call p l (every_rest p h l e))
+every_call p (h ∷ l) e = go (is_q_element h) (every_first p h l e) (every_call p l (every_rest p h l e))
   where
     go : (k : Bool) → p h ≡ true → every p (calls_of l) ≡ true → every p (cond k (calls_of l) (h ∷ calls_of l)) ≡ true
     go true e r = r

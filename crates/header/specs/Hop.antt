@@ -11,43 +11,43 @@ use Rattle.header.specs.declared.Hop.{Hop}
 
 -- ---- the ten names
 
-abbrev pub q_aC : List ℕ
-q_aC = small_q ∷ capital_a ∷ capital_c ∷ []
+abbrev pub qAC : List ℕ
+qAC = small_q ∷ capital_a ∷ capital_c ∷ []
 
-abbrev pub q_aX : List ℕ
-q_aX = small_q ∷ capital_a ∷ capital_x ∷ []
+abbrev pub qAX : List ℕ
+qAX = small_q ∷ capital_a ∷ capital_x ∷ []
 
-abbrev pub q_aU : List ℕ
-q_aU = small_q ∷ capital_a ∷ capital_u ∷ []
+abbrev pub qAU : List ℕ
+qAU = small_q ∷ capital_a ∷ capital_u ∷ []
 
-abbrev pub q_ao : List ℕ
-q_ao = small_q ∷ capital_a ∷ small_o ∷ []
+abbrev pub qAo : List ℕ
+qAo = small_q ∷ capital_a ∷ small_o ∷ []
 
-abbrev pub q_aO : List ℕ
-q_aO = small_q ∷ capital_a ∷ capital_o ∷ []
+abbrev pub qAO : List ℕ
+qAO = small_q ∷ capital_a ∷ capital_o ∷ []
 
-abbrev pub q_aS : List ℕ
-q_aS = small_q ∷ capital_a ∷ capital_s ∷ []
+abbrev pub qAS : List ℕ
+qAS = small_q ∷ capital_a ∷ capital_s ∷ []
 
-abbrev pub q_ar : List ℕ
-q_ar = small_q ∷ capital_a ∷ small_r ∷ []
+abbrev pub qAr : List ℕ
+qAr = small_q ∷ capital_a ∷ small_r ∷ []
 
-abbrev pub q_aR : List ℕ
-q_aR = small_q ∷ capital_a ∷ capital_r ∷ []
+abbrev pub qAR : List ℕ
+qAR = small_q ∷ capital_a ∷ capital_r ∷ []
 
-abbrev pub q_aZ : List ℕ
-q_aZ = small_q ∷ capital_a ∷ capital_z ∷ []
+abbrev pub qAZ : List ℕ
+qAZ = small_q ∷ capital_a ∷ capital_z ∷ []
 
-abbrev pub q_aI : List ℕ
-q_aI = small_q ∷ capital_a ∷ capital_i ∷ []
+abbrev pub qAI : List ℕ
+qAI = small_q ∷ capital_a ∷ capital_i ∷ []
 
 -- "The ten names"
 abbrev pub q_names : List (List ℕ)
-q_names = q_aC ∷ q_aX ∷ q_aU ∷ q_ao ∷ q_aO ∷ q_aS ∷ q_ar ∷ q_aR ∷ q_aZ ∷ q_aI ∷ []
+q_names = qAC ∷ qAX ∷ qAU ∷ qAo ∷ qAO ∷ qAS ∷ qAr ∷ qAR ∷ qAZ ∷ qAI ∷ []
 
 -- one of them, small and capital letters as given
-unfoldable pub is_qName : List ℕ → Bool
-is_qName t = any_of (same_bytes t) q_names
+unfoldable pub is_q_name : List ℕ → Bool
+is_q_name t = any_of (same_bytes t) q_names
 
 -- ---- what a hop is, by its number
 
@@ -75,22 +75,22 @@ q_hop name = record { call = made name []; kind = q_element }
 unfoldable pub is_heard : Hop → Bool
 is_heard h = eqb h.kind was_heard
 
-unfoldable pub is_qElement : Hop → Bool
-is_qElement h = eqb h.kind q_element
+unfoldable pub is_q_element : Hop → Bool
+is_q_element h = eqb h.kind q_element
 
 abbrev pub is_call : Hop → Bool
-is_call h = not (is_qElement h)
+is_call h = not (is_q_element h)
 
 -- the callsigns alone
 unfoldable pub calls_of : List Hop → List Hop
 calls_of [] = []
-calls_of (h ∷ l) = cond (is_qElement h) (calls_of l) (h ∷ calls_of l)
+calls_of (h ∷ l) = cond (is_q_element h) (calls_of l) (h ∷ calls_of l)
 
 -- ---- who is heard
 
 -- a callsign is heard or not, as is said; a Q element stays one, since it "never has a star"
 unfoldable pub heard_if : Bool → Hop → Hop
-heard_if heard h = record { call = h.call; kind = cond (is_qElement h) q_element (heard_as heard) }
+heard_if heard h = record { call = h.call; kind = cond (is_q_element h) q_element (heard_as heard) }
 
 abbrev pub any_heard : List Hop → Bool
 any_heard = any_of is_heard

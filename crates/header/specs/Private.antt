@@ -14,7 +14,7 @@ use Rattle.header.specs.declared.Hop.{Hop}
 use Rattle.header.specs.declared.Path.{Path}
 use Rattle.header.specs.declared.PathRead.{PathRead}
 use Rattle.header.specs.declared.Header.{Header}
-use Rattle.header.specs.Hop.{was_heard, q_element, heard_as, is_heard, is_qElement, is_call, calls_of, any_heard}
+use Rattle.header.specs.Hop.{was_heard, q_element, heard_as, is_heard, is_q_element, is_call, calls_of, any_heard}
 use Rattle.header.specs.Header.{Hops, refused, these, path_of, hops_of}
 use Rattle.header.specs.Text.{stars_of, carried}
 use Rattle.header.specs.Frame.{pair, is_none}
@@ -95,7 +95,7 @@ end_pieces from to = call_piece from false ∷ plain (greater ∷ []) ∷ call_p
 
 -- a Q element in range, or the number of a callsign, which is not looked at
 unfoldable pub is_tidy_hop : Hop → Bool
-is_tidy_hop h = cond (is_qElement h) (hop_in_range h) (leb h.kind was_heard)
+is_tidy_hop h = cond (is_q_element h) (hop_in_range h) (leb h.kind was_heard)
 
 -- a hop's text
 abbrev pub hop_piece : Hop → Bool → Piece
@@ -122,7 +122,7 @@ end_address_pieces to from last = address_piece (write_address to Destination fa
 unfoldable pub hop_address_piece : Hop → Bool → Piece
 hop_address_piece h last =
     let a = write_address h.call (HopField (is_heard h)) last in
-    record { refusal = cond (is_tidy_hop h) (cond (is_qElement h) 0 a.refusal) 15; bytes = cond (is_qElement h) [] a.bytes }
+    record { refusal = cond (is_tidy_hop h) (cond (is_q_element h) 0 a.refusal) 15; bytes = cond (is_q_element h) [] a.bytes }
 
 -- each hop, the last callsign marked
 unfoldable pub hop_address_pieces : List Hop → List Piece

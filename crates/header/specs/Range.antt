@@ -8,13 +8,13 @@ use Rattle.callsign.specs.Range.{in_range, is_blank_call, text_of}
 use Rattle.header.specs.declared.Hop.{Hop}
 use Rattle.header.specs.declared.Path.{Path}
 use Rattle.header.specs.declared.Header.{Header}
-use Rattle.header.specs.Hop.{is_qName, not_heard, was_heard, is_qElement}
+use Rattle.header.specs.Hop.{is_q_name, not_heard, was_heard, is_q_element}
 use Rattle.header.specs.Header.{hops_of}
 use Rattle.header.specs.Frame.{first_refusal, addresses}
 
 -- a callsign that was heard or not, or a Q element, whose text is a name: so it has no SSID
 unfoldable pub is_some_hop : Hop → Bool
-is_some_hop h = cond (is_qElement h) (is_qName (text_of h.call)) (leb h.kind was_heard)
+is_some_hop h = cond (is_q_element h) (is_q_name (text_of h.call)) (leb h.kind was_heard)
 
 -- a hop, and its callsign
 unfoldable pub hop_in_range : Hop → Bool

@@ -15,7 +15,7 @@ use Rattle.header.specs.declared.Hop.{Hop}
 use Rattle.header.specs.declared.HopRead.{HopRead}
 use Rattle.header.specs.declared.Header.{Header}
 use Rattle.header.specs.declared.HeaderRead.{HeaderRead}
-use Rattle.header.specs.Hop.{is_qName, call_hop, q_hop, is_heard, any_heard, heard_if}
+use Rattle.header.specs.Hop.{is_q_name, call_hop, q_hop, is_heard, any_heard, heard_if}
 use Rattle.header.specs.Header.{most_bytes, Hops, refused, these, before, blank_hop, path_of, hops_of, header_refused, header_accepted, unless_refused, with_hops}
 
 -- ---- the parts between commas
@@ -60,7 +60,7 @@ hop_of c = record { refusal = c.refusal; hop = call_hop c.call c.starred }
 
 -- "A hop: .. 6, 4, 3."; "6 stays for any other three bytes that start `qA`"
 unfoldable pub read_hop : List ℕ → HopRead
-read_hop t = cond (starts_q t) (cond (is_qName t) (hop_named t) (hop_refused 6)) (hop_of (read_text t))
+read_hop t = cond (starts_q t) (cond (is_q_name t) (hop_named t) (hop_refused 6)) (hop_of (read_text t))
 
 -- a hop in front of those that follow, or its refusal
 unfoldable pub hop_then : HopRead → Hops → Hops

@@ -9,7 +9,7 @@ ghost use Rattle.buffer.specs.Wrote.{ends, wrote};
 ghost use Rattle.callsign.specs.Packed.{write_address};
 ghost use Rattle.callsign.specs.Text.{read_text};
 ghost use Rattle.callsign.specs.Range.{in_range, text_of};
-ghost use Rattle.header.specs.Hop.{is_qName, is_call, q_hop};
+ghost use Rattle.header.specs.Hop.{is_q_name, is_call, q_hop};
 ghost use Rattle.header.specs.Header.{these, blank_hop, path_of, blank_header, header_refused, header_accepted};
 ghost use Rattle.header.specs.Text.{fields, starts_q, hop_refused, hop_named, hop_of, text_hops, read_route, read_before, read_header_text, read_text_header, header_text};
 ghost use Rattle.header.specs.Frame.{starts_with_pair, frame_hops, with_pair, read_source, read_frame_header, header_frame};
@@ -159,7 +159,7 @@ fn starts_q(t: &[u8]) -> bool
 
 // Whether `qA` and c are the name of a Q element.
 fn ends_name(c: u8) -> bool
-    ensures { result ≡ is_qName (small_q ∷ capital_a ∷ c ∷ []) }
+    ensures { result ≡ is_q_name (small_q ∷ capital_a ∷ c ∷ []) }
 {
     (c == b'C')
         | (c == b'X')
@@ -175,7 +175,7 @@ fn ends_name(c: u8) -> bool
 
 // Whether t is the name of a Q element.
 pub fn is_q_name(t: &[u8]) -> bool
-    ensures { result ≡ is_qName t.now }
+    ensures { result ≡ is_q_name t.now }
 {
     if starts_q(t) {
         return ends_name(t[2]);
@@ -205,7 +205,7 @@ fn q_hop(c: u8) -> Hop
 
 // Reads a hop of `qA` and c: a Q element, or 6.
 fn read_q(c: u8) -> HopRead
-    ensures { result ≡ cond (is_qName (small_q ∷ capital_a ∷ c ∷ [])) (hop_named (small_q ∷ capital_a ∷ c ∷ [])) (hop_refused 6) }
+    ensures { result ≡ cond (is_q_name (small_q ∷ capital_a ∷ c ∷ [])) (hop_named (small_q ∷ capital_a ∷ c ∷ [])) (hop_refused 6) }
 {
     if ends_name(c) {
         let hop = q_hop(c);
@@ -589,7 +589,7 @@ fn greater(a: u8, b: u8) -> u8
 
 // Whether the callsign of a Q element is in range, and its text a name.
 fn is_named(c: Callsign) -> bool
-    ensures { result ≡ (is_qName (text_of c) && in_range c) }
+    ensures { result ≡ (is_q_name (text_of c) && in_range c) }
 {
     if !callsign::in_range(c) {
         return false;

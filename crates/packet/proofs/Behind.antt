@@ -17,7 +17,7 @@ use Rattle.buffer.proofs.Filled.{added_length, added_len, added_front}
 use Rattle.header.specs.declared.Header.{Header}
 use Rattle.header.specs.Text.{header_text}
 use Rattle.header.specs.Frame.{header_frame}
-use Rattle.header.specs.Range.{header_in_range, text_refusal as headerTextRefusal, frame_refusal as headerFrameRefusal}
+use Rattle.header.specs.Range.{header_in_range, text_refusal as header_text_refusal, frame_refusal as header_frame_refusal}
 use Rattle.header.proofs.Theorems.{text_at_most_178, frame_at_most_72}
 use Rattle.header.specs.Header.{most_bytes}
 use Rattle.packet.specs.Written.{or_else}
@@ -27,16 +27,16 @@ use Rattle.packet.proofs.Order.{or_first, or_none}
 -- ---- a header as a frame or as a line
 
 module _ (framed : Bool) (h : Header) (out : List ℕ) (w : Wrote) where
-  pub head_framed : framed ≡ true → w ≡ wrote (headerFrameRefusal h) (header_frame h) out → w ≡ wrote (head_refusal framed h) (head_bytes framed h) out
+  pub head_framed : framed ≡ true → w ≡ wrote (header_frame_refusal h) (header_frame h) out → w ≡ wrote (head_refusal framed h) (head_bytes framed h) out
   unfolding head_refusal head_bytes
   head_framed e q = rw e q
 
-  pub head_plain : framed ≡ false → w ≡ wrote (headerTextRefusal h) (header_text h) out → w ≡ wrote (head_refusal framed h) (head_bytes framed h) out
+  pub head_plain : framed ≡ false → w ≡ wrote (header_text_refusal h) (header_text h) out → w ≡ wrote (head_refusal framed h) (head_bytes framed h) out
   unfolding head_refusal head_bytes
   head_plain e q = rw e q
 
 pub head_short : (framed : Bool) (h : Header) → head_refusal framed h ≡ 0 → length (head_bytes framed h) ≤ 178
-unfolding head_refusal head_bytes headerTextRefusal
+unfolding head_refusal head_bytes header_text_refusal
 head_short true h e = let s : length (header_frame h) ≤ 72 = frame_at_most_72 h e in omega arith
 head_short false h e = text_at_most_178 h (fine (header_in_range h) e)
   where
@@ -102,13 +102,13 @@ module _ (framed : Bool) (h : Header) (w : Answer) (head : List ℕ) (e : ends w
 
 -- ---- a body that is refused
 
-module _ (h : Header) (w : Answer) (head : List ℕ) (e : ends w head ≡ wrote (headerTextRefusal h) (header_text h) (replicate 178 0)) (n : ℕ) (a : Answer) where
-  header_says : w.refusal ≡ headerTextRefusal h
+module _ (h : Header) (w : Answer) (head : List ℕ) (e : ends w head ≡ wrote (header_text_refusal h) (header_text h) (replicate 178 0)) (n : ℕ) (a : Answer) where
+  header_says : w.refusal ≡ header_text_refusal h
   unfolding head_refusal head_bytes
-  header_says = refusal_is w head (header_text h) (replicate 178 0) (headerTextRefusal h) e (λ z. head_short false h z)
+  header_says = refusal_is w head (header_text h) (replicate 178 0) (header_text_refusal h) e (λ z. head_short false h z)
 
-  pub beside_header : (w.refusal ≡ 0 → ⊥) → a ≡ refused_by w.refusal → a ≡ refused_by (or_else (headerTextRefusal h) n)
+  pub beside_header : (w.refusal ≡ 0 → ⊥) → a ≡ refused_by w.refusal → a ≡ refused_by (or_else (header_text_refusal h) n)
   beside_header z q = rw (← header_says, or_first w.refusal n z) q
 
-  pub beside_body : w.refusal ≡ 0 → a ≡ refused_by n → a ≡ refused_by (or_else (headerTextRefusal h) n)
+  pub beside_body : w.refusal ≡ 0 → a ≡ refused_by n → a ≡ refused_by (or_else (header_text_refusal h) n)
   beside_body z q = rw (← header_says, or_none w.refusal n z) q

@@ -9,10 +9,10 @@ use lib.IntN.{pos}
 use Rattle.laws.specs.Bytes.{comma, point, slash, dash, digit0, colon, greater, bang, capital_e, capital_n, within}
 use Rattle.laws.specs.Lists.{index_of, every, any_of, pad_to}
 use Rattle.callsign.specs.Utf8.{after, characters, utf8}
-use Rattle.callsign.specs.Text.{joined, made, is_zero, call_accepted, parted, read_unstarred, read_text as readCall}
-use Rattle.callsign.specs.Range.{call_part, ssid_part, text_of as callText, with_star}
-use Rattle.header.specs.Hop.{heard_as, call_hop, is_heard, is_qElement, heard_if}
-use Rattle.header.specs.Header.{blank_header, path_of, hops_of, header_of, header_accepted, unless_refused as unlessHeader, before, with_hops}
+use Rattle.callsign.specs.Text.{joined, made, is_zero, call_accepted, parted, read_unstarred, read_text as read_call}
+use Rattle.callsign.specs.Range.{call_part, ssid_part, text_of as call_text, with_star}
+use Rattle.header.specs.Hop.{heard_as, call_hop, is_heard, is_q_element, heard_if}
+use Rattle.header.specs.Header.{blank_header, path_of, hops_of, header_of, header_accepted, unless_refused as unless_header, before, with_hops}
 use Rattle.header.specs.Text.{on_first, fields, first_of, others_of, starts_q, hop_of, read_hop, hop_then, text_hops, stars_of, carried}
 use Rattle.header.specs.Text.{read_route, read_before, read_header_text, hops_text, route_text, header_text}
 use Rattle.header.proofs.Theorems.{p11_text, p11_hops}
@@ -59,9 +59,9 @@ p11_record =
 pub p11_read : read_text p11_line ≡ record { refusal = 0; «record» = p11_record }
 unfolding
     read_text_by read_any_text_by packet_after unless_refused body_behind holds_packet packet_of record_of kept_to read_body_by opening_of body_after positioned_from time_at behind_time position_from position_body span_from read_header_text
-    read_before read_route with_hops stars_of path_of header_of unlessHeader header_accepted first_of others_of fields on_first text_hops hop_then
-    before read_hop starts_q hop_of readCall read_unstarred parted call_accepted index_of utf8 characters after within is_zero made
-    joined pad_to carried any_of is_heard is_qElement heard_if heard_as call_hop read_position_by is_uncompressed is_numeric with_latitude with_longitude
+    read_before read_route with_hops stars_of path_of header_of unless_header header_accepted first_of others_of fields on_first text_hops hop_then
+    before read_hop starts_q hop_of read_call read_unstarred parted call_accepted index_of utf8 characters after within is_zero made
+    joined pad_to carried any_of is_heard is_q_element heard_if heard_as call_hop read_position_by is_uncompressed is_numeric with_latitude with_longitude
     read_latitude latitude_in latitude_with read_longitude longitude_in longitude_with blanks_in rest_blank counted_digits every
     last_as number_after number_of degrees_of minutes_of hundredths_of value_of size_of fits angle_in signed_of
 p11_read = refl
@@ -70,5 +70,5 @@ pub p11_written : text_bytes p11_record [] [] ≡ p11_line
 unfolding
     text_bytes bytes_of body_bytes bytes_as tail_bytes tail_as position_type position_bytes no_time is_present time_text written_header written_to to_as position_text latitude_text longitude_text
     blanked_places north_or_south east_or_west is_minus text_of places_of digits_of digit_of last_as header_text route_text hops_text
-    hops_of any_of is_heard heard_as call_hop callText call_part ssid_part with_star made joined pad_to path_of
+    hops_of any_of is_heard heard_as call_hop call_text call_part ssid_part with_star made joined pad_to path_of
 p11_written = refl

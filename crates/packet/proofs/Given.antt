@@ -30,7 +30,7 @@ use Rattle.body.specs.declared.Span.{Span}
 use Rattle.body.specs.declared.Body.{Body}
 use Rattle.body.specs.declared.BodyRead.{BodyRead}
 use Rattle.body.specs.Body.{no_span, blank_body, read_body_by}
-use Rattle.body.specs.Range.{is_place_alone, is_report_alone, is_bare, unknown_in_range, position_in_range, mic_eIn_range, message_in_range, status_in_range, in_range_as, body_in_range, excepted_as, is_excepted}
+use Rattle.body.specs.Range.{is_place_alone, is_report_alone, is_bare, unknown_in_range, position_in_range, mic_e_in_range, message_in_range, status_in_range, in_range_as, body_in_range, excepted_as, is_excepted}
 use Rattle.body.proofs.Theorems.{read_comment_within, read_identifier_within, read_range, blank_range, InnerEdges, read_inner_edges, blank_inner_edges}
 use Rattle.packet.specs.declared.Record.{Record}
 use Rattle.packet.specs.declared.PacketRead.{PacketRead}
@@ -63,7 +63,7 @@ module _ (by : ℕ) where
   moved_kind b = refl
 
   moved_as : (k : Kind) (b : Body) (to : Callsign) → in_range_as k (moved_body by b) to ≡ in_range_as k b to
-  unfolding moved_body in_range_as unknown_in_range position_in_range mic_eIn_range message_in_range status_in_range is_bare is_place_alone is_report_alone
+  unfolding moved_body in_range_as unknown_in_range position_in_range mic_e_in_range message_in_range status_in_range is_bare is_place_alone is_report_alone
   moved_as Unknown b to = refl
   moved_as Position b to = refl
   moved_as MicE b to = refl

@@ -12,7 +12,7 @@ use Rattle.buffer.specs.Wrote.{Wrote, ends, refused_by, over_by, wrote}
 use Rattle.buffer.proofs.Wrote.{passed_on}
 use Rattle.header.specs.declared.Header.{Header}
 use Rattle.header.specs.Frame.{header_frame}
-use Rattle.header.specs.Range.{is_blank_header, text_refusal as headerTextRefusal}
+use Rattle.header.specs.Range.{is_blank_header, text_refusal as header_text_refusal}
 use Rattle.body.specs.declared.BodyWritten.{BodyWritten}
 use Rattle.body.specs.Written.{body_bytes, tail_bytes, write_body}
 use Rattle.body.proofs.Theorems.{fixed_within, behind_within, fixed_bytes_lem, tail_bytes_lem}
@@ -63,12 +63,12 @@ module _ (r : Record) (text identifier : List ℕ) (b : BodyWritten) (h : Header
   alone : is_blank_header r.innermost ≡ true
   alone = sym v ∙ not-false u x
 
-  record_says : record_refusal r text identifier ≡ or_else (headerTextRefusal h) b.refusal
+  record_says : record_refusal r text identifier ≡ or_else (header_text_refusal h) b.refusal
   record_says = record_refuses r z text identifier alone ∙ rw (f, q)
 
   -- a body that is refused
-  pub body_unwritten : (b.refusal ≡ 0 → ⊥) → (framed : Bool) (out : List ℕ) (a : Answer) → a ≡ refused_by (or_else (headerTextRefusal h) b.refusal) → ends a out ≡ written framed r text identifier out
-  body_unwritten n framed = record_unwritten framed r text identifier (or_else (headerTextRefusal h) b.refusal) record_says (λ e. n (or_both (headerTextRefusal h) b.refusal e).1)
+  pub body_unwritten : (b.refusal ≡ 0 → ⊥) → (framed : Bool) (out : List ℕ) (a : Answer) → a ≡ refused_by (or_else (header_text_refusal h) b.refusal) → ends a out ≡ written framed r text identifier out
+  body_unwritten n framed = record_unwritten framed r text identifier (or_else (header_text_refusal h) b.refusal) record_says (λ e. n (or_both (header_text_refusal h) b.refusal e).1)
 
   -- a body that is written
   module _ (n : b.refusal ≡ 0) where
@@ -78,7 +78,7 @@ module _ (r : Record) (text identifier : List ℕ) (b : BodyWritten) (h : Header
     header_is : h ≡ written_header r
     header_is = f ∙ rw q (header_in r z text identifier (body_fine r z text identifier alone accepted))
 
-    left : record_refusal r text identifier ≡ headerTextRefusal (written_header r)
+    left : record_refusal r text identifier ≡ header_text_refusal (written_header r)
     left = header_left r z text identifier alone accepted
 
     bytes_are : take b.len b.bytes ≡ body_bytes r.body

@@ -18,7 +18,7 @@ use Rattle.header.specs.declared.HeaderRead.{HeaderRead}
 use Rattle.header.specs.Header.{most_bytes, header_of, header_refused}
 use Rattle.header.specs.Text.{header_text, read_header_text, read_text_header}
 use Rattle.header.specs.Frame.{header_frame, read_frame_header}
-use Rattle.header.specs.Range.{frame_refusal as headerFrameRefusal}
+use Rattle.header.specs.Range.{frame_refusal as header_frame_refusal}
 use Rattle.header.proofs.Kept.{header_typed, Kept}
 use Rattle.header.proofs.Marks.{unmarked, twice_unmarked, unmarked_in_range, unmarked_is_blank, unmarked_text, unmarked_frame, unmarked_frame_refusal}
 use Rattle.header.proofs.Theorems.{any_text_is_kept, frame_has_no_mark, blank_has_no_mark}
@@ -27,7 +27,7 @@ use Rattle.body.specs.declared.Kind.TheVariants.{Unknown, Position, MicE, Messag
 use Rattle.body.specs.declared.Body.{Body}
 use Rattle.position.specs.Position.{usually}
 use Rattle.body.specs.Body.{read_body}
-use Rattle.body.specs.Range.{mic_eIn_range, in_range_as, body_in_range}
+use Rattle.body.specs.Range.{mic_e_in_range, in_range_as, body_in_range}
 use Rattle.body.specs.Written.{to_as, written_to}
 use Rattle.packet.specs.declared.Record.{Record}
 use Rattle.packet.specs.Record.{blank_record, packet_refused}
@@ -44,7 +44,7 @@ unmarked_record r = record { header = unmarked r.header; body = r.body; innermos
 -- ---- the range
 
 body_range : (k : Kind) (b : Body) (to : Callsign) → in_range_as k b (unmarked_call to) ≡ in_range_as k b to
-unfolding in_range_as mic_eIn_range
+unfolding in_range_as mic_e_in_range
 body_range Unknown b to = refl
 body_range Position b to = refl
 body_range Message b to = refl
@@ -115,7 +115,7 @@ module _ (r : Record) (text identifier : List ℕ) where
 
   pub unmarked_refusal_of_frame : frame_refusal (unmarked_record r) text identifier ≡ frame_refusal r text identifier
   unfolding frame_refusal
-  unmarked_refusal_of_frame = rw (same_refusal r text identifier, same_of headerFrameRefusal unmarked_frame_refusal r, unmarked_frame_bytes)
+  unmarked_refusal_of_frame = rw (same_refusal r text identifier, same_of header_frame_refusal unmarked_frame_refusal r, unmarked_frame_bytes)
 
 -- ---- a frame read
 

@@ -15,7 +15,7 @@ use Rattle.buffer.specs.declared.Answer.{Answer}
 use Rattle.buffer.specs.Wrote.{refused_by}
 use Rattle.callsign.specs.declared.Callsign.{Callsign}
 use Rattle.header.specs.declared.Header.{Header}
-use Rattle.header.specs.Range.{header_in_range, is_blank_header, text_refusal as headerTextRefusal, frame_refusal as headerFrameRefusal}
+use Rattle.header.specs.Range.{header_in_range, is_blank_header, text_refusal as header_text_refusal, frame_refusal as header_frame_refusal}
 use Rattle.header.specs.Frame.{addresses, first_refusal}
 use Rattle.body.specs.declared.Kind.{Kind}
 use Rattle.body.specs.declared.Kind.TheVariants.{Unknown, Position, MicE, Message, Status}
@@ -132,8 +132,8 @@ module _ (r : Record) (z : r.inner ≡ 0) (text identifier : List ℕ) where
 
   -- 15 of the body, 15 of the header, then 14 or 18
   module _ (b : is_blank_header r.innermost ≡ true) where
-    pub record_refuses : record_refusal r text identifier ≡ or_else (headerTextRefusal (header_to r.header its_body.to)) its_body.refusal
-    unfolding record_refusal range_refusal headerTextRefusal or_else
+    pub record_refuses : record_refusal r text identifier ≡ or_else (header_text_refusal (header_to r.header its_body.to)) its_body.refusal
+    unfolding record_refusal range_refusal header_text_refusal or_else
     record_refuses = rw (range_alone b, refusal_alone) (go fine refl)
       where
         out : (h x : Bool) (k : ℕ) → or_else (cond (h && false) 0 15) k ≡ or_else (cond x 0 15) 15
@@ -156,7 +156,7 @@ module _ (r : Record) (z : r.inner ≡ 0) (text identifier : List ℕ) where
           go true e = refl
           go false e = absurd (omega (arith, refusal_out e))
 
-      pub header_left : record_refusal r text identifier ≡ headerTextRefusal (written_header r)
+      pub header_left : record_refusal r text identifier ≡ header_text_refusal (written_header r)
       header_left = record_refuses ∙ rw (n, or_zero, header_in body_fine)
 
   -- something in its header is 15
@@ -194,9 +194,9 @@ module _ (r : Record) (z : r.inner ≡ 0 → ⊥) where
         go true e = absurd (not_15 r.body [] [] (sym (body_in r.body r.innermost.to [] [] e) ∙ ap (λ (x : BodyWritten). x.refusal) (sym q) ∙ n))
         go false e = range_inside ∙ rw (e, and-false (leb r.inner most_inner && header_in_range r.innermost), and-false (header_in_range r.header))
 
-    pub headers_judged : (b.refusal ≡ 15 → ⊥) → (w a : Answer) → w ≡ refused_by (or_else (headerTextRefusal r.innermost) 14) → a ≡ refused_by (or_else (headerTextRefusal r.header) w.refusal)
+    pub headers_judged : (b.refusal ≡ 15 → ⊥) → (w a : Answer) → w ≡ refused_by (or_else (header_text_refusal r.innermost) 14) → a ≡ refused_by (or_else (header_text_refusal r.header) w.refusal)
         → a ≡ refused_by (or_else (range_refusal r) 14)
-    unfolding range_refusal headerTextRefusal or_else
+    unfolding range_refusal header_text_refusal or_else
     headers_judged n w a f g = g ∙ ap refused_by (rw (f, range_inside, le-leb r.inner most_inner few) (go beside refl (header_in_range r.header) (header_in_range r.innermost)))
       where
         go : (t : Bool) → beside ≡ t → (x y : Bool) → or_else (cond x 0 15) (or_else (cond y 0 15) 14) ≡ or_else (cond (x && (y && beside)) 0 15) 14
@@ -206,8 +206,8 @@ module _ (r : Record) (z : r.inner ≡ 0 → ⊥) where
         go true e false y = refl
 
 -- the frame's writer gives the header's 15 first
-pub frame_first : (h : Header) (n : ℕ) → or_else (headerTextRefusal h) (or_else (headerFrameRefusal h) n) ≡ or_else (headerFrameRefusal h) n
-unfolding headerTextRefusal headerFrameRefusal or_else
+pub frame_first : (h : Header) (n : ℕ) → or_else (header_text_refusal h) (or_else (header_frame_refusal h) n) ≡ or_else (header_frame_refusal h) n
+unfolding header_text_refusal header_frame_refusal or_else
 frame_first h n = go (header_in_range h)
   where
     go : (b : Bool) → or_else (cond b 0 15) (or_else (cond b (first_refusal (addresses h)) 15) n) ≡ or_else (cond b (first_refusal (addresses h)) 15) n

@@ -18,7 +18,7 @@ use Rattle.header.specs.declared.HeaderRead.{HeaderRead}
 use Rattle.header.specs.Header.{most_bytes, header_refused}
 use Rattle.header.specs.Text.{read_header_text, read_text_header}
 use Rattle.header.specs.Frame.{read_frame_header}
-use Rattle.header.specs.Range.{header_in_range, is_blank_header, text_refusal as headerTextRefusal, frame_refusal as headerFrameRefusal}
+use Rattle.header.specs.Range.{header_in_range, is_blank_header, text_refusal as header_text_refusal, frame_refusal as header_frame_refusal}
 use Rattle.body.specs.declared.Kind.{Kind}
 use Rattle.body.specs.declared.Kind.TheVariants.{Message, Status}
 use Rattle.position.specs.Position.{usually}
@@ -146,9 +146,9 @@ module _ (r : Record) (text identifier : List ℕ) (z : record_refusal r text id
     at_most_262 : (framed : Bool) → head_refusal framed (written_header r) ≡ 0 → length (bytes_of (head_bytes framed (written_header r)) r text identifier) ≤ 262
     at_most_262 framed h = omega (arith, long (head_bytes framed (written_header r)), head_short framed (written_header r) h)
 
-    header_taken : headerTextRefusal (written_header r) ≡ 0
+    header_taken : header_text_refusal (written_header r) ≡ 0
     header_taken =
-        let both = or_both (headerTextRefusal (header_to r.header (write_body r.body r.header.to text identifier).to)) (write_body r.body r.header.to text identifier).refusal (sym (record_refuses r none text identifier blank) ∙ z) in
+        let both = or_both (header_text_refusal (header_to r.header (write_body r.body r.header.to text identifier).to)) (write_body r.body r.header.to text identifier).refusal (sym (record_refuses r none text identifier blank) ∙ z) in
         sym (header_left r none text identifier blank both.1) ∙ z
 
     line_short : length (text_bytes r text identifier) ≤ 262
@@ -159,10 +159,10 @@ module _ (r : Record) (text identifier : List ℕ) (z : record_refusal r text id
     unfolding text_refusal
     line_fits = or_none (record_refusal r text identifier) _ z ∙ not_over most_bytes (text_bytes r text identifier) (omega (arith, line_short))
 
-    frame_fits : headerFrameRefusal (written_header r) ≡ 0 → frame_refusal r text identifier ≡ 0
+    frame_fits : header_frame_refusal (written_header r) ≡ 0 → frame_refusal r text identifier ≡ 0
     unfolding frame_refusal frame_bytes head_bytes head_refusal
     frame_fits h =
-        or_none (record_refusal r text identifier) _ z ∙ or_none (headerFrameRefusal (written_header r)) _ h
+        or_none (record_refusal r text identifier) _ z ∙ or_none (header_frame_refusal (written_header r)) _ h
         ∙ not_over most_bytes (frame_bytes r text identifier) (omega (arith, at_most_262 true h))
 
   module _ (k : r.body.kind ≡ Message) (nine : length r.body.addressee ≡ addressee_bytes) where
@@ -175,7 +175,7 @@ module _ (r : Record) (text identifier : List ℕ) (z : record_refusal r text id
     pub message_line_fits : text_refusal r text identifier ≡ 0
     message_line_fits = line_fits message_said
 
-    pub message_frame_fits : headerFrameRefusal (written_header r) ≡ 0 → frame_refusal r text identifier ≡ 0
+    pub message_frame_fits : header_frame_refusal (written_header r) ≡ 0 → frame_refusal r text identifier ≡ 0
     message_frame_fits = frame_fits message_said
 
   module _ (k : r.body.kind ≡ Status) where
@@ -185,5 +185,5 @@ module _ (r : Record) (text identifier : List ℕ) (z : record_refusal r text id
     pub status_line_fits : text_refusal r text identifier ≡ 0
     status_line_fits = line_fits status_said
 
-    pub status_frame_fits : headerFrameRefusal (written_header r) ≡ 0 → frame_refusal r text identifier ≡ 0
+    pub status_frame_fits : header_frame_refusal (written_header r) ≡ 0 → frame_refusal r text identifier ≡ 0
     status_frame_fits = frame_fits status_said

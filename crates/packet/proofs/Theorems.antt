@@ -15,7 +15,7 @@ use Rattle.header.specs.declared.HeaderRead.{HeaderRead}
 use Rattle.header.specs.Header.{most_bytes, blank_header}
 use Rattle.header.specs.Text.{read_header_text, read_text_header}
 use Rattle.header.specs.Frame.{read_frame_header}
-use Rattle.header.specs.Range.{frame_refusal as headerFrameRefusal}
+use Rattle.header.specs.Range.{frame_refusal as header_frame_refusal}
 use Rattle.header.proofs.Marks.{unmarked}
 use Rattle.message.specs.Message.{addressee_bytes}
 use Rattle.position.specs.Position.{usually, strictly}
@@ -179,13 +179,13 @@ module _ (r : Record) (text identifier : List ℕ) (z : record_refusal r text id
   pub message_is_never_too_long : r.body.kind ≡ Message → length r.body.addressee ≡ addressee_bytes → text_refusal r text identifier ≡ 0
   message_is_never_too_long = message_line_fits r text identifier z
 
-  pub message_frame_is_never_too_long : r.body.kind ≡ Message → length r.body.addressee ≡ addressee_bytes → headerFrameRefusal (written_header r) ≡ 0 → frame_refusal r text identifier ≡ 0
+  pub message_frame_is_never_too_long : r.body.kind ≡ Message → length r.body.addressee ≡ addressee_bytes → header_frame_refusal (written_header r) ≡ 0 → frame_refusal r text identifier ≡ 0
   message_frame_is_never_too_long = message_frame_fits r text identifier z
 
   pub status_is_never_too_long : r.body.kind ≡ Status → text_refusal r text identifier ≡ 0
   status_is_never_too_long = status_line_fits r text identifier z
 
-  pub status_frame_is_never_too_long : r.body.kind ≡ Status → headerFrameRefusal (written_header r) ≡ 0 → frame_refusal r text identifier ≡ 0
+  pub status_frame_is_never_too_long : r.body.kind ≡ Status → header_frame_refusal (written_header r) ≡ 0 → frame_refusal r text identifier ≡ 0
   status_frame_is_never_too_long = status_frame_fits r text identifier z
 
 -- ---- document 02, R-6: third-party traffic
@@ -287,8 +287,8 @@ text_unwritten s = given_text (text_given usually s)
 pub frame_unwritten : (s text identifier : List ℕ) → frame_refusal (read_frame s).«record» text identifier
     ≡ or_else (cond (is_excepted (read_frame s).«record».body) 15 0)
     (or_else (content_refusal (read_frame s).«record» text identifier)
-    (or_else (headerFrameRefusal (written_header (read_frame s).«record»)) (over_by most_bytes (frame_bytes (read_frame s).«record» text identifier))))
+    (or_else (header_frame_refusal (written_header (read_frame s).«record»)) (over_by most_bytes (frame_bytes (read_frame s).«record» text identifier))))
 unfolding frame_refusal
 frame_unwritten s text identifier =
     let r = (read_frame s).«record» in
-    given_refusal (frame_given usually s) text identifier (or_else (headerFrameRefusal (written_header r)) (over_by most_bytes (frame_bytes r text identifier)))
+    given_refusal (frame_given usually s) text identifier (or_else (header_frame_refusal (written_header r)) (over_by most_bytes (frame_bytes r text identifier)))

@@ -10,7 +10,7 @@ use borrow.Author.Tests.{eq-eqb}
 use Rattle.laws.proofs.Tests.{and_first, and_second}
 use Rattle.buffer.specs.Wrote.{over_by}
 use Rattle.header.specs.Header.{most_bytes, header_of}
-use Rattle.header.specs.Range.{header_in_range, frame_refusal as headerFrameRefusal}
+use Rattle.header.specs.Range.{header_in_range, frame_refusal as header_frame_refusal}
 use Rattle.header.proofs.WithoutQ.{without_q, same_frame, same_refusal, without_q_range}
 use Rattle.body.specs.Range.{body_in_range}
 use Rattle.body.proofs.Theorems.{destination_range}
@@ -84,7 +84,7 @@ module _ (r : Record) (e : record_in_range r ≡ true) where
     unfolding frame_refusal or_else range_refusal
     without_q_refusal = rw (same_record, same_written r, without_q_bytes r text identifier) (go r.inner refl)
       where
-        go : (n : ℕ) → r.inner ≡ n → or_else (record_refusal r text identifier) (or_else (headerFrameRefusal (without_q (written_header r))) (over_by most_bytes (frame_bytes r text identifier)))
-            ≡ or_else (record_refusal r text identifier) (or_else (headerFrameRefusal (written_header r)) (over_by most_bytes (frame_bytes r text identifier)))
+        go : (n : ℕ) → r.inner ≡ n → or_else (record_refusal r text identifier) (or_else (header_frame_refusal (without_q (written_header r))) (over_by most_bytes (frame_bytes r text identifier)))
+            ≡ or_else (record_refusal r text identifier) (or_else (header_frame_refusal (written_header r)) (over_by most_bytes (frame_bytes r text identifier)))
         go zero z = rw (same_refusal (written_header r) (written_fine z))
         go (suc k) z = rw (inside_refuses r (λ y. omega (arith, y, z)) text identifier, e)

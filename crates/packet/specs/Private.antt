@@ -5,7 +5,7 @@ use Rattle.buffer.specs.Wrote.{Wrote, over_by, wrote}
 use Rattle.header.specs.declared.Header.{Header}
 use Rattle.header.specs.Text.{header_text}
 use Rattle.header.specs.Frame.{header_frame}
-use Rattle.header.specs.Range.{text_refusal as headerTextRefusal, frame_refusal as headerFrameRefusal}
+use Rattle.header.specs.Range.{text_refusal as header_text_refusal, frame_refusal as header_frame_refusal}
 use Rattle.header.specs.Header.{most_bytes}
 use Rattle.packet.specs.Written.{or_else}
 
@@ -15,7 +15,7 @@ head_bytes framed h = cond framed (header_frame h) (header_text h)
 
 -- what its writer refuses with, but for 16
 unfoldable pub head_refusal : Bool → Header → ℕ
-head_refusal framed h = cond framed (headerFrameRefusal h) (headerTextRefusal h)
+head_refusal framed h = cond framed (header_frame_refusal h) (header_text_refusal h)
 
 -- that header, a body's bytes, a text and what stands behind it, unless the header is refused or they are over the limit
 unfoldable pub wrote_behind : Bool → Header → List ℕ → List ℕ → List ℕ → List ℕ → Wrote

@@ -8,7 +8,7 @@ use Rattle.header.specs.declared.Header.{Header}
 use Rattle.header.specs.Header.{most_bytes}
 use Rattle.header.specs.Text.{header_text}
 use Rattle.header.specs.Frame.{header_frame}
-use Rattle.header.specs.Range.{frame_refusal as headerFrameRefusal}
+use Rattle.header.specs.Range.{frame_refusal as header_frame_refusal}
 use Rattle.body.specs.Written.{written_to, body_bytes, tail_bytes, body_refusal}
 use Rattle.packet.specs.declared.Record.{Record}
 use Rattle.packet.specs.Range.{range_refusal}
@@ -54,4 +54,4 @@ text_refusal r text identifier = or_else (record_refusal r text identifier) (ove
 -- a header in range that cannot go into AX.25 is 13
 unfoldable pub frame_refusal : Record → List ℕ → List ℕ → ℕ
 frame_refusal r text identifier =
-    or_else (record_refusal r text identifier) (or_else (headerFrameRefusal (written_header r)) (over_by most_bytes (frame_bytes r text identifier)))
+    or_else (record_refusal r text identifier) (or_else (header_frame_refusal (written_header r)) (over_by most_bytes (frame_bytes r text identifier)))

@@ -4,7 +4,7 @@
 ghost use Rattle.std.specs.Prelude.{◌≡◌, cond, ◌+◌, ◌^◌, ◌≤◌, ◌<◌, length, drop};
 ghost use Rattle.header.specs.Text.{read_header_text};
 ghost use Rattle.header.specs.Frame.{read_frame_header};
-ghost use Rattle.header.specs.Range.{text_refusal as headerTextRefusal};
+ghost use Rattle.header.specs.Range.{text_refusal as header_text_refusal};
 ghost use Rattle.buffer.specs.Wrote.{refused_by, ends, wrote};
 ghost use Rattle.packet.specs.Record.{blank_record, packet_refused};
 ghost use Rattle.packet.specs.Packet.{most_inner, header_to, kept_to, holds_packet, is_nowhere, moved_span, moved_body, innermost_of, packet_around, read_any_text, read_text_by, read_text, strict_text, read_frame_by, read_frame, strict_frame};
@@ -326,7 +326,7 @@ fn write_header(h: Header, framed: bool, out: &mut [u8]) -> buffer::Answer
 
 // The answer where the body is refused: a header out of range comes before that, with 15.
 fn refused_beside(h: Header, n: u8) -> buffer::Answer
-    ensures { result ≡ refused_by (or_else (headerTextRefusal h) n) }
+    ensures { result ≡ refused_by (or_else (header_text_refusal h) n) }
 {
     let mut bytes = [0u8; 178];
     let judged = header::write_text(h, &mut bytes);

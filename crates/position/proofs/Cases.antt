@@ -7,7 +7,7 @@ use Rattle.laws.specs.Lists.{index_of, every}
 use Rattle.numbers.specs.Numbers.{number_after, number_of}
 use Rattle.numbers.specs.Sign.{signed_of, is_minus, is_on}
 use Rattle.lonlat.specs.Angle.{most_latitude, most_longitude, width_of}
-use Rattle.lonlat.specs.Digits.{last_as, degrees_of as degreesRead, minutes_of, hundredths_of, value_of, is_sixty, fits, angle_in}
+use Rattle.lonlat.specs.Digits.{last_as, degrees_of as degrees_read, minutes_of, hundredths_of, value_of, is_sixty, fits, angle_in}
 use Rattle.lonlat.specs.Latitude.{blanks_in, rest_blank, counted_digits, latitude_with, latitude_in, read_latitude, latitude_number}
 use Rattle.lonlat.specs.Longitude.{longitude_with, longitude_in, read_longitude, longitude_number}
 use Rattle.position.specs.Position.{strictly, is_table, is_numeric, is_uncompressed, with_longitude, with_latitude, read_position_by, read_position}
@@ -86,61 +86,61 @@ Numbered s usual strict = ((read_position s).refusal ≡ usual) × ((read_positi
 pub sixty_minutes_stopped : Numbered (placed (0x38 ∷ digit9 ∷ 0x36 ∷ digit0 ∷ point ∷ digit0 ∷ digit0 ∷ capital_n ∷ []) slash zero_east) 0 8
 unfolding
     read_position_by is_uncompressed is_numeric is_table within with_latitude with_longitude read_latitude latitude_number latitude_in latitude_with rest_blank blanks_in counted_digits index_of every
-    last_as angle_in fits value_of is_sixty degreesRead minutes_of hundredths_of number_of number_after signed_of read_longitude longitude_number longitude_in longitude_with
+    last_as angle_in fits value_of is_sixty degrees_read minutes_of hundredths_of number_of number_after signed_of read_longitude longitude_number longitude_in longitude_with
 sixty_minutes_stopped = (refl, refl)
 
 -- 8959.99N passes
 pub fifty_nine_minutes : Numbered (placed (0x38 ∷ digit9 ∷ 0x35 ∷ digit9 ∷ point ∷ digit9 ∷ digit9 ∷ capital_n ∷ []) slash zero_east) 0 0
 unfolding
     read_position_by is_uncompressed is_numeric is_table within with_latitude with_longitude read_latitude latitude_number latitude_in latitude_with rest_blank blanks_in counted_digits index_of every
-    last_as angle_in fits value_of is_sixty degreesRead minutes_of hundredths_of number_of number_after signed_of read_longitude longitude_number longitude_in longitude_with
+    last_as angle_in fits value_of is_sixty degrees_read minutes_of hundredths_of number_of number_after signed_of read_longitude longitude_number longitude_in longitude_with
 fifty_nine_minutes = (refl, refl)
 
 -- `006 .  N` has 60 minutes
 pub blanks_count_as_0 : Numbered (placed (digit0 ∷ digit0 ∷ 0x36 ∷ space ∷ point ∷ space ∷ space ∷ capital_n ∷ []) slash zero_east) 0 8
 unfolding
     read_position_by is_uncompressed is_numeric is_table within with_latitude with_longitude read_latitude latitude_number latitude_in latitude_with rest_blank blanks_in counted_digits index_of every
-    last_as angle_in fits value_of is_sixty degreesRead minutes_of hundredths_of number_of number_after signed_of read_longitude longitude_number longitude_in longitude_with
+    last_as angle_in fits value_of is_sixty degrees_read minutes_of hundredths_of number_of number_after signed_of read_longitude longitude_number longitude_in longitude_with
 blanks_count_as_0 = (refl, refl)
 
 -- `00  .  N` has none
 pub blank_minutes : Numbered (placed (digit0 ∷ digit0 ∷ space ∷ space ∷ point ∷ space ∷ space ∷ capital_n ∷ []) slash zero_east) 0 0
 unfolding
     read_position_by is_uncompressed is_numeric is_table within with_latitude with_longitude read_latitude latitude_number latitude_in latitude_with rest_blank blanks_in counted_digits index_of every
-    last_as angle_in fits value_of is_sixty degreesRead minutes_of hundredths_of number_of number_after signed_of read_longitude longitude_number longitude_in longitude_with
+    last_as angle_in fits value_of is_sixty degrees_read minutes_of hundredths_of number_of number_after signed_of read_longitude longitude_number longitude_in longitude_with
 blank_minutes = (refl, refl)
 
 -- with four blanks both digits of 00099.99E are discarded
 pub discarded_minutes : Numbered (placed (digit0 ∷ digit0 ∷ space ∷ space ∷ point ∷ space ∷ space ∷ capital_n ∷ []) slash (digit0 ∷ digit0 ∷ digit0 ∷ digit9 ∷ digit9 ∷ point ∷ digit9 ∷ digit9 ∷ capital_e ∷ [])) 0 0
 unfolding
     read_position_by is_uncompressed is_numeric is_table within with_latitude with_longitude read_latitude latitude_number latitude_in latitude_with rest_blank blanks_in counted_digits index_of every
-    last_as angle_in fits value_of is_sixty degreesRead minutes_of hundredths_of number_of number_after signed_of read_longitude longitude_number longitude_in longitude_with
+    last_as angle_in fits value_of is_sixty degrees_read minutes_of hundredths_of number_of number_after signed_of read_longitude longitude_number longitude_in longitude_with
 discarded_minutes = (refl, refl)
 
 -- with three blanks 0006x.xxE has 60 minutes
 pub discarded_digit : Numbered (placed (digit0 ∷ digit0 ∷ digit0 ∷ space ∷ point ∷ space ∷ space ∷ capital_n ∷ []) slash (digit0 ∷ digit0 ∷ digit0 ∷ 0x36 ∷ 0x78 ∷ point ∷ 0x78 ∷ 0x78 ∷ capital_e ∷ [])) 0 9
 unfolding
     read_position_by is_uncompressed is_numeric is_table within with_latitude with_longitude read_latitude latitude_number latitude_in latitude_with rest_blank blanks_in counted_digits index_of every
-    last_as angle_in fits value_of is_sixty degreesRead minutes_of hundredths_of number_of number_after signed_of read_longitude longitude_number longitude_in longitude_with
+    last_as angle_in fits value_of is_sixty degrees_read minutes_of hundredths_of number_of number_after signed_of read_longitude longitude_number longitude_in longitude_with
 discarded_digit = (refl, refl)
 
 -- the latitude is done before the longitude begins
 pub latitude_first : Numbered (placed (0x34 ∷ digit9 ∷ 0x36 ∷ digit0 ∷ point ∷ digit0 ∷ digit0 ∷ capital_n ∷ []) slash (0x78 ∷ 0x78 ∷ 0x78 ∷ 0x78 ∷ 0x78 ∷ point ∷ 0x78 ∷ 0x78 ∷ capital_e ∷ [])) 9 8
 unfolding
     read_position_by is_uncompressed is_numeric is_table within with_latitude with_longitude read_latitude latitude_number latitude_in latitude_with rest_blank blanks_in counted_digits index_of every
-    last_as angle_in fits value_of is_sixty degreesRead minutes_of hundredths_of number_of number_after signed_of read_longitude longitude_number longitude_in longitude_with
+    last_as angle_in fits value_of is_sixty degrees_read minutes_of hundredths_of number_of number_after signed_of read_longitude longitude_number longitude_in longitude_with
 latitude_first = (refl, refl)
 
 -- "it also wants table bytes", last of all: a small letter is none
 pub small_letter : Numbered (placed (0x34 ∷ digit9 ∷ digit0 ∷ 0x33 ∷ point ∷ 0x35 ∷ digit0 ∷ capital_n ∷ []) small_a zero_east) 0 20
 unfolding
     read_position_by is_uncompressed is_numeric is_table within with_latitude with_longitude read_latitude latitude_number latitude_in latitude_with rest_blank blanks_in counted_digits index_of every
-    last_as angle_in fits value_of is_sixty degreesRead minutes_of hundredths_of number_of number_after signed_of read_longitude longitude_number longitude_in longitude_with
+    last_as angle_in fits value_of is_sixty degrees_read minutes_of hundredths_of number_of number_after signed_of read_longitude longitude_number longitude_in longitude_with
 small_letter = (refl, refl)
 
 -- the longitude comes before it
 pub longitude_before_table : Numbered (placed (0x34 ∷ digit9 ∷ digit0 ∷ 0x33 ∷ point ∷ 0x35 ∷ digit0 ∷ capital_n ∷ []) small_a (digit0 ∷ digit0 ∷ digit0 ∷ 0x36 ∷ digit0 ∷ point ∷ digit0 ∷ digit0 ∷ capital_e ∷ [])) 0 9
 unfolding
     read_position_by is_uncompressed is_numeric is_table within with_latitude with_longitude read_latitude latitude_number latitude_in latitude_with rest_blank blanks_in counted_digits index_of every
-    last_as angle_in fits value_of is_sixty degreesRead minutes_of hundredths_of number_of number_after signed_of read_longitude longitude_number longitude_in longitude_with
+    last_as angle_in fits value_of is_sixty degrees_read minutes_of hundredths_of number_of number_after signed_of read_longitude longitude_number longitude_in longitude_with
 longitude_before_table = (refl, refl)

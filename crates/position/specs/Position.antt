@@ -66,25 +66,25 @@ refused_position n = record { refusal = n; place = no_place; latitude_sixty = fa
 
 -- a place, and which of its angles has minutes of 60 or more
 abbrev pub accepted_position : Place → Bool → Bool → PositionRead
-accepted_position place latitudeSixty longitudeSixty = record {
+accepted_position place latitude_sixty longitude_sixty = record {
   refusal = 0;
   place = place;
-  latitude_sixty = latitudeSixty;
-  longitude_sixty = longitudeSixty;
+  latitude_sixty = latitude_sixty;
+  longitude_sixty = longitude_sixty;
 }
 
 -- the place, with the symbol's bytes at their places, and the letters as they stood: "At 0 the side is the letter read, so the
 -- record must carry both letters" (document 02, R-1). Strictly "minutes give 8, 9 .. after the digits and before the size test; the table
 -- byte gives 20, last of all": minutes and size have one number, so that an angle that was read is judged as in that order.
 unfoldable pub with_longitude : Bool → List ℕ → Latitude → ℕ → Bool → Bool → LongitudeRead → PositionRead
-with_longitude strict s latitude blanks south latitudeSixty (lon.Read longitude west longitudeSixty) =
-    cond (is_over strict longitudeSixty) (refused_position (longitude_number lon.Refused))
+with_longitude strict s latitude blanks south latitude_sixty (lon.Read longitude west longitude_sixty) =
+    cond (is_over strict longitude_sixty) (refused_position (longitude_number lon.Refused))
     (cond (is_off_table strict (slice_index s 8)) (refused_position table_number)
     (accepted_position (record { latitude = latitude; longitude = longitude; blanks = blanks; table = slice_index s 8; code = slice_index s 18; south = south; west = west })
-    latitudeSixty
-    longitudeSixty))
-with_longitude strict s latitude blanks south latitudeSixty lon.Refused = refused_position (longitude_number lon.Refused)
-with_longitude strict s latitude blanks south latitudeSixty lon.OutOfRange = refused_position (longitude_number lon.OutOfRange)
+    latitude_sixty
+    longitude_sixty))
+with_longitude strict s latitude blanks south latitude_sixty lon.Refused = refused_position (longitude_number lon.Refused)
+with_longitude strict s latitude blanks south latitude_sixty lon.OutOfRange = refused_position (longitude_number lon.OutOfRange)
 
 -- the latitude's blanks rule the longitude too; "Latitude is done before longitude begins"
 unfoldable pub with_latitude : Bool → List ℕ → LatitudeRead → PositionRead

@@ -11,7 +11,7 @@ use Rattle.callsign.specs.declared.Callsign.{Callsign}
 use Rattle.callsign.specs.Range.{in_range, text_of}
 use Rattle.callsign.proofs.Ranges.{text_in_use}
 use Rattle.header.specs.declared.Hop.{Hop}
-use Rattle.header.specs.Hop.{is_heard, is_qElement, calls_of}
+use Rattle.header.specs.Hop.{is_heard, is_q_element, calls_of}
 use Rattle.header.proofs.Hops.{q_unheard}
 use Rattle.position.specs.Position.{strictly}
 use Rattle.body.specs.declared.Kind.{Kind}
@@ -38,9 +38,9 @@ module _ (inner : ℕ) (kind : Kind) (to : Callsign) where
 pub q_elements_are_never_heard : (l : List Hop) → heard_among (calls_of l) ≡ heard_among l
 unfolding heard_among calls_of
 q_elements_are_never_heard [] = refl
-q_elements_are_never_heard (h ∷ l) = go (is_qElement h) refl (q_elements_are_never_heard l)
+q_elements_are_never_heard (h ∷ l) = go (is_q_element h) refl (q_elements_are_never_heard l)
   where
-    go : (k : Bool) → is_qElement h ≡ k → heard_among (calls_of l) ≡ heard_among l
+    go : (k : Bool) → is_q_element h ≡ k → heard_among (calls_of l) ≡ heard_among l
         → heard_among (cond k (calls_of l) (h ∷ calls_of l)) ≡ cond (is_heard h) (suc (heard_among l)) (heard_among l)
     go true e r = rw (q_unheard h e) r
     go false e r = rw r

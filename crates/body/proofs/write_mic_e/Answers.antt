@@ -1,19 +1,19 @@
 -- No destination, nothing that a report lacks, letters that agree; and then what the two writers of a report say. Assumes nothing.
-use Rattle.body.specs.Range.{mic_eIn_range}
+use Rattle.body.specs.Range.{mic_e_in_range}
 use Rattle.body.proofs.Writing.{judged, destination_is, mic_e_out, mic_e_written}
 use borrow.Author.Rules.{rules}
 use Rattle.body.proofs.write_mic_e.Goals as goal
 
 pub returns-then-not-is_blank : goal.returns-then-not-is_blank
-unfolding mic_eIn_range
+unfolding mic_e_in_range
 returns-then-not-is_blank c = search (rules, judged)
 
 pub returns-then-not-is_report_alone : goal.returns-then-not-is_report_alone
-unfolding mic_eIn_range
+unfolding mic_e_in_range
 returns-then-not-is_report_alone c = search (rules, judged)
 
 pub returns-then-not-letters_agree : goal.returns-then-not-letters_agree
-unfolding mic_eIn_range
+unfolding mic_e_in_range
 returns-then-not-letters_agree c = search (rules, judged)
 
 pub returns-then-d-ne0 : goal.returns-then-d-ne0
