@@ -2,6 +2,7 @@
 // 256 tests of a first byte and at most 378 of a pair (6 first bytes with 63 second bytes each; for motion 60), one pass
 // in all.
 #![tactic(auto)]
+
 ghost use Rattle.std.specs.Prelude.{◌≡◌, ◌+◌, ◌*◌, ◌≤◌, length};
 ghost use Rattle.buffer.specs.Wrote.{ends};
 ghost use Rattle.buffer.specs.Filled.{filled, added};
@@ -15,7 +16,7 @@ use mic_e::{Course, LongitudeField, Motion, Speed};
 use std::num::wrapping_sub_u8;
 
 // What a list is asked for: speed and course; or a longitude's size, and whether the offset is 100.
-#[derive(Drop)]
+#[derive(Clone, Copy)]
 enum Target {
     Moving(u32, u32),
     Lying(u32, bool),

@@ -8,8 +8,7 @@ use Rattle.fields.specs.declared.Span.{Span}
 use Rattle.fields.specs.declared.Target.TheVariants.{Lying}
 use Rattle.fields.proofs.Hits.{based_by, base_first, longitude_hit}
 use Rattle.fields.proofs.Spans.{spans_by, no_span_lem, Band, in_band_lem}
-use Rattle.fields.proofs.span_longitude.Statement.{statement}
-use Rattle.fields.proofs.span_longitude.Tie as tie
+use Rattle.fields.proofs.span_longitude.Goals as goal
 
 module _ (m : ℕ) (hundred : Bool) (a : ℕ) (r : Base) (e : r ≡ base_of hundred a 28) where
   nothing : (s : Span) → r ≡ Nothing → s ≡ ten_from 23 → Spans (hits (Lying m hundred)) a s
@@ -34,63 +33,17 @@ module _ (m : ℕ) (hundred : Bool) (a : ℕ) (r : Base) (e : r ≡ base_of hund
     near : (m - low) / 100 ≤ 167 → Spans (hits (Lying m hundred)) a (span_from ((m - low) / 100 + 26) ((m - low) / 100 + 89))
     near k = spans_by _ a _ _ (omega arith) (omega arith) (λ b c u v t. ((band b c u v t).from, (band b c u v t).to))
 
-base-of-requires : tie.Need-base-of-requires
-base-of-requires c κs = search rules
+pub returns-in_default : goal.returns-in_default
+returns-in_default c = search (rules, nothing)
 
-enum-known-base : tie.Need-enum-known-base
-enum-known-base c = search rules
+pub returns-then-m-low : goal.returns-then-m-low
+returns-then-m-low c = search (rules, past)
 
-enum_told : tie.Need-enum-told
-enum_told c = search rules
+pub returns-then-m-low-gt16927 : goal.returns-then-m-low-gt16927
+returns-then-m-low-gt16927 c = search (rules, far)
 
-ten-from-requires : tie.Need-ten-from-requires
-ten-from-requires c κs = search rules
+pub returns-then-q-gt167 : goal.returns-then-q-gt167
+returns-then-q-gt167 c = search (rules, high)
 
-returns : tie.Need-returns
-returns c = search nothing
-
-ten-from-requires-2 : tie.Need-ten-from-requires-2
-ten-from-requires-2 c κs = search rules
-
-returns-2 : tie.Need-returns-2
-returns-2 c = search past
-
-ten-from-requires-3 : tie.Need-ten-from-requires-3
-ten-from-requires-3 c κs = search rules
-
-returns-3 : tie.Need-returns-3
-returns-3 c = search far
-
-add-t9 : tie.Need-overflow-add-t9
-add-t9 c = search rules
-
-returns-4 : tie.Need-returns-4
-returns-4 c = search high
-
-add-t8 : tie.Need-overflow-add-t8
-add-t8 c = search rules
-
-add-t10 : tie.Need-overflow-add-t10
-add-t10 c = search rules
-
-returns-5 : tie.Need-returns-5
-returns-5 c = search near
-
-pub span-longitude-spec : {M : Type 1} → statement M
-span-longitude-spec =
-    tie.close
-    (tie.spec
-    base-of-requires
-    enum-known-base
-    enum_told
-    ten-from-requires
-    returns
-    ten-from-requires-2
-    returns-2
-    ten-from-requires-3
-    returns-3
-    add-t9
-    returns-4
-    add-t8
-    add-t10
-    returns-5)
+pub returns : goal.returns
+returns c = search (rules, near)

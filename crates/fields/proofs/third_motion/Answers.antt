@@ -11,8 +11,7 @@ use Rattle.fields.specs.declared.Third.{Third}
 use Rattle.fields.specs.declared.Third.TheVariants.{Nowhere}
 use Rattle.fields.proofs.Each.{cell_none}
 use Rattle.fields.proofs.Hits.{motion_hit, course_plain, course_round, third_at_lem}
-use Rattle.fields.proofs.third_motion.Statement.{statement}
-use Rattle.fields.proofs.third_motion.Tie as tie
+use Rattle.fields.proofs.third_motion.Goals as goal
 
 module _ (s t a b : ℕ) where
   nowhere : ((c : ℕ) → c < 256 → Moves s t a b c → ⊥) → fields_of a b Nowhere ≡ cell (hits (Moving s t)) a b
@@ -41,59 +40,17 @@ module _ (s t a b x : ℕ) (off : x ≡ b - 28) where
       ap (fields_of a b) e
       ∙ third_at_lem _ a b _ (λ c l q. rw off (course_round s t a b c l (motion_hit s t a b c q) (rw (← off) k)))
 
-wrapping-sub-u8-requires : tie.Need-wrapping-sub-u8-requires
-wrapping-sub-u8-requires c κs = search rules
+pub returns-then-second-gt227 : goal.returns-then-second-gt227
+returns-then-second-gt227 c = search (rules, low)
 
-cast-second : tie.Need-overflow-cast-second
-cast-second c = search rules
+pub returns-then-c-gt360 : goal.returns-then-c-gt360
+returns-then-c-gt360 c = search (rules, turned)
 
-returns : tie.Need-returns
-returns c = search low
+pub returns-then-e-c : goal.returns-then-e-c
+returns-then-e-c c = search (rules, plain, less_28)
 
-returns-2 : tie.Need-returns-2
-returns-2 c = search turned
+pub returns-then-c-e : goal.returns-then-c-e
+returns-then-c-e c = search (rules, far, less_28)
 
-mul-e : tie.Need-overflow-mul-e
-mul-e c = search rules
-
-motion-at-requires : tie.Need-motion-at-requires
-motion-at-requires c κs = search rules
-
-returns-3 : tie.Need-returns-3
-returns-3 c = search (plain, less_28)
-
-add-if4 : tie.Need-overflow-add-if4
-add-if4 c = search rules
-
-returns-4 : tie.Need-returns-4
-returns-4 c = search (far, less_28)
-
-add-motion-at : tie.Need-overflow-add-motion-at
-add-motion-at c = search rules
-
-sub-motion-at : tie.Need-overflow-sub-motion-at
-sub-motion-at c = search rules
-
-motion-at-requires-2 : tie.Need-motion-at-requires-2
-motion-at-requires-2 c κs = search rules
-
-returns-5 : tie.Need-returns-5
-returns-5 c = search (round, less_28)
-
-pub third-motion-spec : {M : Type 1} → statement M
-third-motion-spec =
-    tie.close
-    (tie.spec
-    wrapping-sub-u8-requires
-    cast-second
-    returns
-    returns-2
-    mul-e
-    motion-at-requires
-    returns-3
-    add-if4
-    returns-4
-    add-motion-at
-    sub-motion-at
-    motion-at-requires-2
-    returns-5)
+pub returns : goal.returns
+returns c = search (rules, round, less_28)

@@ -10,8 +10,7 @@ use Rattle.fields.specs.Lists.{is_motion}
 use Rattle.fields.specs.Search.{hits, third_at}
 use Rattle.fields.specs.declared.Target.TheVariants.{Moving}
 use Rattle.fields.specs.declared.Third.TheVariants.{At, Nowhere}
-use Rattle.fields.proofs.motion_at.Statement.{statement}
-use Rattle.fields.proofs.motion_at.Tie as tie
+use Rattle.fields.proofs.motion_at.Goals as goal
 
 module _ (s t a b z : ℕ) (h : z ≤ 227) (m : Motion) (e : m ≡ read_motion a b (z + 28)) where
   refused : m ≡ Refused → Nowhere ≡ third_at (hits (Moving s t)) a b z
@@ -32,48 +31,18 @@ module _ (s t a b z : ℕ) (h : z ≤ 227) (m : Motion) (e : m ≡ read_motion a
       unfolding third_at hits is_motion
       there u = rw (le-ltb 227 z h, ← e, p, eq-eqb v.0 s q, eq-eqb d.0 t u)
 
-returns : tie.Need-returns
+pub returns-then-z-gt227 : goal.returns-then-z-gt227
 unfolding third_at
-returns c = search picks
+returns-then-z-gt227 c = search (rules, picks)
 
-add-d : tie.Need-overflow-add-d
-add-d c = search rules
+pub returns-then-speed-s : goal.returns-then-speed-s
+returns-then-speed-s c = search (rules, slow)
 
-cast-d : tie.Need-overflow-cast-d
-cast-d c = search rules
+pub returns-then-course-c : goal.returns-then-course-c
+returns-then-course-c c = search (rules, other)
 
-read-motion-requires : tie.Need-read-motion-requires
-read-motion-requires c κs = search rules
+pub returns-else-course-c : goal.returns-else-course-c
+returns-else-course-c c = search (rules, there)
 
-enum-known-read : tie.Need-enum-known-read
-enum-known-read c = search rules
-
-returns-2 : tie.Need-returns-2
-returns-2 c = search slow
-
-returns-3 : tie.Need-returns-3
-returns-3 c = search other
-
-enum_told : tie.Need-enum-told
-enum_told c = search rules
-
-returns-4 : tie.Need-returns-4
-returns-4 c = search there
-
-returns-5 : tie.Need-returns-5
-returns-5 c = search refused
-
-pub motion-at-spec : {M : Type 1} → statement M
-motion-at-spec =
-    tie.close
-    (tie.spec
-    returns
-    add-d
-    cast-d
-    read-motion-requires
-    enum-known-read
-    returns-2
-    returns-3
-    enum_told
-    returns-4
-    returns-5)
+pub returns-in-Refused : goal.returns-in-Refused
+returns-in-Refused c = search (rules, refused)

@@ -11,8 +11,7 @@ use Rattle.fields.specs.declared.Target.TheVariants.{Lying}
 use Rattle.fields.specs.declared.Third.TheVariants.{At, Nowhere}
 use Rattle.fields.proofs.Each.{cell_none, cell_one}
 use Rattle.fields.proofs.Hits.{Based, based_by, base_two, longitude_hit, hit_longitude}
-use Rattle.fields.proofs.third_longitude.Statement.{statement}
-use Rattle.fields.proofs.third_longitude.Tie as tie
+use Rattle.fields.proofs.third_longitude.Goals as goal
 
 module _ (m : ℕ) (hundred : Bool) (a b : ℕ) where
   nowhere : ((c : ℕ) → c < 256 → Lies m (offset_of hundred) a b c → ⊥) → fields_of a b Nowhere ≡ cell (hits (Lying m hundred)) a b
@@ -51,47 +50,17 @@ module _ (m : ℕ) (hundred : Bool) (a b : ℕ) where
           sym (cell_one _ a b (m - low + 28) (omega arith) (hit_longitude m hundred a b _ (lies k l))
           (λ c u t. let h = longitude_hit m hundred a b c t in omega (arith, sum c h, h.c_from)))
 
-returns : tie.Need-returns
-returns c = search over
+pub returns-then-m-gt1080000 : goal.returns-then-m-gt1080000
+returns-then-m-gt1080000 c = search (rules, over)
 
-base-of-requires : tie.Need-base-of-requires
-base-of-requires c κs = search rules
+pub returns-in_default : goal.returns-in_default
+returns-in_default c = search (rules, nothing)
 
-enum-known-base : tie.Need-enum-known-base
-enum-known-base c = search rules
+pub returns-then-m-low : goal.returns-then-m-low
+returns-then-m-low c = search (rules, past)
 
-enum_told : tie.Need-enum-told
-enum_told c = search rules
+pub returns-then-m-low-gt227 : goal.returns-then-m-low-gt227
+returns-then-m-low-gt227 c = search (rules, far)
 
-returns-2 : tie.Need-returns-2
-returns-2 c = search nothing
-
-returns-3 : tie.Need-returns-3
-returns-3 c = search past
-
-returns-4 : tie.Need-returns-4
-returns-4 c = search far
-
-add-t9 : tie.Need-overflow-add-t9
-add-t9 c = search rules
-
-cast-t10 : tie.Need-overflow-cast-t10
-cast-t10 c = search rules
-
-returns-5 : tie.Need-returns-5
-returns-5 c = search there
-
-pub third-longitude-spec : {M : Type 1} → statement M
-third-longitude-spec =
-    tie.close
-    (tie.spec
-    returns
-    base-of-requires
-    enum-known-base
-    enum_told
-    returns-2
-    returns-3
-    returns-4
-    add-t9
-    cast-t10
-    returns-5)
+pub returns : goal.returns
+returns c = search (rules, there)
