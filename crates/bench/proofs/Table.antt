@@ -62,8 +62,8 @@ LLLLLL = capital_l ∷ capital_l ∷ capital_l ∷ capital_l ∷ capital_l ∷ c
 abbrev 4LLLLL : List ℕ
 4LLLLL = digit 4 ∷ capital_l ∷ capital_l ∷ capital_l ∷ capital_l ∷ capital_l ∷ []
 
-abbrev N0_cALL : List ℕ
-N0_cALL = capital_n ∷ digit 0 ∷ capital_c ∷ capital_a ∷ capital_l ∷ capital_l ∷ []
+abbrev N0CALL : List ℕ
+N0CALL = capital_n ∷ digit 0 ∷ capital_c ∷ capital_a ∷ capital_l ∷ capital_l ∷ []
 
 abbrev address : List ℕ
 address = 0x9c ∷ 0x60 ∷ 0x86 ∷ 0x82 ∷ 0x98 ∷ 0x98 ∷ 0xe3 ∷ []
@@ -124,9 +124,9 @@ pub record BenchValues : Type 0 where
   pub p9 : (destination_number (read_destination LLLLLL) ≡ 11)
       × (read_destination 4LLLLL
       ≡ Read (record { latitude = record { 0 = neg_ℤ (pos 240000) }; message = Emergency; blanks = 5; south = true; hundred = false; west = false; sixty = false }))
-  -- "P10 hop N0_cALL_1, heard, last: 9c 60 86 82 98 98 e3."
-  pub p10 : (write_address (made N0_cALL (digit 1 ∷ [])) (Hop true) true ≡ record { refusal = 0; bytes = address })
-      × (read_address address ≡ record { refusal = 0; call = made N0_cALL (digit 1 ∷ []); heard = true; last = true })
+  -- "P10 hop N0CALL_1, heard, last: 9c 60 86 82 98 98 e3."
+  pub p10 : (write_address (made N0CALL (digit 1 ∷ [])) (Hop true) true ≡ record { refusal = 0; bytes = address })
+      × (read_address address ≡ record { refusal = 0; call = made N0CALL (digit 1 ∷ []); heard = true; last = true })
   -- "P11 hops A,B*,C: A and B heard, C not; written A,B*,C."
   pub p11 : (read_text_header line
       ≡ header_accepted (lone capital_s) (lone capital_t) (path_of heard_to_b) 11 2)

@@ -1,6 +1,6 @@
 -- The row of the listing for a line (document 01, 'Values for the bench'): "Output: line, answer, source, destination, hops,
 -- heard hops, latitude, longitude." "`-` is absent; an accepted empty callsign prints `.`." A refused line has no hops; a
--- Mic-E record has no destination. Document 02, R-5: line 2 "then answers `2 0 N0_cALL APRS 0 0 - -`": a message and a status line
+-- Mic-E record has no destination. Document 02, R-5: line 2 "then answers `2 0 N0CALL APRS 0 0 - -`": a message and a status line
 -- keep their destination and have no place, as the Unknown kind. Document 02, R-6: "the listing prints the outermost header", and
 -- the innermost body's place. R-7: a Q element is one of the hops, and never heard.
 -- Assumes nothing.
