@@ -1,6 +1,7 @@
 // A packet: the record of its header and body, read from a line of text or an AX.25 frame, and written as either. A body may hold
 // another packet, as text, and so on up to four: then the record has the innermost header and body beside the outermost header.
 #![tactic(auto)]
+
 ghost use Rattle.std.specs.Prelude.{◌≡◌, cond, ◌+◌, ◌^◌, ◌≤◌, ◌<◌, length, drop};
 ghost use Rattle.header.specs.Text.{read_header_text};
 ghost use Rattle.header.specs.Frame.{read_frame_header};
