@@ -1,0 +1,5 @@
+-- A frame read strictly, as C has it. Assumes nothing.
+use Rattle.boundary.proofs.tusselgro_read_frame_strictly.Goals as goal
+
+pub returns : goal.returns
+returns c = cc

@@ -1,0 +1,10 @@
+-- 15 for an unknown number, else what packet writes. Assumes nothing.
+use Rattle.boundary.proofs.Writing.{frame_unknown, frame_known}
+use borrow.Author.Rules.{rules}
+use Rattle.boundary.proofs.tusselgro_write_frame.Goals as goal
+
+pub returns-then-not-is_known : goal.returns-then-not-is_known
+returns-then-not-is_known c = search (rules, frame_unknown)
+
+pub returns : goal.returns
+returns c = search (rules, frame_known)
