@@ -2,6 +2,7 @@
 // numbers and records by value. A record is the library's own, but that an enum in it is a number. No function asks more of its
 // caller than its C type says. The parts of a packet have a library of their own, the crate parts.
 #![tactic(auto)]
+
 ghost use Rattle.std.specs.Prelude.{◌≡◌};
 ghost use Rattle.buffer.specs.Wrote.{ends, wrote};
 ghost use Rattle.lonlat.specs.Angle.{most_latitude, most_longitude};

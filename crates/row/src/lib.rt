@@ -1,5 +1,6 @@
 // The listing's row of a line, as bytes: its fields are put one behind the other into a buffer of its own.
 #![tactic(auto)]
+
 ghost use Rattle.std.specs.Prelude.{◌≡◌, [], ◌∷◌, ◌≤◌, length, take};
 ghost use Rattle.laws.specs.Bytes.{space};
 ghost use Rattle.buffer.specs.Wrote.{ends, wrote};
@@ -26,24 +27,24 @@ fn put_text(text: &[u8], after: u8, row: &mut [u8], at: usize) -> usize
 }
 
 fn put_count(n: usize, after: u8, row: &mut [u8], at: usize) -> usize
-    ensures result_after { filled row.new result ≡ added_all (filled row.old at) (digits n ∷ (after ∷ []) ∷ []) }
-    ensures n_len_bound { length (digits n) ≤ 20 }
+    ensures written { filled row.new result ≡ added_all (filled row.old at) (digits n ∷ (after ∷ []) ∷ []) }
+    ensures width { length (digits n) ≤ 20 }
 {
     let end = numbers::put_count(n, row, at);
     buffer::put_byte(after, row, end)
 }
 
 fn put_number(n: i32, after: u8, row: &mut [u8], at: usize) -> usize
-    ensures result_after { filled row.new result ≡ added_all (filled row.old at) (decimal n ∷ (after ∷ []) ∷ []) }
-    ensures n_len_bound { length (decimal n) ≤ 11 }
+    ensures written { filled row.new result ≡ added_all (filled row.old at) (decimal n ∷ (after ∷ []) ∷ []) }
+    ensures width { length (decimal n) ≤ 11 }
 {
     let end = numbers::put_number(n, row, at);
     buffer::put_byte(after, row, end)
 }
 
 fn put_call(c: Callsign, row: &mut [u8], at: usize) -> usize
-    ensures result_after { filled row.new result ≡ added_all (filled row.old at) (call_field c ∷ (space ∷ []) ∷ []) }
-    ensures c_len_bound { length (call_field c) ≤ 16 }
+    ensures written { filled row.new result ≡ added_all (filled row.old at) (call_field c ∷ (space ∷ []) ∷ []) }
+    ensures width { length (call_field c) ≤ 16 }
 {
     let n = callsign::text_len(c);
     if n == 0 {
@@ -55,8 +56,8 @@ fn put_call(c: Callsign, row: &mut [u8], at: usize) -> usize
 
 // The destination of the header that a body belongs to; a Mic-E body leaves it none.
 fn put_own_to(kind: Kind, to: Callsign, row: &mut [u8], at: usize) -> usize
-    ensures result_after { filled row.new result ≡ added_all (filled row.old at) (own_to_field kind to ∷ (space ∷ []) ∷ []) }
-    ensures to_len_bound { length (own_to_field kind to) ≤ 16 }
+    ensures written { filled row.new result ≡ added_all (filled row.old at) (own_to_field kind to ∷ (space ∷ []) ∷ []) }
+    ensures width { length (own_to_field kind to) ≤ 16 }
 {
     match kind {
         Kind::Unknown => put_call(to, row, at),
@@ -69,8 +70,8 @@ fn put_own_to(kind: Kind, to: Callsign, row: &mut [u8], at: usize) -> usize
 
 // The outermost destination: with a packet inside, the body is another header's.
 fn put_to(inner: u8, kind: Kind, to: Callsign, row: &mut [u8], at: usize) -> usize
-    ensures result_after { filled row.new result ≡ added_all (filled row.old at) (to_field inner kind to ∷ (space ∷ []) ∷ []) }
-    ensures to_len_bound { length (to_field inner kind to) ≤ 16 }
+    ensures written { filled row.new result ≡ added_all (filled row.old at) (to_field inner kind to ∷ (space ∷ []) ∷ []) }
+    ensures width { length (to_field inner kind to) ≤ 16 }
 {
     if inner == 0 {
         return put_own_to(kind, to, row, at);
@@ -102,8 +103,8 @@ fn heard(hops: [Hop; 8], count: usize) -> usize
 
 // The number of hops, and of heard ones.
 fn put_hops(path: Path, row: &mut [u8], at: usize) -> usize
-    ensures result_after { filled row.new result ≡ added_all (filled row.old at) (digits path.count ∷ (space ∷ []) ∷ digits (heard_hops path) ∷ (space ∷ []) ∷ []) }
-    ensures path_bound { width_of (digits path.count ∷ digits (heard_hops path) ∷ []) ≤ 42 }
+    ensures written { filled row.new result ≡ added_all (filled row.old at) (digits path.count ∷ (space ∷ []) ∷ digits (heard_hops path) ∷ (space ∷ []) ∷ []) }
+    ensures width { width_of (digits path.count ∷ digits (heard_hops path) ∷ []) ≤ 42 }
 {
     let hops = path.hops;
     let count = path.count;
@@ -113,8 +114,8 @@ fn put_hops(path: Path, row: &mut [u8], at: usize) -> usize
 
 // Latitude and longitude, the last fields of a row.
 fn put_angles(place: Place, row: &mut [u8], at: usize) -> usize
-    ensures result_after { filled row.new result ≡ added_all (filled row.old at) (spaced (angle_fields place)) }
-    ensures place_bound { width_of (angle_fields place) ≤ 24 }
+    ensures written { filled row.new result ≡ added_all (filled row.old at) (spaced (angle_fields place)) }
+    ensures width { width_of (angle_fields place) ≤ 24 }
 {
     let end = put_number(place.latitude.0, b' ', row, at);
     put_number(place.longitude.0, b'\n', row, end)
@@ -122,8 +123,8 @@ fn put_angles(place: Place, row: &mut [u8], at: usize) -> usize
 
 // The same, where the kind has a place: a position, timed or not, or Mic-E.
 fn put_place(kind: Kind, place: Place, row: &mut [u8], at: usize) -> usize
-    ensures result_after { filled row.new result ≡ added_all (filled row.old at) (spaced (place_fields kind place)) }
-    ensures place_bound { width_of (place_fields kind place) ≤ 24 }
+    ensures written { filled row.new result ≡ added_all (filled row.old at) (spaced (place_fields kind place)) }
+    ensures width { width_of (place_fields kind place) ≤ 24 }
 {
     match kind {
         Kind::Unknown => put_text(b"- -", b'\n', row, at),
@@ -136,8 +137,8 @@ fn put_place(kind: Kind, place: Place, row: &mut [u8], at: usize) -> usize
 
 // Source, destination and hops of the outermost header, and the body's place.
 fn put_record(r: Record, row: &mut [u8], at: usize) -> usize
-    ensures result_after { filled row.new result ≡ added_all (filled row.old at) (spaced (record_fields r)) }
-    ensures r_bound { width_of (record_fields r) ≤ 100 }
+    ensures written { filled row.new result ≡ added_all (filled row.old at) (spaced (record_fields r)) }
+    ensures width { width_of (record_fields r) ≤ 100 }
 {
     let header = r.header;
     let body = r.body;
@@ -152,8 +153,8 @@ fn put_record(r: Record, row: &mut [u8], at: usize) -> usize
 
 // The fields of a line's number and answer, at the front of row; they have 142 bytes at most.
 fn put_fields(number: usize, read: PacketRead, row: &mut [u8]) -> usize
-    ensures result_after { filled row.new result ≡ added_all (filled row.old 0) (spaced (row_fields number read)) }
-    ensures read_len_bound { length (row_of number read) ≤ 142 }
+    ensures written { filled row.new result ≡ added_all (filled row.old 0) (spaced (row_fields number read)) }
+    ensures width { length (row_of number read) ≤ 142 }
 {
     let mut end = put_count(number, b' ', row, 0);
     end = put_count(read.refusal as usize, b' ', row, end);
