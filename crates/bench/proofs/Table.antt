@@ -53,8 +53,8 @@ degrees d = d * 6000
 abbrev digit : ℕ → ℕ
 digit d = digit0 + d
 
-abbrev S32_u6_t : List ℕ
-S32_u6_t = capital_s ∷ digit 3 ∷ digit 2 ∷ capital_u ∷ digit 6 ∷ capital_t ∷ []
+abbrev S32U6T : List ℕ
+S32U6T = capital_s ∷ digit 3 ∷ digit 2 ∷ capital_u ∷ digit 6 ∷ capital_t ∷ []
 
 abbrev LLLLLL : List ℕ
 LLLLLL = capital_l ∷ capital_l ∷ capital_l ∷ capital_l ∷ capital_l ∷ capital_l ∷ []
@@ -117,8 +117,8 @@ pub record BenchValues : Type 0 where
   -- "P7 105 degrees east: written 113,88,28, offset 100."
   pub p7 : (longitude_out (pos (degrees 105)) ≡ false)
       × (longitude_field (degrees 105) ≡ bytes 113 88 28) × (hundred_of (pos (degrees 105)) ≡ true)
-  -- "P8 destination S32_u6_t: 200564, no blanks, M3, offset 0, west."
-  pub p8 : read_destination S32_u6_t
+  -- "P8 destination S32U6T: 200564, no blanks, M3, offset 0, west."
+  pub p8 : read_destination S32U6T
       ≡ Read (record { latitude = record { 0 = pos 200564 }; message = M3; blanks = 0; south = false; hundred = false; west = true; sixty = false })
   -- "P9 LLLLLL: 11; 4LLLLL: -240000, five blanks, Emergency."
   pub p9 : (destination_number (read_destination LLLLLL) ≡ 11)

@@ -22,9 +22,9 @@ use Rattle.mic_e.specs.declared.DestinationRead.TheVariants.{Read, Refused}
 abbrev field : ℕ → ℕ → ℕ → Field
 field a b c = record { first = a; second = b; third = c }
 
--- `S32_u6_t`, `LLLLLL`, `4LLLLL` and `0LLLLL`
-abbrev S32_u6_t : List ℕ
-S32_u6_t = capital_s ∷ 0x33 ∷ 0x32 ∷ capital_u ∷ 0x36 ∷ capital_t ∷ []
+-- `S32U6T`, `LLLLLL`, `4LLLLL` and `0LLLLL`
+abbrev S32U6T : List ℕ
+S32U6T = capital_s ∷ 0x33 ∷ 0x32 ∷ capital_u ∷ 0x36 ∷ capital_t ∷ []
 
 abbrev LLLLL : List ℕ
 LLLLL = capital_l ∷ capital_l ∷ capital_l ∷ capital_l ∷ capital_l ∷ []
@@ -38,7 +38,7 @@ pub record Cases : Type 0 where
   pub p6 : read_longitude true false 118 88 28 ≡ Lies (record { 0 = pos 0 })
   pub p7_field : longitude_field 630000 ≡ field 113 88 28
   pub p7_offset : hundred_of (pos 630000) ≡ true
-  pub p8 : read_destination S32_u6_t
+  pub p8 : read_destination S32U6T
       ≡ Read (record { latitude = record { 0 = pos 200564 }; message = M3; blanks = 0; south = false; hundred = false; west = true; sixty = false })
   pub p9_all_blank : read_destination (capital_l ∷ LLLLL) ≡ Refused
   pub p9_five_blank : read_destination (0x34 ∷ LLLLL)

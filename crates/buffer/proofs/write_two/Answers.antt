@@ -10,9 +10,5 @@ without_a_third : (limit : ℕ) (head tail out : List ℕ) (w : Wrote)
     → w ≡ wrote (over_by limit (head ++ (tail ++ []))) (head ++ (tail ++ [])) out → w ≡ wrote (over_by limit (head ++ tail)) (head ++ tail) out
 without_a_third limit head tail out w e = e ∙ ap (λ (l : List ℕ). wrote (over_by limit (head ++ l)) (head ++ l) out) (append-nil tail)
 
--- GONE slice-aggregate-write-three : tie.Need-slice-aggregate-write-three
--- GONE slice-aggregate-write-three c = search rules
--- GONE
-
 pub returns : goal.returns
 returns c = search (rules, without_a_third)

@@ -4,10 +4,6 @@ use Rattle.callsign.proofs.Writes.{with_star_lem, without_star, short_prefix}
 use Rattle.std.proofs.Common.{rules}
 use Rattle.callsign.proofs.write_starred.Goals as goal
 
--- GONE slice-aggregate-write-two-2 : tie.Need-slice-aggregate-write-two-2
--- GONE slice-aggregate-write-two-2 c = search rules
--- GONE
-
 pub slice_bounds-write_two-end : goal.slice_bounds-write_two-end
 slice_bounds-write_two-end c = search (rules, prefix_length)
 

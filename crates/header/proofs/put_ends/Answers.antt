@@ -3,10 +3,6 @@ use borrow.Author.Rules.{rules}
 use Rattle.header.proofs.Putting.{place_behind, place_first, three_put}
 use Rattle.header.proofs.put_ends.Goals as goal
 
--- GONE slice-aggregate-put-bytes : tie.Need-slice-aggregate-put-bytes
--- GONE slice-aggregate-put-bytes c = search rules
--- GONE
-
 pub put_bytes-mark-requires : goal.put_bytes-mark-requires
 put_bytes-mark-requires c = search (rules, place_first)
 

@@ -5,10 +5,6 @@ use Rattle.header.proofs.Last.{sought_calls}
 use Rattle.header.proofs.FrameWritten.{frame_put}
 use Rattle.header.proofs.put_frame.Goals as goal
 
--- GONE slice-aggregate-put-bytes : tie.Need-slice-aggregate-put-bytes
--- GONE slice-aggregate-put-bytes c = search rules
--- GONE
-
 pub put_hop_addresses-route-requires : goal.put_hop_addresses-route-requires
 put_hop_addresses-route-requires c = (search rules, search (rules, place_first_all), search (rules, sought_calls))
 

@@ -4,10 +4,6 @@ use Rattle.header.proofs.Putting.{place_behind_all, place_first_all}
 use Rattle.header.proofs.TextWritten.{text_put}
 use Rattle.header.proofs.put_text.Goals as goal
 
--- GONE slice-aggregate-put-bytes : tie.Need-slice-aggregate-put-bytes
--- GONE slice-aggregate-put-bytes c = search rules
--- GONE
-
 pub put_hops-route-requires : goal.put_hops-route-requires
 put_hops-route-requires c = (search rules, search (rules, place_first_all))
 

@@ -3,10 +3,6 @@ use Rattle.message.proofs.Writing.{identifier_none, identifier_over, identifier_
 use borrow.Author.Rules.{rules}
 use Rattle.message.proofs.write_identifier.Goals as goal
 
--- GONE slice-aggregate-write-two : tie.Need-slice-aggregate-write-two
--- GONE slice-aggregate-write-two c = search rules
--- GONE
-
 pub returns-then-identifier-eq0 : goal.returns-then-identifier-eq0
 returns-then-identifier-eq0 c = search (rules, identifier_none)
 

@@ -3,14 +3,6 @@ use Rattle.packet.proofs.Order.{too_many, body_is_out, headers_judged}
 use borrow.Author.Rules.{rules}
 use Rattle.packet.proofs.refused_inside.Goals as goal
 
--- GONE slice-aggregate-write : tie.Need-slice-aggregate-write
--- GONE slice-aggregate-write c = search rules
--- GONE
-
--- GONE slice-aggregate-write-2 : tie.Need-slice-aggregate-write-2
--- GONE slice-aggregate-write-2 c = search rules
--- GONE
-
 pub returns-then-r-gt-MOST_INNER : goal.returns-then-r-gt-MOST_INNER
 returns-then-r-gt-MOST_INNER c = search (rules, too_many)
 
