@@ -2,7 +2,7 @@
  * Tusselgro for C: APRS packets and their parts read and written, Mic-E fields listed, the bounds of a position.
  *
  * Link with the static libraries of the crates boundary (packets, fields, bounds) and parts (the parts of a packet), for
- * x86-64 Linux: `rt staticlib boundary` writes target/staticlib/libboundary.a, `rt staticlib parts` libparts.a beside it.
+ * x86-64 Linux: `tools/libraries` writes target/staticlib/libboundary.a, and libparts.a beside it.
  * They need only memcpy and memset of the C library. Every function is proved to end, to read only the bytes that it is
  * lent, and to change only the output bytes that it reports.
  */

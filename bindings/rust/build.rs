@@ -1,6 +1,6 @@
-// Tells cargo where the static libraries are: in the folder that TUSSELGRO_LIB names, or where `rt staticlib boundary` and
-// `rt staticlib parts` of this repository leave them; a relative folder counts from here. A build for another target than
-// the libraries' is refused by src/lib.rs.
+// Tells cargo where the static libraries are: in the folder that TUSSELGRO_LIB names, or where `tools/libraries` of this
+// repository leaves them; a relative folder counts from here. A build for another target than the libraries' is refused by
+// src/lib.rs.
 
 use std::path::Path;
 
@@ -16,7 +16,7 @@ fn main() {
         let archive = folder.join(format!("lib{library}.a"));
         if !archive.exists() {
             println!(
-                "cargo:warning=no {}: `rt staticlib {library}` builds it, and TUSSELGRO_LIB names its folder",
+                "cargo:warning=no {}: `tools/libraries` builds it, and TUSSELGRO_LIB names its folder",
                 archive.display()
             );
         }
