@@ -233,9 +233,6 @@ module _ (out : List ℕ) (from to : ℕ) where
   shift_past h k = rw (le-leb from to h, lt-leb to (length out) k)
 
   module _ (h : from ≤ to) (k : to ≤ length out) (i : ℕ) where
-    pub moved_length : i ≤ to - from → length (take i (drop from out) ++ drop i out) ≡ length out
-    moved_length l = omega (arith, length-append (take i (drop from out)) (drop i out), length-take-le i (drop from out) (omega (arith, length-drop from out)), length-drop i out)
-
     -- what is read at a turn is not overwritten yet
     ahead : i < to - from → get_or (take i (drop from out) ++ drop i out) (from + i) 0 ≡ get_or (drop from out) i 0
     ahead l =
