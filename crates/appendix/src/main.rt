@@ -2,23 +2,25 @@
 // program's arguments, or where there are none its standard input; a comma or the end of a line ends one. What is wrong or
 // fails is said on standard error, by a word at the start of the line that ./tusselgro turns into a status.
 #![tactic(auto)]
+
 ghost use Rattle.std.specs.Prelude.{◌≤◌, length};
 
 mod part;
 mod table;
 
+use std::io::{Error, Stdout};
 use stream::Whole;
 
 // Puts the settings to the front of input.
-fn gather(input: &mut [u8]) -> Whole {
-    if os::arg_count() < 2 {
-        return stream::gather(input);
+fn gather(rt: HostRuntime, input: &mut [u8]) -> Whole {
+    if !settings::is_given(rt, 1) {
+        return stream::gather(rt.stdin(), input);
     }
-    let held = settings::arguments(input);
+    let held = settings::arguments(rt, input);
     Whole {
         held,
         more: false,
-        failed: false,
+        failed: None,
     }
 }
 
@@ -44,17 +46,17 @@ fn filled(text: &[u8]) -> usize
     0
 }
 
-// Writes what is left of the page, or says that there was no setting; answers whether all could be written.
-fn finish(number: usize, out: &[u8], used: usize) -> bool {
+// Writes what is left of the page, or says that there was no setting; answers why some could not be written, if so.
+fn finish(to: Stdout, number: usize, out: &[u8], used: usize) -> Option<Error> {
     if number == 0 {
         io::write_all(2, b"usage: there is no setting\n");
-        return true;
+        return None;
     }
-    !stream::flush(out, used).lost
+    stream::flush(to, out, used).lost
 }
 
-// Writes the page of all settings; answers whether all could be written.
-fn print(s: &[u8], out: &mut [u8]) -> bool {
+// Writes the page of all settings; answers why some could not be written, if so.
+fn print(to: Stdout, s: &[u8], out: &mut [u8]) -> Option<Error> {
     let mut used: usize = 0;
     let mut number: usize = 0;
     let mut shown = false;
@@ -63,30 +65,30 @@ fn print(s: &[u8], out: &mut [u8]) -> bool {
         let end = end_of(s, from);
         let text = settings::bare(&s[from..end]);
         number += filled(text);
-        let left = stream::with_room(out, used);
-        if left.lost {
-            return false;
+        let left = stream::with_room(to, out, used);
+        if left.lost.is_some() {
+            return left.lost;
         }
         used = part::part(number, shown, text, out, left.used);
         shown = shown | (left.used < used);
         from = end + 1;
     }
-    finish(number, out, used)
+    finish(to, number, out, used)
 }
 
 // Prints the page of settings that are tidied.
-fn answer(s: &[u8]) {
+fn answer(to: Stdout, s: &[u8]) {
     let mut out = io::large_buffer();
-    if !print(s, &mut out) {
-        os::fail(b"unwritten");
+    if let Some(e) = print(to, s, &mut out) {
+        stream::fail(b"unwritten", e);
     }
 }
 
-fn main() {
+fn main(rt: HostRuntime) {
     let mut input = io::large_buffer();
-    let read = gather(&mut input);
-    if read.failed {
-        os::fail(b"unread");
+    let read = gather(rt, &mut input);
+    if let Some(e) = read.failed {
+        stream::fail(b"unread", e);
         return;
     }
     if read.held == 65536 {
@@ -94,5 +96,5 @@ fn main() {
         return;
     }
     settings::tidy(&mut input);
-    answer(lines::cut(&input, read.held));
+    answer(rt.stdout(), lines::cut(&input, read.held));
 }

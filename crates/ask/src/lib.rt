@@ -1,6 +1,7 @@
 // A record made by hand, its headers and its body, each by their words, and the identifier that goes with a message: part of the
 // programs inspect and bench. Words that make no part of it give one that is not good.
 #![tactic(auto)]
+
 use body::{Body, Kind, Report, Span};
 use callsign::Callsign;
 use header::{Header, Hop, Path};
@@ -11,46 +12,46 @@ use position::Place;
 use time::Time;
 use words::Bytes;
 
-#[derive(Drop)]
+#[derive(Clone, Copy)]
 struct CallWord {
     call: Callsign,
     good: bool,
 }
 
-#[derive(Drop)]
+#[derive(Clone, Copy)]
 struct HopWord {
     hop: Hop,
     good: bool,
 }
 
-#[derive(Drop)]
+#[derive(Clone, Copy)]
 pub struct HeaderWord {
     pub header: Header,
     pub good: bool,
 }
 
 // How many packets are inside, and the innermost header.
-#[derive(Drop)]
+#[derive(Clone, Copy)]
 pub struct InnerWord {
     pub innermost: Header,
     pub inner: u8,
     pub good: bool,
 }
 
-#[derive(Drop)]
+#[derive(Clone, Copy)]
 struct PlaceWord {
     place: Place,
     good: bool,
 }
 
-#[derive(Drop)]
+#[derive(Clone, Copy)]
 struct ReportWord {
     report: Report,
     good: bool,
 }
 
 // Which letters two words are, whether a record of their kind can hold them, and whether they are any.
-#[derive(Drop)]
+#[derive(Clone, Copy)]
 struct LettersWord {
     south: bool,
     west: bool,
@@ -58,14 +59,14 @@ struct LettersWord {
     good: bool,
 }
 
-#[derive(Drop)]
+#[derive(Clone, Copy)]
 struct TimeWord {
     time: Time,
     good: bool,
 }
 
 // Which addressee a word is, whether a record of its kind can hold it, and whether it is any.
-#[derive(Drop)]
+#[derive(Clone, Copy)]
 struct AddresseeWord {
     addressee: [u8; 9],
     held: bool,
@@ -73,20 +74,20 @@ struct AddresseeWord {
 }
 
 // A body; one that no record can hold is out of range, whatever else it has.
-#[derive(Drop)]
+#[derive(Clone, Copy)]
 pub struct BodyWord {
     pub body: Body,
     pub held: bool,
     pub good: bool,
 }
 
-#[derive(Drop)]
+#[derive(Clone, Copy)]
 enum KindWord {
     Is(Kind),
     Bad,
 }
 
-#[derive(Drop)]
+#[derive(Clone, Copy)]
 enum MessageWord {
     Is(Message),
     Bad,

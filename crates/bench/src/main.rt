@@ -2,9 +2,11 @@
 // the documents' values, the typesetter's traps, published examples, readings of open points, and recorded answers of the Rust.
 // What fails is said on standard error, by a word at the start of the line: `unread` or `unwritten`.
 #![tactic(auto)]
+
 mod line;
 mod tell;
 
+use std::io::{Error, Stdin, Stdout};
 use tell::Tally;
 
 // The answer to a question, at the front of out.
@@ -42,55 +44,55 @@ fn take(t: Tally, s: &[u8], out: &mut [u8]) -> Tally {
 }
 
 // The same once there is room for what it prints.
-fn turn(t: Tally, s: &[u8], out: &mut [u8]) -> Tally {
-    let o = stream::with_room(out, t.used);
+fn turn(to: Stdout, t: Tally, s: &[u8], out: &mut [u8]) -> Tally {
+    let o = stream::with_room(to, out, t.used);
     let mut u = t;
     u.used = o.used;
     u.lost = o.lost;
-    if o.lost {
+    if o.lost.is_some() {
         return u;
     }
     take(u, s, out)
 }
 
 // The totals, and all that is not written yet.
-fn finish(failed: bool, t: Tally, out: &mut [u8]) {
-    if failed {
-        os::fail(b"unread");
+fn finish(to: Stdout, failed: Option<Error>, t: Tally, out: &mut [u8]) {
+    if let Some(e) = failed {
+        stream::fail(b"unread", e);
         return;
     }
-    if t.lost {
-        os::fail(b"unwritten");
+    if let Some(e) = t.lost {
+        stream::fail(b"unwritten", e);
         return;
     }
     let used = tell::totals(t, out);
-    if stream::flush(out, used).lost {
-        os::fail(b"unwritten");
+    if let Some(e) = stream::flush(to, out, used).lost {
+        stream::fail(b"unwritten", e);
     }
 }
 
-fn run(input: &mut [u8], out: &mut [u8]) {
+fn run(from: Stdin, to: Stdout, input: &mut [u8], out: &mut [u8]) {
     let mut s = stream::start();
     let mut t = tell::none();
     let mut turns: u64 = 0xffff_ffff_ffff_ffff;
     while 0 < turns {
         turns -= 1;
-        s = stream::next(8192, input, s);
+        s = stream::next(from, 8192, input, s);
         if !s.line {
-            finish(s.failed, t, out);
+            finish(to, s.failed, t, out);
             return;
         }
-        t = turn(t, stream::in_hand(input, s), out);
-        if t.lost {
-            finish(false, t, out);
+        t = turn(to, t, stream::in_hand(input, s), out);
+        if t.lost.is_some() {
+            finish(to, None, t, out);
             return;
         }
     }
-    finish(s.failed, t, out);
+    finish(to, s.failed, t, out);
 }
 
-fn main() {
+fn main(rt: HostRuntime) {
     let mut input = io::large_buffer();
     let mut out = io::large_buffer();
-    run(&mut input, &mut out);
+    run(rt.stdin(), rt.stdout(), &mut input, &mut out);
 }

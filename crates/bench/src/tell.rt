@@ -1,13 +1,14 @@
 // What the program prints: a line for each value, and the totals.
+use std::io::Error;
 
-// How many values were as they should be, how many there were, how many bytes of the output are in use, and whether some could
-// not be written.
-#[derive(Drop)]
+// How many values were as they should be, how many there were, how many bytes of the output are in use, and why some could not
+// be written, if so.
+#[derive(Clone, Copy)]
 pub struct Tally {
     pub right: usize,
     pub all: usize,
     pub used: usize,
-    pub lost: bool,
+    pub lost: Option<Error>,
 }
 
 // What is known before the first value.
@@ -16,7 +17,7 @@ pub fn none() -> Tally {
         right: 0,
         all: 0,
         used: 0,
-        lost: false,
+        lost: None,
     }
 }
 

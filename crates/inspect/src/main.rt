@@ -2,6 +2,8 @@
 // standard error, by a word at the start of the line that ./tusselgro turns into a status: `unread` or `unwritten`.
 #![tactic(auto)]
 
+use std::io::{Error, Stdin, Stdout};
+
 // Puts the line that answers a request behind the first `at` bytes of out.
 fn answer(request: &[u8], out: &mut [u8], at: usize) -> usize {
     let end = requests::answer(request, false, out, at);
@@ -12,39 +14,39 @@ fn answer(request: &[u8], out: &mut [u8], at: usize) -> usize {
 }
 
 // Writes what is left once all requests are answered.
-fn finish(failed: bool, out: &[u8], used: usize) {
-    if failed {
-        os::fail(b"unread");
+fn finish(to: Stdout, failed: Option<Error>, out: &[u8], used: usize) {
+    if let Some(e) = failed {
+        stream::fail(b"unread", e);
         return;
     }
-    if stream::flush(out, used).lost {
-        os::fail(b"unwritten");
+    if let Some(e) = stream::flush(to, out, used).lost {
+        stream::fail(b"unwritten", e);
     }
 }
 
-fn run(input: &mut [u8], out: &mut [u8]) {
+fn run(from: Stdin, to: Stdout, input: &mut [u8], out: &mut [u8]) {
     let mut s = stream::start();
     let mut used: usize = 0;
     let mut turns: u64 = 0xffff_ffff_ffff_ffff;
     while 0 < turns {
         turns -= 1;
-        s = stream::next(4096, input, s);
+        s = stream::next(from, 4096, input, s);
         if !s.line {
-            finish(s.failed, out, used);
+            finish(to, s.failed, out, used);
             return;
         }
-        let o = stream::with_room(out, used);
-        if o.lost {
-            os::fail(b"unwritten");
+        let o = stream::with_room(to, out, used);
+        if let Some(e) = o.lost {
+            stream::fail(b"unwritten", e);
             return;
         }
         used = answer(stream::in_hand(input, s), out, o.used);
     }
-    finish(s.failed, out, used);
+    finish(to, s.failed, out, used);
 }
 
-fn main() {
+fn main(rt: HostRuntime) {
     let mut input = io::large_buffer();
     let mut out = io::large_buffer();
-    run(&mut input, &mut out);
+    run(rt.stdin(), rt.stdout(), &mut input, &mut out);
 }

@@ -1,6 +1,7 @@
 // The leaves asked: angles, callsigns, lists of fields and times, each with its answer in words. Part of the programs inspect and
 // bench.
 #![tactic(auto)]
+
 mod angles;
 mod callsigns;
 mod list;

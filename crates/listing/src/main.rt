@@ -2,23 +2,33 @@
 // strictly. What is wrong or fails is said on standard error, by a word at the start of the line that ./tusselgro turns into a status:
 // `refused`, `usage`, `unread` or `unwritten`.
 #![tactic(auto)]
+
 use lines::Line;
+use std::env::{Env, FillError};
+use std::io::{Error, Stdout};
 use stream::Output;
 
 // Puts the row of a line, which has 142 bytes at most, behind the first `used` bytes of out; those are written first where
 // little room is left.
-fn put_row(number: usize, line: &[u8], strict: bool, out: &mut [u8], used: usize) -> Output {
+fn put_row(
+    to: Stdout,
+    number: usize,
+    line: &[u8],
+    strict: bool,
+    out: &mut [u8],
+    used: usize,
+) -> Output {
     let mut text = [0u8; 142];
     let w = row::write_row(number, line, strict, &mut text);
-    let o = stream::with_room(out, used);
+    let o = stream::with_room(to, out, used);
     Output {
         used: buffer::put(lines::cut(&text, w.reported), out, o.used),
         lost: o.lost,
     }
 }
 
-// Writes the heading and the rows of all lines; answers whether all could be written.
-fn list(s: &[u8], strict: bool, out: &mut [u8]) -> bool {
+// Writes the heading and the rows of all lines; answers why some could not be written, if so.
+fn list(to: Stdout, s: &[u8], strict: bool, out: &mut [u8]) -> Option<Error> {
     let mut used = buffer::write(&row::HEADING, out).reported;
     let mut from: usize = 0;
     let mut number: usize = 0;
@@ -28,66 +38,71 @@ fn list(s: &[u8], strict: bool, out: &mut [u8]) -> bool {
             break;
         };
         number += 1;
-        let rows = put_row(number, &s[start..end], strict, out, used);
-        if rows.lost {
-            return false;
+        let rows = put_row(to, number, &s[start..end], strict, out, used);
+        if rows.lost.is_some() {
+            return rows.lost;
         }
         used = rows.used;
         from = next;
     }
-    !stream::flush(out, used).lost
+    stream::flush(to, out, used).lost
 }
 
 // Says that there is too much input: document 01's words alone on standard output.
-fn refuse() {
-    if io::write_all(1, b"too much input\n") {
-        io::write_all(2, b"refused: the input is over 65,536 bytes\n");
-        return;
+fn refuse(to: Stdout) {
+    match to.write_all(b"too much input\n") {
+        Ok(()) => {
+            io::write_all(2, b"refused: the input is over 65,536 bytes\n");
+        }
+        Err(e) => stream::fail(b"unwritten", e),
     }
-    os::fail(b"unwritten");
 }
 
 // Lists an input that was read whole.
-fn answer(input: &[u8], strict: bool) {
+fn answer(to: Stdout, input: &[u8], strict: bool) {
     let mut out = io::large_buffer();
-    if !list(input, strict, &mut out) {
-        os::fail(b"unwritten");
+    if let Some(e) = list(to, input, strict, &mut out) {
+        stream::fail(b"unwritten", e);
     }
 }
 
 // Reads the input, and lists it.
-fn read(strict: bool) {
+fn read(rt: HostRuntime, strict: bool) {
     let mut input = io::large_buffer();
-    let read = stream::read_all(&mut input);
-    if read.failed {
-        os::fail(b"unread");
+    let read = stream::read_all(rt.stdin(), &mut input);
+    if let Some(e) = read.failed {
+        stream::fail(b"unread", e);
         return;
     }
     if read.more {
-        refuse();
+        refuse(rt.stdout());
         return;
     }
-    answer(lines::cut(&input, read.held), strict);
+    answer(rt.stdout(), lines::cut(&input, read.held), strict);
 }
 
 // Whether the first argument is `--strict`.
-fn is_strict() -> bool {
+fn is_strict(rt: HostRuntime) -> bool {
     let mut word = [0u8; 8];
-    let n = os::arg(1, &mut word);
-    if os::errno() != 0 {
-        return false;
+    match rt.arg(1, &mut word) {
+        Ok(n) => check::same(lines::cut(&word, n), b"--strict"),
+        Err(_) => false,
     }
-    check::same(lines::cut(&word, n), b"--strict")
 }
 
-fn main() {
-    let words = os::arg_count();
-    if words < 2 {
-        read(false);
+// Whether there is an argument i.
+fn is_given(rt: HostRuntime, i: usize) -> bool {
+    let mut word = [0u8; 1];
+    !matches!(rt.arg(i, &mut word), Err(FillError::NotPresent))
+}
+
+fn main(rt: HostRuntime) {
+    if !is_given(rt, 1) {
+        read(rt, false);
         return;
     }
-    if (words == 2) & is_strict() {
-        read(true);
+    if !is_given(rt, 2) & is_strict(rt) {
+        read(rt, true);
         return;
     }
     io::write_all(2, b"usage: --strict is the only argument\n");

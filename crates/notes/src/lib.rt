@@ -1,6 +1,7 @@
 // What the page says of a setting beside its fields: the field that the standard's own writer sends; of a longitude the
 // destination that goes with it, and how else it is sent. Part of the program appendix.
 #![tactic(auto)]
+
 mod longitude;
 mod writer;
 

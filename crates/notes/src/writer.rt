@@ -23,7 +23,7 @@ pub fn motion(speed: Speed, course: Course) -> [u8; 3] {
 }
 
 // Whether the offset is 100 and the direction west; the writer sends no longitude of 180 degrees.
-#[derive(Drop)]
+#[derive(Clone, Copy)]
 pub enum Way {
     Sent(bool, bool),
     NotSent,

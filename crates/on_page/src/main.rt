@@ -2,9 +2,11 @@
 // arguments; the capture, at most 65,536 bytes, its standard input. What is wrong or fails is said on standard error, by a word
 // at the start of the line that ./tusselgro turns into a status.
 #![tactic(auto)]
+
 mod table;
 
 use settings::Setting;
+use std::io::Stdout;
 use verdict::Tally;
 
 // Says no where a packet is not on the page, or there is none.
@@ -19,33 +21,33 @@ fn judge(packets: usize, on_page: usize) {
 }
 
 // Writes what is left, the line that counts behind it, and judges.
-fn finish(t: Tally, out: &mut [u8]) {
+fn finish(to: Stdout, t: Tally, out: &mut [u8]) {
     let end = table::end(t, out);
-    if stream::flush(out, end).lost {
-        os::fail(b"unwritten");
+    if let Some(e) = stream::flush(to, out, end).lost {
+        stream::fail(b"unwritten", e);
         return;
     }
     judge(t.packets, t.on_page);
 }
 
 // Holds a capture against the page of a setting, whose fields are those of found.
-fn answer(asked: Setting, found: &[u8], capture: &[u8]) {
+fn answer(to: Stdout, asked: Setting, found: &[u8], capture: &[u8]) {
     let mut out = io::large_buffer();
     let used = table::begin(asked, &mut out);
-    let t = table::rows(verdict::page_of(asked), found, capture, &mut out, used);
-    if t.lost {
-        os::fail(b"unwritten");
+    let t = table::rows(to, verdict::page_of(asked), found, capture, &mut out, used);
+    if let Some(e) = t.lost {
+        stream::fail(b"unwritten", e);
         return;
     }
-    finish(t, &mut out);
+    finish(to, t, &mut out);
 }
 
 // Reads the capture, and holds it against the page.
-fn read(asked: Setting, found: &[u8]) {
+fn read(rt: HostRuntime, asked: Setting, found: &[u8]) {
     let mut input = io::large_buffer();
-    let s = stream::read_all(&mut input);
-    if s.failed {
-        os::fail(b"unread");
+    let s = stream::read_all(rt.stdin(), &mut input);
+    if let Some(e) = s.failed {
+        stream::fail(b"unread", e);
         return;
     }
     if s.more {
@@ -55,11 +57,11 @@ fn read(asked: Setting, found: &[u8]) {
         );
         return;
     }
-    answer(asked, found, lines::cut(&input, s.held));
+    answer(rt.stdout(), asked, found, lines::cut(&input, s.held));
 }
 
 // Finds the page of a setting.
-fn find(text: &[u8]) {
+fn find(rt: HostRuntime, text: &[u8]) {
     let asked = settings::read(text);
     let mut found = io::buffer();
     let listed = page::list(asked, &mut found);
@@ -67,11 +69,11 @@ fn find(text: &[u8]) {
         page::tell(1, text, asked);
         return;
     }
-    read(asked, verdict::first(&found, listed.reported));
+    read(rt, asked, verdict::first(&found, listed.reported));
 }
 
 // A single setting, and not none.
-fn start(text: &[u8]) {
+fn start(rt: HostRuntime, text: &[u8]) {
     if text.len() == 0 {
         io::write_all(2, b"usage: there is no setting\n");
         return;
@@ -80,16 +82,16 @@ fn start(text: &[u8]) {
         io::write_all(2, b"usage: one setting at a time\n");
         return;
     }
-    find(text);
+    find(rt, text);
 }
 
-fn main() {
+fn main(rt: HostRuntime) {
     let mut words = io::buffer();
-    let n = settings::arguments(&mut words);
+    let n = settings::arguments(rt, &mut words);
     if n == 4096 {
         io::write_all(2, b"usage: the setting is over 4,095 bytes\n");
         return;
     }
     settings::tidy(&mut words);
-    start(settings::bare(lines::cut(&words, n)));
+    start(rt, settings::bare(lines::cut(&words, n)));
 }

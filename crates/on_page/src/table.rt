@@ -1,6 +1,7 @@
 // The rows of a capture, what stands above them, and below them the line that counts.
 use lines::Line;
 use settings::Setting;
+use std::io::Stdout;
 use verdict::{Page, Tally};
 
 // Puts the setting and what stands over the columns to the front of out.
@@ -11,14 +12,14 @@ pub fn begin(asked: Setting, out: &mut [u8]) -> usize {
 }
 
 // Puts the rows of a capture behind the first `used` bytes of out. Stops where some could not be written.
-pub fn rows(page: Page, found: &[u8], s: &[u8], out: &mut [u8], used: usize) -> Tally {
+pub fn rows(to: Stdout, page: Page, found: &[u8], s: &[u8], out: &mut [u8], used: usize) -> Tally {
     let mut t = Tally {
         packets: 0,
         on_page: 0,
         others: 0,
         refused: 0,
         used,
-        lost: false,
+        lost: None,
     };
     let mut from: usize = 0;
     let mut number: usize = 0;
@@ -28,8 +29,8 @@ pub fn rows(page: Page, found: &[u8], s: &[u8], out: &mut [u8], used: usize) -> 
             return t;
         };
         number += 1;
-        t = verdict::line(page, found, number, &s[start..end], out, t);
-        if t.lost {
+        t = verdict::line(to, page, found, number, &s[start..end], out, t);
+        if t.lost.is_some() {
             return t;
         }
         from = next;

@@ -1,6 +1,7 @@
 // What the printed page of a setting and the check of a capture against it share: the fields of a setting, its heading, the
 // columns of a field, and what is wrong with a setting. Part of the programs appendix and on_page.
 #![tactic(auto)]
+
 mod field;
 mod title;
 mod wrong;

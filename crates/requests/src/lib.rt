@@ -1,6 +1,7 @@
 // Any function asked by a line of text, and its answer in words: part of the programs inspect and bench. An answer starts with a
 // number, 0 or the refusal's; words `name=value` follow, but for lists, bounds and rows.
 #![tactic(auto)]
+
 mod bounds;
 mod read;
 mod write;

@@ -1,29 +1,32 @@
 // The program's arguments, as one text.
+use std::env::{Env, FillError};
+
+// Whether there is an argument i.
+pub fn is_given(rt: HostRuntime, i: usize) -> bool {
+    let mut word = [0u8; 1];
+    !matches!(rt.arg(i, &mut word), Err(FillError::NotPresent))
+}
 
 // Puts argument i and a space behind the first `at` bytes of input. Where it does not fit, all of input counts as used.
-fn add(i: usize, input: &mut [u8], at: usize) -> usize {
+fn add(rt: HostRuntime, i: usize, input: &mut [u8], at: usize) -> usize {
     let most = input.len();
     if most < at {
         return most;
     }
-    let n = os::arg(i, &mut input[at..]);
-    if os::errno() != 0 {
-        return most;
+    match rt.arg(i, &mut input[at..]) {
+        Ok(n) => buffer::put_byte(b' ', input, at + n),
+        Err(_) => most,
     }
-    if most - at < n {
-        return most;
-    }
-    buffer::put_byte(b' ', input, at + n)
 }
 
 // Puts the arguments to the front of input; answers how many bytes they are.
-pub fn arguments(input: &mut [u8]) -> usize {
-    let count = os::arg_count();
+pub fn arguments(rt: HostRuntime, input: &mut [u8]) -> usize {
     let mut at: usize = 0;
-    let mut i: usize = 1;
-    while i < count {
-        at = add(i, input, at);
-        i += 1;
+    for i in 1..usize::MAX {
+        if !is_given(rt, i) {
+            return at;
+        }
+        at = add(rt, i, input, at);
     }
     at
 }

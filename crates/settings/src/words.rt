@@ -8,7 +8,7 @@ use numbers::Count;
 
 // A speed and course; a longitude, whether the offset is 100, and whether the direction is west; or words that are
 // neither, by what they begin with.
-#[derive(Drop)]
+#[derive(Clone, Copy)]
 pub enum Setting {
     Moving(Speed, Course),
     Lying(Longitude, bool, bool),
@@ -41,7 +41,7 @@ fn motion(s: &[u8]) -> Setting {
 }
 
 // The direction of a longitude, or that none is told.
-#[derive(Drop)]
+#[derive(Clone, Copy)]
 enum Side {
     East,
     West,

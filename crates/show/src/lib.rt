@@ -2,6 +2,7 @@
 // text= frame= letters= zeros= time= addressee= id= inner= inner-from= inner-to= inner-hops= inner-zeros=`. Part of the programs
 // inspect and bench.
 #![tactic(auto)]
+
 use body::{Body, Kind, Report, Span};
 use callsign::Callsign;
 use header::{Header, Hop, Path};

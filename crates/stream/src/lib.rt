@@ -1,12 +1,17 @@
 // Standard input, a line at a time and of any length, or whole; and standard output in parts. Part of programs.
 #![tactic(auto)]
+
+mod reason;
 mod whole;
 
+pub use reason::fail;
+use std::io::{Error, Read, Stdin, Stdout};
 pub use whole::{Whole, gather, read_all};
 
 // The line in hand, if there is one: where it starts in the buffer, and its length. What is held behind it goes from the place
-// `next` up to `held`. Passing: that is the rest of a line which was too long, and is passed over. Over: all was read.
-#[derive(Drop)]
+// `next` up to `held`. Passing: that is the rest of a line which was too long, and is passed over. Over: all was read. Failed: why
+// a read failed, if one did.
+#[derive(Clone, Copy)]
 pub struct Input {
     start: usize,
     len: usize,
@@ -16,7 +21,7 @@ pub struct Input {
     over: bool,
     ended: bool,
     pub line: bool,
-    pub failed: bool,
+    pub failed: Option<Error>,
 }
 
 // What is known before anything is read.
@@ -30,7 +35,7 @@ pub fn start() -> Input {
         over: false,
         ended: false,
         line: false,
-        failed: false,
+        failed: None,
     }
 }
 
@@ -57,7 +62,7 @@ fn take(s: Input, n: usize) -> Input {
 }
 
 // Moves what is held behind the line in hand to the front, and reads once behind it.
-fn fill(input: &mut [u8], s: Input) -> Input {
+fn fill(mut from: Stdin, input: &mut [u8], s: Input) -> Input {
     let mut t = s;
     let kept = buffer::shift(input, s.next, s.held);
     t.next = 0;
@@ -67,17 +72,21 @@ fn fill(input: &mut [u8], s: Input) -> Input {
     if input.len() <= kept {
         return t;
     }
-    let got = libc::read(0, &mut input[kept..]);
-    let n = io::count(got, input);
-    t.held = behind(kept, n, input.len());
-    t.over = n == 0;
-    t.failed = got < 0;
-    t.ended = t.failed;
+    match from.read(&mut input[kept..]) {
+        Ok(n) => {
+            t.held = behind(kept, n, input.len());
+            t.over = n == 0;
+        }
+        Err(e) => {
+            t.failed = Some(e);
+            t.ended = true;
+        }
+    }
     t
 }
 
 // Takes the next line in hand, one of more than `most` bytes as far as it is held, or reads once.
-fn step(most: usize, input: &mut [u8], s: Input) -> Input {
+fn step(from: Stdin, most: usize, input: &mut [u8], s: Input) -> Input {
     let rest = lines::tail(lines::cut(input, s.held), s.next);
     let n = laws::find(rest, b'\n');
     let all = rest.len();
@@ -97,20 +106,20 @@ fn step(most: usize, input: &mut [u8], s: Input) -> Input {
         t.passing = true;
         return t;
     }
-    fill(input, s)
+    fill(from, input, s)
 }
 
 // Takes the next line of standard input in hand; none at the end, or where a read failed. Of a line of more than `most` bytes
 // that many or more are taken, and the rest is passed over.
-pub fn next(most: usize, input: &mut [u8], s: Input) -> Input {
-    let mut t = step(most, input, s);
+pub fn next(from: Stdin, most: usize, input: &mut [u8], s: Input) -> Input {
+    let mut t = step(from, most, input, s);
     let mut turns: u64 = 0xffff_ffff_ffff_ffff;
     while 0 < turns {
         if t.line | t.ended {
             return t;
         }
         turns -= 1;
-        t = step(most, input, t);
+        t = step(from, most, input, t);
     }
     t
 }
@@ -120,28 +129,28 @@ pub fn in_hand(input: &[u8], s: Input) -> &[u8] {
     lines::cut(lines::tail(input, s.start), s.len)
 }
 
-// How many bytes of the output are in use, and whether some could not be written.
-#[derive(Drop)]
+// How many bytes of the output are in use, and why some could not be written, if so.
+#[derive(Clone, Copy)]
 pub struct Output {
     pub used: usize,
-    pub lost: bool,
+    pub lost: Option<Error>,
 }
 
 // Writes the first `used` bytes of out, which are none then.
-pub fn flush(out: &[u8], used: usize) -> Output {
-    let done = io::write_all(1, lines::cut(out, used));
+pub fn flush(to: Stdout, out: &[u8], used: usize) -> Output {
+    let done = to.write_all(lines::cut(out, used));
     Output {
         used: 0,
-        lost: !done,
+        lost: done.err(),
     }
 }
 
 // Writes what is in use where less than 24,576 bytes are free; no answer, and no line of the bench with its answer, takes more.
-pub fn with_room(out: &[u8], used: usize) -> Output {
+pub fn with_room(to: Stdout, out: &[u8], used: usize) -> Output {
     if used < out.len() {
         if 24576 <= out.len() - used {
-            return Output { used, lost: false };
+            return Output { used, lost: None };
         }
     }
-    flush(out, used)
+    flush(to, out, used)
 }

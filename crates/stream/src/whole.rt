@@ -1,46 +1,45 @@
 // Standard input read whole, and a read that fails told from its end.
+use std::io::{Error, Read, Stdin};
 
-// What was read: how many bytes, whether there is more, and whether a read failed.
-#[derive(Drop)]
+// What was read: how many bytes, whether there is more, and why a read failed, if one did.
+#[derive(Clone, Copy)]
 pub struct Whole {
     pub held: usize,
     pub more: bool,
-    pub failed: bool,
+    pub failed: Option<Error>,
 }
 
 // Reads once behind the bytes held.
-fn fill(input: &mut [u8], held: usize) -> Whole {
+fn fill(mut from: Stdin, input: &mut [u8], held: usize) -> Whole {
     let mut s = Whole {
         held,
         more: false,
-        failed: false,
+        failed: None,
     };
     if input.len() <= held {
         return s;
     }
-    let room = input.len() - held;
-    let got = libc::read(0, &mut input[held..]);
-    s.failed = got < 0;
-    let n = io::count(got, input);
-    if room < n {
-        return s;
+    match from.read(&mut input[held..]) {
+        Ok(n) => {
+            s.more = 0 < n;
+            s.held = held + n;
+        }
+        Err(e) => s.failed = Some(e),
     }
-    s.more = 0 < n;
-    s.held = held + n;
     s
 }
 
 // Reads until input is full, standard input ends or a read fails. Each turn reads a byte at least.
-pub fn gather(input: &mut [u8]) -> Whole {
+pub fn gather(from: Stdin, input: &mut [u8]) -> Whole {
     let mut s = Whole {
         held: 0,
         more: true,
-        failed: false,
+        failed: None,
     };
     let mut turns = input.len();
     while 0 < turns {
         turns -= 1;
-        s = fill(input, s.held);
+        s = fill(from, input, s.held);
         if !s.more {
             return s;
         }
@@ -49,25 +48,25 @@ pub fn gather(input: &mut [u8]) -> Whole {
 }
 
 // What stands behind an input of `room` bytes of which so many are held: something only if it is full.
-fn beyond(room: usize, held: usize) -> Whole {
+fn beyond(from: Stdin, room: usize, held: usize) -> Whole {
     let mut one = [0u8; 1];
     if held < room {
         return Whole {
             held: 0,
             more: false,
-            failed: false,
+            failed: None,
         };
     }
-    gather(&mut one)
+    gather(from, &mut one)
 }
 
 // Reads all of standard input, and looks whether there is more than input holds.
-pub fn read_all(input: &mut [u8]) -> Whole {
-    let read = gather(input);
-    let rest = beyond(input.len(), read.held);
+pub fn read_all(from: Stdin, input: &mut [u8]) -> Whole {
+    let read = gather(from, input);
+    let rest = beyond(from, input.len(), read.held);
     Whole {
         held: read.held,
         more: 0 < rest.held,
-        failed: read.failed | rest.failed,
+        failed: read.failed.or(rest.failed),
     }
 }

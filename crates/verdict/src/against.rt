@@ -3,7 +3,7 @@ use settings::Setting;
 
 // What a page asks of a packet beside its field: where that starts, counted from the type byte; and for a longitude the offset
 // and the direction.
-#[derive(Drop)]
+#[derive(Clone, Copy)]
 pub struct Page {
     pub field: usize,
     pub lying: bool,
@@ -67,7 +67,7 @@ fn is_under(page: Page, hundred: bool, west: bool) -> bool {
 }
 
 // What is said of a packet. Elsewhere: under the offset (whether it is 100) and the direction (whether it is west) of its own.
-#[derive(Drop)]
+#[derive(Clone, Copy)]
 pub enum Verdict {
     OnPage,
     NotOnPage,

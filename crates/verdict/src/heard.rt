@@ -4,7 +4,7 @@ use callsign::Callsign;
 use mic_e::DestinationRead;
 
 // A Mic-E packet is told by the place of its body, and by whether its destination says offset 100, and west.
-#[derive(Drop)]
+#[derive(Clone, Copy)]
 pub enum Heard {
     MicE(usize, bool, bool),
     Other,

@@ -1,5 +1,6 @@
 // The words of a request, and the pieces of an answer. Part of the programs inspect and bench.
 #![tactic(auto)]
+
 mod put;
 mod word;
 

@@ -4,14 +4,14 @@ ghost use Rattle.std.specs.Prelude.{◌≤◌};
 use numbers::Count;
 
 // How many bytes a text stands for, or a text that stands for none.
-#[derive(Drop)]
+#[derive(Clone, Copy)]
 pub enum Bytes {
     Are(usize),
     Bad,
 }
 
 // Two numbers that have no sign; good where both words are some.
-#[derive(Drop)]
+#[derive(Clone, Copy)]
 pub struct Counts {
     pub first: u32,
     pub second: u32,
