@@ -33,7 +33,7 @@ use Rattle.mic_e.specs.declared.LongitudeField.TheVariants.{Read as Lies}
 use Rattle.mic_e.specs.declared.DestinationRead.TheVariants.{Read}
 use Rattle.mic_e.proofs.Cases.{cases}
 use Rattle.header.specs.declared.Hop as hops
-use Rattle.header.specs.Hop.{q_aC, is_qName, heard_as, call_hop, q_hop, is_heard, is_qElement, heard_if}
+use Rattle.header.specs.Hop.{qAC, is_q_name, heard_as, call_hop, q_hop, is_heard, is_q_element, heard_if}
 use Rattle.header.specs.Header.{before, path_of, hops_of, header_of, header_accepted, unless_refused, with_hops}
 use Rattle.header.specs.Text.{on_first, fields, first_of, others_of, starts_q, hop_of, hop_named, read_hop, hop_then, text_hops, stars_of, carried, read_route, read_before, read_header_text, read_text_header, hops_text, route_text, header_text}
 
@@ -53,8 +53,8 @@ degrees d = d * 6000
 abbrev digit : ℕ → ℕ
 digit d = digit0 + d
 
-abbrev S32_u6_t : List ℕ
-S32_u6_t = capital_s ∷ digit 3 ∷ digit 2 ∷ capital_u ∷ digit 6 ∷ capital_t ∷ []
+abbrev S32U6T : List ℕ
+S32U6T = capital_s ∷ digit 3 ∷ digit 2 ∷ capital_u ∷ digit 6 ∷ capital_t ∷ []
 
 abbrev LLLLLL : List ℕ
 LLLLLL = capital_l ∷ capital_l ∷ capital_l ∷ capital_l ∷ capital_l ∷ capital_l ∷ []
@@ -62,8 +62,8 @@ LLLLLL = capital_l ∷ capital_l ∷ capital_l ∷ capital_l ∷ capital_l ∷ c
 abbrev 4LLLLL : List ℕ
 4LLLLL = digit 4 ∷ capital_l ∷ capital_l ∷ capital_l ∷ capital_l ∷ capital_l ∷ []
 
-abbrev N0_cALL : List ℕ
-N0_cALL = capital_n ∷ digit 0 ∷ capital_c ∷ capital_a ∷ capital_l ∷ capital_l ∷ []
+abbrev N0CALL : List ℕ
+N0CALL = capital_n ∷ digit 0 ∷ capital_c ∷ capital_a ∷ capital_l ∷ capital_l ∷ []
 
 abbrev address : List ℕ
 address = 0x9c ∷ 0x60 ∷ 0x86 ∷ 0x82 ∷ 0x98 ∷ 0x98 ∷ 0xe3 ∷ []
@@ -72,9 +72,9 @@ address = 0x9c ∷ 0x60 ∷ 0x86 ∷ 0x82 ∷ 0x98 ∷ 0x98 ∷ 0xe3 ∷ []
 abbrev line : List ℕ
 line = capital_s ∷ greater ∷ capital_t ∷ comma ∷ capital_a ∷ comma ∷ capital_b ∷ star ∷ comma ∷ capital_c ∷ colon ∷ []
 
--- `S>T,A,q_aC,B*,C:`
-abbrev line_past_Q : List ℕ
-line_past_Q = capital_s ∷ greater ∷ capital_t ∷ comma ∷ capital_a ∷ comma ∷ q_aC ++ comma ∷ capital_b ∷ star ∷ comma ∷ capital_c ∷ colon ∷ []
+-- `S>T,A,qAC,B*,C:`
+abbrev line_past_q : List ℕ
+line_past_q = capital_s ∷ greater ∷ capital_t ∷ comma ∷ capital_a ∷ comma ∷ qAC ++ comma ∷ capital_b ∷ star ∷ comma ∷ capital_c ∷ colon ∷ []
 
 -- a callsign of one letter, and a hop that is one
 abbrev lone : ℕ → Callsign
@@ -84,12 +84,12 @@ abbrev hop : ℕ → Bool → hops.Hop
 hop letter heard = call_hop (lone letter) heard
 
 -- A and B heard, C not
-abbrev heard_to_B : List hops.Hop
-heard_to_B = hop capital_a true ∷ hop capital_b true ∷ hop capital_c false ∷ []
+abbrev heard_to_b : List hops.Hop
+heard_to_b = hop capital_a true ∷ hop capital_b true ∷ hop capital_c false ∷ []
 
 -- the same with a Q element behind A
-abbrev heard_past_Q : List hops.Hop
-heard_past_Q = hop capital_a true ∷ q_hop q_aC ∷ hop capital_b true ∷ hop capital_c false ∷ []
+abbrev heard_past_q : List hops.Hop
+heard_past_q = hop capital_a true ∷ q_hop qAC ∷ hop capital_b true ∷ hop capital_c false ∷ []
 
 -- `ddmm.hhN` by its digits
 abbrev north : ℕ → ℕ → ℕ → ℕ → ℕ → ℕ → List ℕ
@@ -117,24 +117,24 @@ pub record BenchValues : Type 0 where
   -- "P7 105 degrees east: written 113,88,28, offset 100."
   pub p7 : (longitude_out (pos (degrees 105)) ≡ false)
       × (longitude_field (degrees 105) ≡ bytes 113 88 28) × (hundred_of (pos (degrees 105)) ≡ true)
-  -- "P8 destination S32_u6_t: 200564, no blanks, M3, offset 0, west."
-  pub p8 : read_destination S32_u6_t
+  -- "P8 destination S32U6T: 200564, no blanks, M3, offset 0, west."
+  pub p8 : read_destination S32U6T
       ≡ Read (record { latitude = record { 0 = pos 200564 }; message = M3; blanks = 0; south = false; hundred = false; west = true; sixty = false })
   -- "P9 LLLLLL: 11; 4LLLLL: -240000, five blanks, Emergency."
   pub p9 : (destination_number (read_destination LLLLLL) ≡ 11)
       × (read_destination 4LLLLL
       ≡ Read (record { latitude = record { 0 = neg_ℤ (pos 240000) }; message = Emergency; blanks = 5; south = true; hundred = false; west = false; sixty = false }))
-  -- "P10 hop N0_cALL_1, heard, last: 9c 60 86 82 98 98 e3."
-  pub p10 : (write_address (made N0_cALL (digit 1 ∷ [])) (Hop true) true ≡ record { refusal = 0; bytes = address })
-      × (read_address address ≡ record { refusal = 0; call = made N0_cALL (digit 1 ∷ []); heard = true; last = true })
+  -- "P10 hop N0CALL-1, heard, last: 9c 60 86 82 98 98 e3."
+  pub p10 : (write_address (made N0CALL (digit 1 ∷ [])) (Hop true) true ≡ record { refusal = 0; bytes = address })
+      × (read_address address ≡ record { refusal = 0; call = made N0CALL (digit 1 ∷ []); heard = true; last = true })
   -- "P11 hops A,B*,C: A and B heard, C not; written A,B*,C."
   pub p11 : (read_text_header line
-      ≡ header_accepted (lone capital_s) (lone capital_t) (path_of heard_to_B) 11 2)
+      ≡ header_accepted (lone capital_s) (lone capital_t) (path_of heard_to_b) 11 2)
       × (header_text (read_text_header line).header ≡ line)
   -- document 02, R-7: "passed over when stars are carried back. In text it is written at its place"
-  pub p11_past_Q : (read_text_header line_past_Q
-      ≡ header_accepted (lone capital_s) (lone capital_t) (path_of heard_past_Q) 15 4)
-      × (header_text (read_text_header line_past_Q).header ≡ line_past_Q)
+  pub p11_past_q : (read_text_header line_past_q
+      ≡ header_accepted (lone capital_s) (lone capital_t) (path_of heard_past_q) 15 4)
+      × (header_text (read_text_header line_past_q).header ≡ line_past_q)
   -- "P12 9000.00N and 8960.00N: 540000; 9000.01N: 8."
   pub p12 : (read_latitude (north 9 0 0 0 0 0) ≡ at_north 540000 false)
       × (read_latitude (north 8 9 6 0 0 0) ≡ at_north 540000 true)
@@ -143,22 +143,22 @@ pub record BenchValues : Type 0 where
 -- ---- the theorem
 
 p11_read_lem : read_text_header line
-    ≡ header_accepted (lone capital_s) (lone capital_t) (path_of heard_to_B) 11 2
-unfolding read_text_header read_header_text read_before read_route with_hops unless_refused header_accepted header_of path_of fields on_first first_of others_of text_hops hop_then before read_hop starts_q hop_of read_text read_unstarred parted call_accepted index_of utf8 characters after within is_zero made joined pad_to carried stars_of bit any_of is_heard is_qElement heard_if heard_as call_hop
+    ≡ header_accepted (lone capital_s) (lone capital_t) (path_of heard_to_b) 11 2
+unfolding read_text_header read_header_text read_before read_route with_hops unless_refused header_accepted header_of path_of fields on_first first_of others_of text_hops hop_then before read_hop starts_q hop_of read_text read_unstarred parted call_accepted index_of utf8 characters after within is_zero made joined pad_to carried stars_of bit any_of is_heard is_q_element heard_if heard_as call_hop
 p11_read_lem = refl
 
-p11_written_lem : header_text (header_of (lone capital_s) (lone capital_t) (path_of heard_to_B)) ≡ line
+p11_written_lem : header_text (header_of (lone capital_s) (lone capital_t) (path_of heard_to_b)) ≡ line
 unfolding header_text route_text header_of path_of hops_of hops_text any_of is_heard heard_as call_hop text_of call_part ssid_part with_star made joined pad_to
 p11_written_lem = refl
 
-past_Q_read : read_text_header line_past_Q
-    ≡ header_accepted (lone capital_s) (lone capital_t) (path_of heard_past_Q) 15 4
-unfolding read_text_header read_header_text read_before read_route with_hops unless_refused header_accepted header_of path_of fields on_first first_of others_of text_hops hop_then before read_hop starts_q is_qName same_bytes hop_named q_hop hop_of read_text read_unstarred parted call_accepted index_of utf8 characters after within is_zero made joined pad_to carried stars_of bit any_of is_heard is_qElement heard_if heard_as call_hop
-past_Q_read = refl
+past_q_read : read_text_header line_past_q
+    ≡ header_accepted (lone capital_s) (lone capital_t) (path_of heard_past_q) 15 4
+unfolding read_text_header read_header_text read_before read_route with_hops unless_refused header_accepted header_of path_of fields on_first first_of others_of text_hops hop_then before read_hop starts_q is_q_name same_bytes hop_named q_hop hop_of read_text read_unstarred parted call_accepted index_of utf8 characters after within is_zero made joined pad_to carried stars_of bit any_of is_heard is_q_element heard_if heard_as call_hop
+past_q_read = refl
 
-past_Q_written : header_text (header_of (lone capital_s) (lone capital_t) (path_of heard_past_Q)) ≡ line_past_Q
+past_q_written : header_text (header_of (lone capital_s) (lone capital_t) (path_of heard_past_q)) ≡ line_past_q
 unfolding header_text route_text header_of path_of hops_of hops_text any_of is_heard heard_as call_hop q_hop text_of call_part ssid_part with_star made joined pad_to
-past_Q_written = refl
+past_q_written = refl
 
 pub bench_values : BenchValues
 unfolding course less_if motion_number motion_out longitude_out destination_number latitude_number header_accepted
@@ -175,6 +175,6 @@ bench_values =
       p9 = (rw cases.p9_all_blank, cases.p9_five_blank);
       p10 = (P10, p10_read);
       p11 = (p11_read_lem, rw p11_read_lem p11_written_lem);
-      p11_past_Q = (past_Q_read, rw past_Q_read past_Q_written);
+      p11_past_q = (past_q_read, rw past_q_read past_q_written);
       p12 = (ninety_degrees, sixty_minutes, rw past_ninety);
     }

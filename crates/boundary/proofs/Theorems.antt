@@ -37,14 +37,14 @@ pub known_in_c : (r : Record) → is_known (record_in_c r).body ≡ true
 unfolding is_known record_in_c body_in_c report_in_c
 known_in_c r = rw ((kind_kept r.body.kind).1, (message_kept r.body.report.message).1)
 
-abbrev pub no_call_lem : Callsign
-no_call_lem = record { text = replicate 16 0; call_len = 0; ssid_len = 0; had_zero_ssid = false }
+abbrev pub no_call : Callsign
+no_call = record { text = replicate 16 0; call_len = 0; ssid_len = 0; had_zero_ssid = false }
 
 abbrev pub no_hop : Hop
-no_hop = record { call = no_call_lem; kind = 0 }
+no_hop = record { call = no_call; kind = 0 }
 
 abbrev pub no_header : Header
-no_header = record { from = no_call_lem; to = no_call_lem; path = record { hops = replicate 8 no_hop; count = 0 } }
+no_header = record { from = no_call; to = no_call; path = record { hops = replicate 8 no_hop; count = 0 } }
 
 -- every byte of a record, number by number, 0
 abbrev pub all_zero : CRecord

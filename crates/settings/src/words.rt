@@ -98,8 +98,8 @@ fn angle(size: u32, west: bool) -> Longitude {
 }
 
 fn least(a: u32, b: u32) -> u32
-    ensures upper_bound { result ≤ a }
-    ensures upper_bound_2 { result ≤ b }
+    ensures at_most_a { result ≤ a }
+    ensures at_most_b { result ≤ b }
 {
     if a < b { a } else { b }
 }
