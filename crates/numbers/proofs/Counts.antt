@@ -1,6 +1,6 @@
 -- Laws of numbers read: one digit more at a time, a number that grows past the most, and a dash before it.
 -- Assumes nothing.
-use Rattle.std.specs.Prelude.{Option, Some, None, Result, Ok, Err}
+use Rattle.std.specs.Prelude.{Option, Result, Ok, Err}
 use Rattle.std.proofs.Common.{ℤ, ◌≡◌, ℕ, ◌+◌, ◌-◌, ◌*◌, ◌%◌, ◌^◌, ◌<◌, ◌≤◌, Bool, true, false, cond, eqb, leb, List, [], ◌∷◌, ◌++◌, length, get_or, drop, sym, refl, ◌∙◌, arith, drop_of_length-le, eq-eqb, ne_eqb, le-leb, leb-true}
 use borrow.Author.Tests.{lt-leb}
 use Rattle.laws.specs.Bytes.{dash, digit0, digit9, is_digit}
@@ -9,7 +9,6 @@ use Rattle.laws.proofs.Lists.{next}
 use Rattle.laws.proofs.Each.{every_more, every_not, every_end, every_at}
 use Rattle.laws.proofs.Tests.{within_low, within_high}
 use Rattle.laws.proofs.Classes.{in_class, not_in_class, class_place}
-use Rattle.numbers.specs.Sign.{number_on}
 use Rattle.numbers.specs.Numbers.{number_after, number_of}
 use Rattle.numbers.specs.declared.CountError.{CountError}
 use Rattle.numbers.specs.declared.CountError.TheVariants.{Over, Malformed}

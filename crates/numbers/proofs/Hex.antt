@@ -1,12 +1,10 @@
 -- Laws of hexadecimal digits, and that a digit written reads back.
 -- Assumes nothing.
-use Rattle.std.specs.Prelude.{Option, Some, None, Result, Ok, Err}
-use Rattle.std.proofs.Common.{Bool, false, T, eqb, eqb→eq, ap, ◌≡◌, ℕ, ◌+◌, ◌-◌, ◌/◌, ◌%◌, ◌^◌, ◌<◌, ◌≤◌, [], ◌∷◌, ap₂, arith, le-ltb, lt-ltb}
+use Rattle.std.specs.Prelude.{Option, Some, None}
+use Rattle.std.proofs.Common.{Bool, false, T, eqb, eqb→eq, ap, ◌≡◌, ℕ, ◌+◌, ◌-◌, ◌/◌, ◌%◌, ◌<◌, ◌≤◌, [], ◌∷◌, ap₂, le-ltb, lt-ltb}
 use Rattle.laws.specs.Bytes.{digit0, small_a, within}
-use Rattle.laws.proofs.Classes.{in_class, not_in_class, class_place}
 use Rattle.laws.proofs.Every.{all_at}
-use Rattle.numbers.specs.Numbers.{hex_digit, hex_pair, hex_value, small_f}
-use Rattle.numbers.proofs.Counts.{digit_yes, digit_no, digit_value}
+use Rattle.numbers.specs.Numbers.{hex_digit, hex_pair, hex_value}
 
 module _ (n : ℕ) where
   pub digit_low : n % 16 < 10 → digit0 + n % 16 ≡ hex_digit n

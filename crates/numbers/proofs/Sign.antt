@@ -1,13 +1,13 @@
 -- Numbers put together and taken apart. First the laws of a side and a size that callers cite, then the machine's signed
 -- numbers: an `i32` is made and taken apart by way of an `i64`.
 -- Assumes nothing.
-use Rattle.std.specs.Prelude.{Option, Some, None, Result, Ok, Err}
-use Rattle.std.proofs.Common.{le-ltb, ◌≡◌, ℕ, zero, suc, ◌<◌, ◌≤◌, Bool, true, false, T, ℤ, pos, negsuc, ◌-ℤ◌, neg_ℤ, nat_abs, sym, refl, ap, ◌∙◌, subst, arith, to_z-of_z, w32, w64, Fits, SFits, to_z, of_z, ltb-true, le-leb}
+use Rattle.std.specs.Prelude.{Option, Some, None}
+use Rattle.std.proofs.Common.{le-ltb, ◌≡◌, ℕ, zero, suc, ◌<◌, ◌≤◌, Bool, true, false, ℤ, pos, negsuc, ◌-ℤ◌, neg_ℤ, nat_abs, sym, refl, ap, ◌∙◌, subst, arith, to_z-of_z, w32, w64, SFits, to_z, of_z, le-leb}
 use mathlib.Core.Bool.{false≢true}
 use borrow.Author.Tests.{lt-leb}
 use lib.IntN.{+ℤ_idl}
-use lib.Signed.{lt_z, le_z, non_neg}
-use mir.Facts.{to_z_pos, sfits_widen, Fits-nat_abs}
+use lib.Signed.{lt_z, le_z}
+use mir.Facts.{to_z_pos}
 use Rattle.numbers.specs.Sign.{signed_of, most_on, number_on, is_minus, is_on, sides_of}
 use Rattle.numbers.specs.declared.Sides.{Sides}
 
