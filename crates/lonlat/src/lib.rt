@@ -10,8 +10,6 @@ ghost use Rattle.numbers.specs.Numbers.{digit_of};
 ghost use Rattle.lonlat.specs.Latitude.{is_blank, kept_of, latitude_in, read_latitude, blanked_places, latitude_text, latitude_refusal};
 ghost use Rattle.lonlat.specs.Longitude.{longitude_in, read_longitude, longitude_text, longitude_refusal};
 
-use std::num::wrapping_sub_u8;
-
 // A latitude: signed hundredths of a minute, north positive.
 #[repr(C)]
 #[derive(Clone, Copy)]
@@ -47,11 +45,10 @@ fn value(t: &[u8]) -> Option<Size>
 {
     let mut v: u32 = 0;
     for &b in t {
-        let digit = wrapping_sub_u8(b, b'0');
-        if 9 < digit {
+        if !b.is_ascii_digit() {
             return None;
         }
-        v = 10 * v + u32::from(digit);
+        v = 10 * v + u32::from(b - b'0');
     }
     Some(Size {
         hundredths: 6000 * (v / 10000) + v % 10000,
