@@ -28,7 +28,6 @@ use Rattle.parts.specs.declared.CLongitudeRead.{CLongitudeRead}
 use Rattle.parts.specs.declared.CTimeRead.{CTimeRead}
 use Rattle.parts.specs.declared.CDestinationRead.{CDestinationRead}
 use Rattle.parts.specs.declared.CInformationRead.{CInformationRead}
-use Rattle.parts.specs.declared.CStatusRead.{CStatusRead}
 
 -- ---- callsigns and addresses
 
@@ -65,10 +64,14 @@ longitude_in_c (Err OutOfRange) = no_longitude (longitude_number (Err OutOfRange
 
 -- ---- times
 
+-- a time that was read, or none and that refusal
+unfoldable pub time_or : ℕ → Option Time → CTimeRead
+time_or n (Some t) = record { time = t; refusal = 0 }
+time_or n None = record { time = no_time; refusal = n }
+
 -- the time that was read, or none
 unfoldable pub time_in_c : Option Time → CTimeRead
-time_in_c (Some t) = record { time = t; refusal = time_number (Some t) }
-time_in_c None = record { time = no_time; refusal = time_number None }
+time_in_c read = time_or (time_number None) read
 
 -- ---- Mic-E
 
@@ -126,6 +129,5 @@ unfoldable pub message_refusal_for : List ℕ → List ℕ → List ℕ → ℕ
 message_refusal_for addressee text identifier = cond (eqb (length addressee) addressee_bytes) (message_refusal text identifier) 18
 
 -- the time of a status, or none
-unfoldable pub status_in_c : Option Time → CStatusRead
-status_in_c (Some t) = record { time = t; refusal = status_number (Some t) }
-status_in_c None = record { time = no_time; refusal = status_number None }
+unfoldable pub status_in_c : Option Time → CTimeRead
+status_in_c read = time_or (status_number None) read

@@ -16,7 +16,7 @@ ghost use Rattle.mic_e.specs.Destination.{read_destination};
 ghost use Rattle.mic_e.specs.Information.{read_information, information_refusal, information_bytes};
 ghost use Rattle.message.specs.Message.{addressee_bytes, read_message, message_text};
 ghost use Rattle.message.specs.Status.{read_status, status_refusal, status_text};
-ghost use Rattle.parts.specs.Parts.{field_at, address_for, latitude_in_c, no_longitude, longitude_in_c, time_in_c, destination_in_c, destination_for, information_in_c, message_refusal_for, status_in_c};
+ghost use Rattle.parts.specs.Parts.{field_at, address_for, latitude_in_c, no_longitude, longitude_in_c, time_or, time_in_c, destination_in_c, destination_for, information_in_c, message_refusal_for, status_in_c};
 
 use callsign::{AddressRead, AddressWritten, CallRead, Callsign, Field};
 use lonlat::{Latitude, LatitudeRead, Longitude, LongitudeError, LongitudeRead};
@@ -193,7 +193,7 @@ pub extern "C" fn tusselgro_write_longitude(longitude: i32, out: &mut [u8]) -> b
     lonlat::write_longitude(Longitude(longitude), out)
 }
 
-// What reading a time gives: 0 and the time, or the refusal's number and zeros.
+// What reading a time or a status gives: 0 and the time, of a status or none, or the refusal's number and zeros.
 #[repr(C)]
 #[derive(Clone, Copy)]
 pub struct CTimeRead {
@@ -201,27 +201,27 @@ pub struct CTimeRead {
     pub refusal: u8,
 }
 
-impl From<Option<Time>> for CTimeRead {
-    ghost from_gives = { λ read c. c ≡ time_in_c read };
-
-    #[tactic(auto, unfolding(crate::specs::Parts::time_in_c, time::specs::Time::time_number))]
-    fn from(read: Option<Time>) -> CTimeRead {
-        match read {
-            Some(time) => CTimeRead { time, refusal: 0 },
-            None => CTimeRead {
-                time: time::blank(),
-                refusal: 17,
-            },
-        }
+// A time that was read, or that refusal.
+#[tactic(auto, unfolding(crate::specs::Parts::time_or))]
+fn time_or(refusal: u8, read: Option<Time>) -> CTimeRead
+    ensures { result ≡ time_or refusal read }
+{
+    match read {
+        Some(time) => CTimeRead { time, refusal: 0 },
+        None => CTimeRead {
+            time: time::blank(),
+            refusal,
+        },
     }
 }
 
 // Reads the seven bytes of a time; refused with 17.
+#[tactic(auto, unfolding(crate::specs::Parts::time_in_c))]
 #[unsafe(no_mangle)]
 pub extern "C" fn tusselgro_read_time(text: &[u8]) -> CTimeRead
     ensures { result ≡ time_in_c (read_time text.now) }
 {
-    CTimeRead::from(time::read_time(text))
+    time_or(17, time::read_time(text))
 }
 
 // Writes the seven bytes of a time, or none where there is no time; refused with 15 or 16.
@@ -418,35 +418,13 @@ pub extern "C" fn tusselgro_write_message(
     message::write_message(nine(addressee), text, identifier, out)
 }
 
-// What reading a status gives: 0 and its time, or none; or the refusal's number and zeros.
-#[repr(C)]
-#[derive(Clone, Copy)]
-pub struct CStatusRead {
-    pub time: Time,
-    pub refusal: u8,
-}
-
-impl From<Option<Time>> for CStatusRead {
-    ghost from_gives = { λ read c. c ≡ status_in_c read };
-
-    #[tactic(auto, unfolding(crate::specs::Parts::status_in_c, message::specs::Status::status_number))]
-    fn from(read: Option<Time>) -> CStatusRead {
-        match read {
-            Some(time) => CStatusRead { time, refusal: 0 },
-            None => CStatusRead {
-                time: time::blank(),
-                refusal: 18,
-            },
-        }
-    }
-}
-
 // Reads a status from the byte behind its type byte on; its text is what follows the time. Refused with 18.
+#[tactic(auto, unfolding(crate::specs::Parts::status_in_c))]
 #[unsafe(no_mangle)]
-pub extern "C" fn tusselgro_read_status(bytes: &[u8]) -> CStatusRead
+pub extern "C" fn tusselgro_read_status(bytes: &[u8]) -> CTimeRead
     ensures { result ≡ status_in_c (read_status bytes.now) }
 {
-    CStatusRead::from(message::read_status(bytes))
+    time_or(18, message::read_status(bytes))
 }
 
 // Writes a status, from the byte behind its type byte on; refused with 15, 18 or 16.
