@@ -74,6 +74,9 @@ pub record Sofar (s cs : List ℕ) (n : ℕ) (sp : Bool) (i : ℕ) : Type 0 wher
 pub start : (s cs : List ℕ) → length s ≡ 7 → length cs ≡ 6 → Sofar s cs 0 false 0
 start s cs h k = record { seven = h; inside = omega arith; few = omega arith; places = k; agrees = none_yet (take 6 s) }
 
+pub six_long : (s : List ℕ) → length s ≡ 7 → length (take 6 s) ≡ 6
+six_long s h = length-take-le 6 s (omega arith)
+
 pub not_seven : (s : List ℕ) → (length s ≡ 7 → ⊥) → read_address s ≡ address_refused 3
 unfolding read_address
 not_seven s h = rw (ne_eqb (length s) 7 h)

@@ -154,6 +154,9 @@ module _ (c : Callsign) (u : Bool) (e : u ≡ in_range c) where
     pub call_room : c.call_len ≤ length c.text
     call_room = omega (arith, length_over c, (from_range c in_range_lem).size)
 
+    pub call_fits : c.call_len ≤ 16
+    call_fits = omega (arith, length_over c, (from_range c in_range_lem).size)
+
     pub call_size : c.call_len ≡ length (take c.call_len c.text)
     call_size = part_length c.text c.call_len call_room
 

@@ -23,9 +23,6 @@ module _ (l out : List ℕ) (starred : Bool) (w : Wrote) where
   unfolding with_star
   without_star s e = rw s e
 
-pub short_prefix : (l : List ℕ) (n m : ℕ) → length l ≡ m → n ≤ m → length (take n l) ≤ m
-short_prefix l n m e h = rw (length-take-le n l (omega arith)) h
-
 -- ---- the range in front
 
 module _ (c : Callsign) (u : Bool) (e : u ≡ in_range c) (starred : Bool) (out : List ℕ) where
