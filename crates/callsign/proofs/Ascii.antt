@@ -1,6 +1,6 @@
 -- Texts of ASCII, which are UTF-8.
 -- Assumes nothing.
-use Rattle.std.proofs.Common.{◌≡◌, ℕ, zero, suc, ◌<◌, true, List, [], ◌∷◌, length, get_or, take, sym, refl, lt-ltb}
+use Rattle.std.proofs.Common.{◌≡◌, ℕ, suc, ◌<◌, true, List, [], ◌∷◌, length, get_or, take, sym, refl, lt-ltb}
 use Rattle.laws.specs.Lists.{every}
 use Rattle.laws.proofs.Each.{every_take}
 use Rattle.callsign.specs.Utf8.{ascii, utf8}

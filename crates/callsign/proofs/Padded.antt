@@ -1,11 +1,11 @@
 -- A text copied over sixteen zeros; and sixteen bytes held against the first n of them so padded.
 -- Assumes nothing.
-use Rattle.std.proofs.Common.{◌≡◌, ℕ, zero, suc, ◌+◌, ◌-◌, ◌<◌, ◌≤◌, Bool, true, ◌&&◌, eqb, List, [], ◌∷◌, ◌++◌, length, get_or, take, drop, set, replicate, sym, refl, ap, ◌∙◌, arith, length-set, drop_of_length-le, eq-eqb}
+use Rattle.std.proofs.Common.{◌≡◌, ℕ, zero, suc, ◌-◌, Bool, ◌&&◌, eqb, List, [], ◌∷◌, ◌++◌, length, take, drop, replicate, sym, refl, ap, ◌∙◌, arith, eq-eqb}
 use lib.Pointwise.{pointwise}
 use lib.Seq.{take-append_seam}
 use native.Mathlib.Nat.{sub-zero, suc-sub-suc}
 use Rattle.laws.specs.Lists.{zeros, pad_to}
-use Rattle.laws.proofs.Lists.{next, copy_more, drop_replicate}
+use Rattle.laws.proofs.Lists.{drop_replicate}
 
 -- ---- a copy
 

@@ -1,6 +1,6 @@
 -- Laws of the range: a callsign by its parts, the tests that the code makes, and what being in range gives.
 -- Assumes nothing.
-use Rattle.std.proofs.Common.{◌≡◌, ℕ, ◌+◌, ◌-◌, ◌<◌, ◌≤◌, min, Bool, true, false, cond, not, ◌&&◌, eqb, leb, List, [], ◌∷◌, ◌++◌, length, get_or, take, drop, sym, refl, ap, ◌∙◌, add-zero, add-one, arith, length-append, length-drop, length-take, length-take-le, get_or-drop, get_or-take, take-suc, take-add, eq-eqb, ne_eqb, eqb-true, le-leb, leb-true}
+use Rattle.std.proofs.Common.{◌≡◌, ℕ, ◌+◌, ◌<◌, ◌≤◌, Bool, true, false, cond, not, ◌&&◌, eqb, leb, List, [], ◌∷◌, ◌++◌, length, get_or, take, drop, sym, refl, ap, ◌∙◌, add-zero, add-one, arith, length-append, length-drop, length-take, length-take-le, get_or-drop, get_or-take, take-suc, take-add, eq-eqb, ne_eqb, eqb-true, le-leb, leb-true}
 use mathlib.Core.Bool.{and-true, and-false, and_assoc}
 use borrow.Author.Tests.{eqb-false, lt-leb, not-true, not-false}
 use lib.Seq.{append_snoc}

@@ -85,4 +85,3 @@ module _ (s : List ℕ) (r : CallRead) where
   pub starred : get_or s (length s - 1) 0 ≡ star → r ≡ read_unstarred (take (length s - 1) s) true → r ≡ read_text s
   unfolding read_text
   starred h e = rw (eq-eqb (get_or s (length s - 1) 0) star h) e
-

@@ -1,6 +1,6 @@
 -- Laws of UTF-8: RFC 3629's table by ranges of first bytes, one byte more of a text, and ASCII within a text.
 -- Assumes nothing.
-use Rattle.std.proofs.Common.{◌≡◌, ℕ, zero, suc, ◌+◌, ◌-◌, ◌<◌, ◌≤◌, Bool, true, false, cond, not, ◌&&◌, ◌||◌, T, eqb, leb, List, [], ◌∷◌, ◌++◌, length, get_or, drop, replicate, sym, refl, ap, ◌∙◌, arith, eqb→eq, drop_of_length-le, Option, Some, None, ltb-true, ne_eqb, le-leb}
+use Rattle.std.proofs.Common.{◌≡◌, ℕ, zero, suc, ◌+◌, ◌-◌, ◌<◌, ◌≤◌, Bool, true, false, cond, not, ◌&&◌, ◌||◌, T, eqb, List, [], ◌∷◌, ◌++◌, length, get_or, drop, replicate, sym, refl, ap, ◌∙◌, arith, eqb→eq, drop_of_length-le, Option, Some, None, ltb-true, ne_eqb, le-leb}
 use mathlib.Core.Bool.{and-false, and_assoc, false≢true}
 use borrow.Author.Tests.{lt-leb}
 use Rattle.laws.specs.Bytes.{within}

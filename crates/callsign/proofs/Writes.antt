@@ -1,6 +1,6 @@
 -- Laws of the text written: the star, and the range in front.
 -- Assumes nothing.
-use Rattle.std.proofs.Common.{◌≡◌, ℕ, ◌≤◌, min, Bool, true, false, not, List, [], ◌∷◌, ◌++◌, length, take, sym, ap, ◌∙◌, arith, length-append, length-take-le}
+use Rattle.std.proofs.Common.{◌≡◌, ℕ, ◌≤◌, min, Bool, true, false, not, List, [], ◌∷◌, ◌++◌, length, take, sym, ap, ◌∙◌, arith, length-append}
 use borrow.Author.Tests.{not-true}
 use Rattle.laws.specs.Bytes.{star}
 use Rattle.buffer.specs.Wrote.{Wrote, ends, refused_by, over_by, wrote}

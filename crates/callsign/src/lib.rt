@@ -12,7 +12,7 @@ ghost use Rattle.callsign.specs.Range.{text_len, ssid_part, is_dashed, in_range,
 ghost use Rattle.callsign.specs.Address.{heard_of, last_of, ssid_of, ssid_text, address_refused, read_address};
 ghost use Rattle.callsign.specs.Packed.{ssid_number, upper_bits, seventh_of, unwritten_by, packed_as, write_address};
 
-use numbers::Count;
+use numbers::CountError;
 
 // A callsign as it is written: call, dash and SSID in `text`, the rest of it zero. Without an SSID there is no dash. The mark says
 // that it was read from a text whose SSID was a lone `0`, which is dropped; nothing that judges or writes a callsign looks at it.
@@ -441,11 +441,11 @@ pub fn read_address(b: &[u8]) -> AddressRead
 // ---- an address written
 
 // The number of an SSID's text: an optional `+`, then digits; 0 for no text.
-fn ssid_number(s: &[u8]) -> Count
+fn ssid_number(s: &[u8]) -> Result<u32, CountError>
     ensures { result ≡ ssid_number s.now }
 {
     match s {
-        [] => Count::Is(0),
+        [] => Ok(0),
         [b'+', digits @ ..] => numbers::read_count(digits, 15),
         _ => numbers::read_count(s, 15),
     }
@@ -506,11 +506,12 @@ pub fn write_address(c: Callsign, field: Field, last: bool) -> AddressWritten
     }
     let n = c.call_len as usize;
     let k = c.ssid_len as usize;
+    let call = &c.text[..n];
     if k == 0 {
-        return packed(&c.text[..n], seventh(field, 0, last));
+        return packed(call, seventh(field, 0, last));
     }
-    let Count::Is(ssid) = ssid_number(&c.text[n + 1..n + 1 + k]) else {
-        return unwritten(13);
-    };
-    packed(&c.text[..n], seventh(field, ssid as u8, last))
+    match ssid_number(&c.text[n + 1..n + 1 + k]) {
+        Ok(ssid) => packed(call, seventh(field, ssid as u8, last)),
+        Err(_) => unwritten(13),
+    }
 }

@@ -1,5 +1,5 @@
 -- Two lengths of zero, and nothing but zeros behind them. Assumes nothing.
-use Rattle.std.proofs.Common.{◌≡◌, ⊎_elim, rules}
+use Rattle.std.proofs.Common.{⊎_elim, rules}
 use borrow.Author.Rules.{length_unmapped}
 use Rattle.laws.proofs.Picks.{picks}
 use Rattle.callsign.specs.Range.{is_blank_call}

@@ -6,7 +6,7 @@ use Rattle.callsign.proofs.read_parted.Goals.{then-is_empty-via-then-is_empty, t
 
 pub returns-then-is_empty : goal.returns-then-is_empty
 returns-then-is_empty c = elim c.then-is_empty.branch [
-    then-is_empty-via-then-is_empty w ↦ search (rules, no_call)
+  | then-is_empty-via-then-is_empty w ↦ search (rules, no_call)
   | then-is_empty-via-else-is_empty+then-is_empty-2 w ↦ search (rules, no_ssid)
 ]
 

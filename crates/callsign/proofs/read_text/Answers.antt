@@ -9,6 +9,6 @@ returns-in-42 c = search (rules, starred)
 
 pub returns-in_default : goal.returns-in_default
 returns-in_default c = elim c.in_default.branch [
-    in_default-via-then-s-lt1 w ↦ search (rules, none_starred)
+  | in_default-via-then-s-lt1 w ↦ search (rules, none_starred)
   | in_default-via-else-s-lt1+in_default-1 w ↦ search (rules, unstarred)
 ]

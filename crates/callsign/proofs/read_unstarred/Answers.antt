@@ -1,6 +1,6 @@
 -- A text without its star: too long, not UTF-8, without a dash, or by its two sides. Assumes nothing.
 use Rattle.std.proofs.Common.{rules}
-use Rattle.laws.proofs.Places.{found_le, found_part, found_next, found_fits}
+use Rattle.laws.proofs.Places.{found_part, found_next, found_fits}
 use Rattle.callsign.proofs.Padded.{front_padded}
 use Rattle.callsign.proofs.Texts.{too_long, no_utf8, undashed, dashed, sides, split}
 use Rattle.callsign.proofs.read_unstarred.Goals as goal
