@@ -33,15 +33,6 @@ module _ (b n : ℕ) (t : List ℕ) (few : n ≤ length t) where
   unfolding last_as
   last_start = take_at (take (length t - n) t) (replicate n b) (length t - n) kept
 
-  pub last_is : (i : ℕ) → length t - n ≤ i → i < length t → get_or (last_as b n t) i 0 ≡ b
-  unfolding last_as
-  last_is i h k =
-      let e : i ≡ length (take (length t - n) t) + (i - (length t - n)) = rw kept (omega arith) in
-      let l : i - (length t - n) < n = omega arith in
-      ap (λ (j : ℕ). get_or (take (length t - n) t ++ replicate n b) j 0) e
-      ∙ get_or-append-add (take (length t - n) t) (replicate n b) (i - (length t - n)) 0
-      ∙ get_or-replicate n (i - (length t - n)) b 0 l
-
 -- ---- numbers
 
 pub grows : (v i x : ℕ) → v < 10 ^ i → x ≤ 9 → 10 * v + x < 10 ^ (i + 1)
