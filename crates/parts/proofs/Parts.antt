@@ -1,14 +1,13 @@
 -- What the readers and writers of a packet's parts answer, one law an answer: of a reader q is what was read, and a what should be.
 -- Assumes nothing.
 use mathlib.Core.Path.{◌≡◌}
-use mathlib.Core.Bool.{Bool, false}
+use mathlib.Core.Bool.{Bool}
 use mathlib.Core.List.{List}
 use Prim.Native.Nat.{ℕ, ◌<◌, ◌≤◌}
 use native.Mathlib.Omega.{arith}
 use borrow.Author.Tests.{eq-eqb, ne_eqb, le-leb, lt-leb}
-use lib.IntN.{ℤ, pos}
+use lib.IntN.{ℤ}
 use lib.ListN.{length, replicate}
-use Rattle.laws.proofs.Lists.{elements, elements_all}
 use Rattle.buffer.specs.declared.Answer.{Answer}
 use Rattle.buffer.specs.Wrote.{Wrote, ends, refused_by, wrote}
 use Rattle.buffer.proofs.Wrote.{passed_on}
@@ -16,22 +15,12 @@ use Rattle.callsign.specs.declared.Callsign.{Callsign}
 use Rattle.callsign.specs.declared.AddressWritten.{AddressWritten}
 use Rattle.callsign.specs.declared.Field.{Field}
 use Rattle.callsign.specs.Packed.{unwritten_by, write_address}
-use Rattle.lonlat.specs.declared.Latitude.{Latitude}
-use Rattle.lonlat.specs.declared.Longitude.{Longitude}
-use Rattle.lonlat.specs.Latitude.{latitude_number}
-use Rattle.lonlat.specs.Longitude.{longitude_number}
 use Rattle.mic_e.specs.declared.Message.{Message}
-use Rattle.mic_e.specs.declared.Destination.{Destination}
-use Rattle.time.specs.declared.Time.{Time}
-use Rattle.time.specs.Time.{no_time, time_number}
 use Rattle.mic_e.specs.declared.DestinationWritten.{DestinationWritten}
-use Rattle.mic_e.specs.declared.Information.{Information}
-use Rattle.mic_e.specs.Message.{message_number, message_at, most_message}
-use Rattle.mic_e.specs.Destination.{destination_number, write_destination}
-use Rattle.mic_e.specs.Information.{information_number}
+use Rattle.mic_e.specs.Message.{message_at, most_message}
+use Rattle.mic_e.specs.Destination.{write_destination}
 use Rattle.message.specs.Message.{addressee_bytes, message_refusal, message_text}
-use Rattle.message.specs.Status.{status_number}
-use Rattle.parts.specs.Parts.{field_at, most_field, address_for, latitude_in_c, no_longitude, longitude_in_c, time_in_c, destination_in_c, destination_for, information_in_c, message_refusal_for, status_in_c}
+use Rattle.parts.specs.Parts.{field_at, most_field, address_for, destination_for, message_refusal_for}
 
 -- ---- callsigns and addresses
 

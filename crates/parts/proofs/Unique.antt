@@ -35,7 +35,6 @@ use Rattle.parts.specs.declared.CLongitudeRead.{CLongitudeRead}
 use Rattle.parts.specs.declared.CTimeRead.{CTimeRead}
 use Rattle.parts.specs.declared.CDestinationRead.{CDestinationRead}
 use Rattle.parts.specs.declared.CInformationRead.{CInformationRead}
-
 use Rattle.parts.specs.Parts.{address_for, latitude_in_c, longitude_in_c, time_in_c, destination_in_c, destination_for, information_in_c, message_refusal_for, status_in_c}
 
 module _ (s : List ℕ) where

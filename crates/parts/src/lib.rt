@@ -216,7 +216,7 @@ fn time_or(refusal: u8, read: Option<Time>) -> CTimeRead
 }
 
 // Reads the seven bytes of a time; refused with 17.
-#[tactic(auto, unfolding(crate::specs::Parts::time_in_c))]
+#[tactic(auto, unfolding(crate::specs::Parts::time_in_c, time::specs::Time::time_number))]
 #[unsafe(no_mangle)]
 pub extern "C" fn tusselgro_read_time(text: &[u8]) -> CTimeRead
     ensures { result ≡ time_in_c (read_time text.now) }
@@ -419,7 +419,7 @@ pub extern "C" fn tusselgro_write_message(
 }
 
 // Reads a status from the byte behind its type byte on; its text is what follows the time. Refused with 18.
-#[tactic(auto, unfolding(crate::specs::Parts::status_in_c))]
+#[tactic(auto, unfolding(crate::specs::Parts::status_in_c, message::specs::Status::status_number))]
 #[unsafe(no_mangle)]
 pub extern "C" fn tusselgro_read_status(bytes: &[u8]) -> CTimeRead
     ensures { result ≡ status_in_c (read_status bytes.now) }
