@@ -4,6 +4,8 @@
 use mathlib.Core.Path.{◌≡◌, refl}
 use mathlib.Core.Logic.{◌⊎◌, inl, inr, ⊎_elim}
 use mathlib.Core.Bool.{Bool, true, false, not, cond, and-true, not-not}
+use Rattle.std.specs.Prelude.{Err}
+use Rattle.body.specs.declared.TimeError.TheVariants.{Missing}
 use mathlib.Core.List.{List}
 use Prim.Native.Nat.{ℕ, ◌+◌, ◌-◌, ◌%◌, ◌≤◌}
 use native.Mathlib.Omega.{arith}
@@ -18,7 +20,7 @@ use Rattle.numbers.specs.Sign.{is_on}
 use Rattle.time.specs.declared.Time.{Time}
 use Rattle.time.specs.declared.TimeRead.{TimeRead}
 use Rattle.time.specs.declared.TimeRead.TheVariants as time
-use Rattle.time.specs.Time.{no_time, is_no_time, time_bytes, read_time, time_number, time_text, time_in_range}
+use Rattle.time.specs.Time.{no_time, is_no_time, time_bytes, read_time, time_text, time_in_range}
 use Rattle.time.proofs.Theorems.{read_in_range, no_time_in_range}
 use Rattle.lonlat.specs.Angle.{most_latitude, most_longitude, width_of}
 use Rattle.position.specs.Reach.{in_reach}
@@ -44,7 +46,7 @@ use Rattle.body.specs.declared.Kind.TheVariants.{Position, MicE, Message}
 use Rattle.body.specs.declared.Opening.{Opening}
 use Rattle.body.specs.declared.Opening.TheVariants.{Positioned, Mic, Addressed, Stated, Other}
 use Rattle.body.specs.declared.BodyRead.{BodyRead}
-use Rattle.body.specs.Body.{no_span, no_report, body_with, blank_body, body_accepted, body_refused, opening_of, span_from, position_body, position_from, time_refused, time_behind, time_at, behind_time, positioned_from, report_body, mic_e_body, identifier_span, message_body, status_body, body_after, read_body_by, read_body}
+use Rattle.body.specs.Body.{no_span, no_report, body_with, blank_body, body_accepted, body_refused, opening_of, span_from, position_body, position_from, time_behind, time_at, behind_time, positioned_from, report_body, mic_e_body, identifier_span, message_body, status_body, body_after, read_body_by, read_body}
 use Rattle.body.proofs.Strict.{by_mode}
 use Rattle.body.specs.Range.{is_no_letter, is_no_place, is_no_report, is_place_alone, is_report_alone, is_bare, is_short, motion_in_range, unknown_in_range, position_in_range, mic_e_in_range, message_in_range, status_in_range, in_range_as, body_in_range, excepted_as, is_excepted}
 
@@ -140,7 +142,7 @@ module _ (s : List ℕ) (at : ℕ) (start : at ≤ length s) where
 
 module _ (s : List ℕ) (at : ℕ) (messaging : Bool) where
   behind_found : (x : TimeRead) → read_time (take time_bytes (drop at s)) ≡ x → at + time_bytes ≤ length s → Found (length s) (behind_time usually (time_behind x (at + time_bytes)) s messaging)
-  unfolding time_behind behind_time time_number
+  unfolding time_behind behind_time
   behind_found (time.Read t) e h = position_found s (at + time_bytes) h messaging t (read_in_range (take time_bytes (drop at s)) t e)
   behind_found time.Refused e h = blank_found _ (length s)
 
@@ -150,7 +152,7 @@ module _ (s : List ℕ) (at : ℕ) (messaging : Bool) where
   positioned_found true start = go (ltb (length s - at) time_bytes) refl
     where
       go : (b : Bool) → ltb (length s - at) time_bytes ≡ b
-          → Found (length s) (behind_time usually (cond b (time_refused 10) (time_behind (read_time (take time_bytes (drop at s))) (at + time_bytes))) s messaging)
+          → Found (length s) (behind_time usually (cond b (Err Missing) (time_behind (read_time (take time_bytes (drop at s))) (at + time_bytes))) s messaging)
       go true e = blank_found _ (length s)
       go false e = behind_found (read_time (take time_bytes (drop at s))) refl (omega (arith, ltb-false (length s - at) time_bytes e))
 

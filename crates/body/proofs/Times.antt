@@ -3,6 +3,8 @@
 use mathlib.Core.Path.{◌≡◌, refl, sym, ap, ◌∙◌}
 use mathlib.Core.Logic.{◌⊎◌, inl, inr, ⊎_elim}
 use mathlib.Core.Bool.{Bool, true, false, cond, false≢true}
+use Rattle.std.specs.Prelude.{Err}
+use Rattle.body.specs.declared.TimeError.TheVariants.{Missing, Bad}
 use mathlib.Core.List.{List}
 use Prim.Native.Nat.{ℕ, ◌+◌, ◌-◌}
 use lib.Dec.{eqb, ltb}
@@ -13,7 +15,7 @@ use Rattle.callsign.specs.Range.{call_part}
 use Rattle.time.specs.declared.Time.{Time}
 use Rattle.time.specs.declared.TimeRead.{TimeRead}
 use Rattle.time.specs.declared.TimeRead.TheVariants as time
-use Rattle.time.specs.Time.{no_time, is_present, time_bytes, read_time, time_number, time_text}
+use Rattle.time.specs.Time.{no_time, is_present, time_bytes, read_time, time_text}
 use Rattle.time.proofs.Theorems.{time_is_kept}
 use Rattle.position.specs.declared.PositionRead.{PositionRead}
 use Rattle.position.specs.Position.{fixed_bytes, usually, read_position}
@@ -35,7 +37,7 @@ use Rattle.body.specs.declared.Span.{Span}
 use Rattle.body.specs.declared.Opening.{Opening}
 use Rattle.body.specs.declared.Opening.TheVariants.{Positioned, Mic, Addressed, Stated, Other}
 use Rattle.body.specs.declared.BodyRead.{BodyRead}
-use Rattle.body.specs.Body.{no_span, no_report, body_with, blank_body, body_accepted, body_refused, opening_of, span_from, position_body, position_from, time_refused, time_behind, time_at, behind_time, positioned_from, report_body, mic_e_body, identifier_span, message_body, status_body, body_after, read_body_by, read_body}
+use Rattle.body.specs.Body.{no_span, no_report, body_with, blank_body, body_accepted, body_refused, opening_of, span_from, position_body, position_from, error_number, time_behind, time_at, behind_time, positioned_from, report_body, mic_e_body, identifier_span, message_body, status_body, body_after, read_body_by, read_body}
 
 -- behind the type byte stand the bytes from the place `at` on
 module _ (s : List ℕ) (at : ℕ) where
@@ -56,17 +58,17 @@ module _ (s : List ℕ) (at : ℕ) where
       go false = blank_time p.refusal
 
   behind_time_lem : (messaging : Bool) (x : TimeRead) → read_time (take time_bytes (drop at s)) ≡ x → TimeOf (behind_time usually (time_behind x (at + time_bytes)) s messaging)
-  unfolding time_behind behind_time position_from time_number
+  unfolding time_behind behind_time position_from
   behind_time_lem messaging (time.Read t) e = position_time (read_position (drop (at + time_bytes) s)) messaging t (span_from s (at + time_bytes + fixed_bytes)) (inr e)
-  behind_time_lem messaging time.Refused e = blank_time 17
+  behind_time_lem messaging time.Refused e = blank_time (error_number Bad)
 
   positioned_time : (messaging timed : Bool) → TimeOf (positioned_from usually s at messaging timed)
   unfolding positioned_from time_at behind_time position_from
   positioned_time messaging false = position_time (read_position (drop at s)) messaging no_time (span_from s (at + fixed_bytes)) (inl refl)
   positioned_time messaging true = go (ltb (length s - at) time_bytes)
     where
-      go : (b : Bool) → TimeOf (behind_time usually (cond b (time_refused 10) (time_behind (read_time (take time_bytes (drop at s))) (at + time_bytes))) s messaging)
-      go true = blank_time 10
+      go : (b : Bool) → TimeOf (behind_time usually (cond b (Err Missing) (time_behind (read_time (take time_bytes (drop at s))) (at + time_bytes))) s messaging)
+      go true = blank_time (error_number Missing)
       go false = behind_time_lem messaging (read_time (take time_bytes (drop at s))) refl
 
   report_time : (d : Destination) (x : InformationRead) (current : Bool) (comment : Span) → TimeOf (report_body usually d x current comment)

@@ -1,7 +1,7 @@
 -- The body of a packet, by its first byte (document 01, 'Modules in port order', 5, and 'Numbers a refusal carries'; document 02, R-3,
 -- R-5 and, for the strict reader, R-8). It stands in the input from a place on, since its comment or text is a place in the whole input.
 -- Assumes nothing.
-use Rattle.std.specs.Prelude.{ℕ, ◌+◌, ◌-◌, Bool, true, false, cond, ◌||◌, List, eqb, ltb, length, take, drop, get_or}
+use Rattle.std.specs.Prelude.{ℕ, Result, Ok, Err, ◌+◌, ◌-◌, Bool, true, false, cond, ◌||◌, List, eqb, ltb, length, take, drop, get_or}
 use Rattle.laws.specs.Bytes.{colon, greater, slash, at_sign, bang, equals, backquote, apostrophe}
 use Rattle.callsign.specs.declared.Callsign.{Callsign}
 use Rattle.callsign.specs.Range.{call_part}
@@ -28,6 +28,8 @@ use Rattle.body.specs.declared.Kind.{Kind}
 use Rattle.body.specs.declared.Kind.TheVariants.{Unknown, Position, MicE, Message, Status}
 use Rattle.body.specs.declared.Opening.{Opening}
 use Rattle.body.specs.declared.TimeAt.{TimeAt}
+use Rattle.body.specs.declared.TimeError.{TimeError}
+use Rattle.body.specs.declared.TimeError.TheVariants.{Missing, Bad}
 use Rattle.body.specs.declared.Opening.TheVariants.{Positioned, Mic, Addressed, Stated, Other}
 use Rattle.body.specs.declared.Report.{Report}
 use Rattle.body.specs.declared.Span.{Span}
@@ -113,29 +115,27 @@ position_body p messaging time comment =
 unfoldable pub position_from : Bool → List ℕ → ℕ → Bool → Time → BodyRead
 position_from strict s at messaging time = position_body (read_position_by strict (drop at s)) messaging time (span_from s (at + fixed_bytes))
 
--- a time, or none where none is asked for, and the place behind it
-abbrev pub time_found : Time → ℕ → TimeAt
-time_found t behind = record { behind = behind; time = t; refusal = 0 }
+-- "10 when the seven bytes are missing", and "17 for a bad time"
+unfoldable pub error_number : TimeError → ℕ
+error_number Missing = 10
+error_number Bad = time_number time.Refused
 
--- no time, by that refusal
-abbrev pub time_refused : ℕ → TimeAt
-time_refused n = record { behind = 0; time = no_time; refusal = n }
+-- a time that was read, with the place behind it
+unfoldable pub time_behind : TimeRead → ℕ → Result TimeAt TimeError
+time_behind (time.Read t) behind = Ok (record { time = t; behind = behind })
+time_behind time.Refused behind = Err Bad
 
--- "17 for a bad time"
-unfoldable pub time_behind : TimeRead → ℕ → TimeAt
-time_behind (time.Read t) behind = time_found t behind
-time_behind time.Refused behind = time_refused (time_number time.Refused)
-
--- the time from a place on, where there is to be one: "10 when the seven bytes are missing stands before" 17
-unfoldable pub time_at : List ℕ → ℕ → Bool → TimeAt
+-- the time from a place on, where there is to be one, and the place behind it: 10 "stands before" 17
+unfoldable pub time_at : List ℕ → ℕ → Bool → Result TimeAt TimeError
 time_at s at timed =
     cond timed
-    (cond (ltb (length s - at) time_bytes) (time_refused 10) (time_behind (read_time (take time_bytes (drop at s))) (at + time_bytes)))
-    (time_found no_time at)
+    (cond (ltb (length s - at) time_bytes) (Err Missing) (time_behind (read_time (take time_bytes (drop at s))) (at + time_bytes)))
+    (Ok (record { time = no_time; behind = at }))
 
 -- "and 7, 10, 8, 9 follow": the position behind a time that was found
-unfoldable pub behind_time : Bool → TimeAt → List ℕ → Bool → BodyRead
-behind_time strict x s messaging = cond (eqb x.refusal 0) (position_from strict s x.behind messaging x.time) (body_refused x.refusal)
+unfoldable pub behind_time : Bool → Result TimeAt TimeError → List ℕ → Bool → BodyRead
+behind_time strict (Ok x) s messaging = position_from strict s x.behind messaging x.time
+behind_time strict (Err e) s messaging = body_refused (error_number e)
 
 -- a position from a place on, with a time before it or without one
 unfoldable pub positioned_from : Bool → List ℕ → ℕ → Bool → Bool → BodyRead
