@@ -9,7 +9,7 @@ use native.Mathlib.Omega.{arith}
 use lib.ListN.{length, take, drop, replicate, length-append, length-drop}
 use lib.Seq.{length-take-le}
 use Rattle.buffer.specs.declared.Answer.{Answer}
-use Rattle.buffer.specs.Wrote.{Wrote, ends, refused_by, over_by, wrote}
+use Rattle.buffer.specs.Wrote.{ends, refused_by, over_by, wrote}
 use Rattle.buffer.specs.Filled.{Filled, filled, front_of, added}
 use Rattle.buffer.proofs.Wrote.{passed_on}
 use Rattle.buffer.proofs.Answers.{refusal_is, bytes_are, reported_is, front_is}
@@ -17,23 +17,12 @@ use Rattle.buffer.proofs.Filled.{added_length, added_len, added_front}
 use Rattle.header.specs.declared.Header.{Header}
 use Rattle.header.specs.Text.{header_text}
 use Rattle.header.specs.Frame.{header_frame}
-use Rattle.header.specs.Range.{header_in_range, text_refusal as header_text_refusal, frame_refusal as header_frame_refusal}
+use Rattle.header.specs.Range.{header_in_range, text_refusal as header_text_refusal}
 use Rattle.header.proofs.Theorems.{text_at_most_178, frame_at_most_72}
 use Rattle.header.specs.Header.{most_bytes}
 use Rattle.packet.specs.Written.{or_else}
 use Rattle.packet.specs.Private.{head_bytes, head_refusal, wrote_behind}
 use Rattle.packet.proofs.Order.{or_first, or_none}
-
--- ---- a header as a frame or as a line
-
-module _ (framed : Bool) (h : Header) (out : List ℕ) (w : Wrote) where
-  pub head_framed : framed ≡ true → w ≡ wrote (header_frame_refusal h) (header_frame h) out → w ≡ wrote (head_refusal framed h) (head_bytes framed h) out
-  unfolding head_refusal head_bytes
-  head_framed e q = rw e q
-
-  pub head_plain : framed ≡ false → w ≡ wrote (header_text_refusal h) (header_text h) out → w ≡ wrote (head_refusal framed h) (head_bytes framed h) out
-  unfolding head_refusal head_bytes
-  head_plain e q = rw e q
 
 pub head_short : (framed : Bool) (h : Header) → head_refusal framed h ≡ 0 → length (head_bytes framed h) ≤ 178
 unfolding head_refusal head_bytes header_text_refusal
