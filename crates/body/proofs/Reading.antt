@@ -4,7 +4,7 @@ use mathlib.Core.Path.{◌≡◌, refl, sym, ap, ◌∙◌}
 use mathlib.Core.Logic.{◌⊎◌, ⊎_elim}
 use mathlib.Core.Bool.{Bool, true, false, cond}
 use mathlib.Core.List.{List}
-use Rattle.std.specs.Prelude.{Result, Ok, Err}
+use Rattle.std.specs.Prelude.{Option, Some, None, Result, Ok, Err}
 use Prim.Native.Nat.{ℕ, ◌+◌, ◌-◌, ◌^◌, ◌<◌, ◌≤◌}
 use mir.Val.{Fits}
 use mir.Syntax.{w64}
@@ -16,24 +16,17 @@ use lib.ListN.{length, take, drop, length-take, length-drop}
 use Rattle.callsign.specs.declared.Callsign.{Callsign}
 use Rattle.callsign.specs.Range.{call_part}
 use Rattle.time.specs.declared.Time.{Time}
-use Rattle.time.specs.declared.TimeRead.{TimeRead}
-use Rattle.time.specs.declared.TimeRead.TheVariants as time
 use Rattle.time.specs.Time.{no_time, is_present, time_bytes, read_time, time_text}
 use Rattle.time.proofs.Theorems.{present_seven_bytes}
 use Rattle.position.specs.declared.PositionRead.{PositionRead}
 use Rattle.position.specs.Position.{read_position_by}
 use Rattle.position.proofs.Lengths.{position_long}
 use Rattle.mic_e.specs.declared.Destination.{Destination}
-use Rattle.mic_e.specs.declared.DestinationRead.TheVariants as destination
 use Rattle.mic_e.specs.declared.Information.{Information}
-use Rattle.mic_e.specs.declared.InformationRead.{InformationRead}
-use Rattle.mic_e.specs.declared.InformationRead.TheVariants as information
 use Rattle.mic_e.specs.Destination.{read_destination}
 use Rattle.mic_e.specs.Information.{read_information}
 use Rattle.mic_e.proofs.Theorems.{information_long, not_six}
 use Rattle.message.specs.declared.MessageRead.{MessageRead}
-use Rattle.message.specs.declared.StatusRead.{StatusRead}
-use Rattle.message.specs.declared.StatusRead.TheVariants as status
 use Rattle.message.specs.Message.{read_message}
 use Rattle.message.specs.Status.{read_status}
 use Rattle.message.proofs.Theorems.{message_length, status_time_within}
@@ -53,10 +46,10 @@ unfolding time_at time_behind
 behind_within s at false h x e = ok_within at (length s) h no_time x e
 behind_within s at true h x e = go (ltb (length s - at) time_bytes) refl (read_time (take time_bytes (drop at s))) e
   where
-    go : (b : Bool) → ltb (length s - at) time_bytes ≡ b → (r : TimeRead) → cond b (Err Missing) (time_behind r (at + time_bytes)) ≡ Ok x → x.behind ≤ length s
+    go : (b : Bool) → ltb (length s - at) time_bytes ≡ b → (r : Option Time) → cond b (Err Missing) (time_behind r (at + time_bytes)) ≡ Ok x → x.behind ≤ length s
     go true f r e = cc
-    go false f (time.Read t) e = ok_within (at + time_bytes) (length s) (omega (arith, ltb-false (length s - at) time_bytes f)) t x e
-    go false f time.Refused e = cc
+    go false f (Some t) e = ok_within (at + time_bytes) (length s) (omega (arith, ltb-false (length s - at) time_bytes f)) t x e
+    go false f None e = cc
 
 module _ (s : List ℕ) (at : ℕ) (timed : Bool) (found : Result TimeAt TimeError) (q : found ≡ time_at s at timed) (x : TimeAt) (y : found ≡ Ok x) where
   pub start_within : at ≤ length s → x.behind ≤ length s
@@ -75,15 +68,15 @@ module _ (s : List ℕ) (at : ℕ) (timed : Bool) (found : Result TimeAt TimeErr
 
 -- ---- a Mic-E report
 
-module _ (d : Destination) (s : List ℕ) (at : ℕ) (x : InformationRead) (q : x ≡ read_information (take (length s - at) (drop at s)) d.hundred d.west) where
+module _ (d : Destination) (s : List ℕ) (at : ℕ) (x : Option Information) (q : x ≡ read_information (take (length s - at) (drop at s)) d.hundred d.west) where
   information_is : x ≡ read_information (drop at s) d.hundred d.west
   information_is = q ∙ ap (λ (l : List ℕ). read_information l d.hundred d.west) (part_to_end s at)
 
-  pub information_fits : (i : Information) → x ≡ information.Read i → at ≤ length s → at + 8 ≤ length s
+  pub information_fits : (i : Information) → x ≡ Some i → at ≤ length s → at + 8 ≤ length s
   information_fits i z h = omega (arith, length-drop at s, information_long (drop at s) d.hundred d.west i (sym information_is ∙ z))
 
 -- a call that is not six bytes long is refused
-pub call_other : (to : Callsign) → length to.text ≡ 16 → (to.call_len ≡ 6 → ⊥) → destination.Refused ≡ read_destination (call_part to)
+pub call_other : (to : Callsign) → length to.text ≡ 16 → (to.call_len ≡ 6 → ⊥) → None ≡ read_destination (call_part to)
 unfolding call_part
 call_other to f h = sym (not_six (take to.call_len to.text) (λ e. other e))
   where
@@ -118,10 +111,10 @@ text_length t = go (eqb t.form 0) refl
     go true e = rw e
     go false e = present_seven_bytes t (rw e)
 
-module _ (s : List ℕ) (at : ℕ) (x : StatusRead) (q : x ≡ read_status (take (length s - at) (drop at s))) (t : Time) (z : x ≡ status.Read t) where
+module _ (s : List ℕ) (at : ℕ) (x : Option Time) (q : x ≡ read_status (take (length s - at) (drop at s))) (t : Time) (z : x ≡ Some t) where
   time_within : at ≤ length s → at + length (time_text t) ≤ length s
   time_within h =
-      let read : read_status (drop at s) ≡ status.Read t = sym (q ∙ ap read_status (part_to_end s at)) ∙ z in
+      let read : read_status (drop at s) ≡ Some t = sym (q ∙ ap read_status (part_to_end s at)) ∙ z in
       omega (arith, length-drop at s, status_time_within (drop at s) t read)
 
   pub time_ends : at ≤ length s → length s < 2 ^ 64 → at + length (time_text t) < 2 ^ 64

@@ -15,10 +15,9 @@ ghost use Rattle.body.specs.Range.{is_no_letter, is_no_place, is_no_report, is_p
 ghost use Rattle.body.specs.Written.{mic_e_call, information_of, position_type, position_bytes, mic_e_bytes, message_bytes, status_bytes, without_tail, unwritten, written_as, written_or, write_body};
 
 use callsign::Callsign;
-use message::StatusRead;
-use mic_e::{Course, Destination, DestinationRead, Information, InformationRead, Message, Speed};
+use mic_e::{Course, Destination, Information, Message, Speed};
 use position::Place;
-use time::{Time, TimeRead};
+use time::Time;
 
 // What a body is.
 #[derive(Clone, Copy, Debug, PartialEq, Eq)]
@@ -121,7 +120,7 @@ fn no_report() -> Report
 }
 
 // The body with nothing in it, of Unknown kind.
-#[tactic(auto, unfolding(crate::specs::Body::blank_body, crate::specs::Body::no_span, message::specs::Message::no_addressee, laws::specs::Lists::pad_to,))]
+#[tactic(auto, unfolding(crate::specs::Body::blank_body, crate::specs::Body::no_span, message::specs::Message::no_addressee, laws::specs::Lists::pad_to))]
 pub fn blank() -> Body
     ensures { result ≡ blank_body }
 {
@@ -210,10 +209,8 @@ fn time_at(s: &[u8], at: usize, timed: bool) -> Result<TimeAt, TimeError>
         return Err(TimeError::Missing);
     }
     let behind = at + 7;
-    match time::read_time(&s[at..behind]) {
-        TimeRead::Refused => Err(TimeError::Bad),
-        TimeRead::Read(time) => Ok(TimeAt { time, behind }),
-    }
+    let time = time::read_time(&s[at..behind]).ok_or(TimeError::Bad)?;
+    Ok(TimeAt { time, behind })
 }
 
 // From the place `at` to the end.
@@ -254,51 +251,49 @@ fn read_position(s: &[u8], at: usize, messaging: bool, timed: bool, strict: bool
 
 // What a destination's call says of a Mic-E report; its SSID is ignored.
 #[tactic(auto, using(crate::proofs::Reading::call_other), unfolding(callsign::specs::Range::call_part))]
-fn destination_of(to: Callsign) -> DestinationRead
+fn destination_of(to: Callsign) -> Option<Destination>
     ensures { result ≡ read_destination (call_part to) }
 {
     if to.call_len != 6 {
-        return DestinationRead::Refused;
+        return None;
     }
     mic_e::read_destination(&to.text[..6])
 }
 
 // A Mic-E report whose destination was read, and whose information starts at the place `at`.
-#[tactic(auto, using(crate::proofs::Reading::information_fits), unfolding(crate::specs::Body::report_body, crate::specs::Body::blank_body, mic_e::specs::Information::information_number,))]
+#[tactic(auto, using(crate::proofs::Reading::information_fits), unfolding(crate::specs::Body::report_body, crate::specs::Body::blank_body, mic_e::specs::Information::information_number))]
 fn read_report(d: Destination, s: &[u8], at: usize, current: bool, strict: bool) -> BodyRead
     requires { at ≤ length s.now }
     ensures { result ≡ report_body strict d (read_information (drop at s.now) d.hundred d.west) current (span_from s.now (at + 8)) }
 {
-    match mic_e::read_information(&s[at..], d.hundred, d.west) {
-        InformationRead::Refused => refused(12),
-        InformationRead::Read(i) => {
-            if position::is_off_table(strict, i.table) {
-                return refused(20);
-            }
-            let place = Place {
-                latitude: d.latitude,
-                longitude: i.longitude,
-                blanks: d.blanks,
-                table: i.table,
-                code: i.code,
-                south: d.south,
-                west: d.west,
-            };
-            let report = Report {
-                speed: i.speed,
-                course: i.course,
-                message: d.message,
-                current,
-            };
-            accepted(Body {
-                kind: Kind::MicE,
-                place,
-                report,
-                comment: span_from(s, at + 8),
-                ..blank()
-            })
-        }
+    let Some(i) = mic_e::read_information(&s[at..], d.hundred, d.west) else {
+        return refused(12);
+    };
+    if position::is_off_table(strict, i.table) {
+        return refused(20);
     }
+    let place = Place {
+        latitude: d.latitude,
+        longitude: i.longitude,
+        blanks: d.blanks,
+        table: i.table,
+        code: i.code,
+        south: d.south,
+        west: d.west,
+    };
+    let report = Report {
+        speed: i.speed,
+        course: i.course,
+        message: d.message,
+        current,
+    };
+    accepted(Body {
+        kind: Kind::MicE,
+        place,
+        report,
+        comment: span_from(s, at + 8),
+        ..blank()
+    })
 }
 
 // A Mic-E report: its destination, and then its information from the place `at` on.
@@ -308,13 +303,8 @@ fn read_mic_e(to: Callsign, s: &[u8], at: usize, current: bool, strict: bool) ->
     ensures { result ≡ mic_e_body strict (read_destination (call_part to)) (drop at s.now) current (span_from s.now (at + 8)) }
 {
     match destination_of(to) {
-        DestinationRead::Refused => refused(11),
-        DestinationRead::Read(d) => {
-            if position::is_over(strict, d.sixty) {
-                return refused(11);
-            }
-            read_report(d, s, at, current, strict)
-        }
+        Some(d) if !position::is_over(strict, d.sixty) => read_report(d, s, at, current, strict),
+        _ => refused(11),
     }
 }
 
@@ -371,15 +361,15 @@ fn read_status(s: &[u8], at: usize) -> BodyRead
     requires { at ≤ length s.now }
     ensures { result ≡ status_body (read_status (drop at s.now)) s.now at }
 {
-    match message::read_status(&s[at..]) {
-        StatusRead::Refused => refused(18),
-        StatusRead::Read(time) => accepted(Body {
-            kind: Kind::Status,
-            comment: span_from(s, behind_time(time, at)),
-            time,
-            ..blank()
-        }),
-    }
+    let Some(time) = message::read_status(&s[at..]) else {
+        return refused(18);
+    };
+    accepted(Body {
+        kind: Kind::Status,
+        comment: span_from(s, behind_time(time, at)),
+        time,
+        ..blank()
+    })
 }
 
 // Reads the body of a packet to that destination, which stands in s from the place `from` to the end. Where nothing stands

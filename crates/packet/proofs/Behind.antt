@@ -52,7 +52,8 @@ module _ (framed : Bool) (h : Header) (w : Answer) (head : List ℕ) (e : ends w
       passed_on a w.refusal (or_else (head_refusal framed h) (over_by most_bytes bytes)) bytes out f z
       (ap (λ (n : ℕ). or_else n (over_by most_bytes bytes)) (sym says) ∙ or_first w.refusal (over_by most_bytes bytes) z)
 
-  module _ (z : w.refusal ≡ 0) (body : List ℕ) (short : length body ≤ 27) (later : List ℕ) (m : ℕ) (p : filled later m ≡ added (filled head w.reported) body) where
+  module _ (z : w.refusal ≡ 0) (body : List ℕ) (short : length body ≤ 27) (before later : List ℕ) (k m : ℕ) (b : filled before k ≡ filled head w.reported)
+      (p : filled later m ≡ added (filled before k) body) where
     none : head_refusal framed h ≡ 0
     none = sym says ∙ z
 
@@ -68,26 +69,17 @@ module _ (framed : Bool) (h : Header) (w : Answer) (head : List ℕ) (e : ends w
     fits : w.reported + length body ≤ length head
     fits = omega (arith, reported, long, head_short framed h none)
 
-    front : take m later ≡ head_bytes framed h ++ body
+    front_lem : take m later ≡ head_bytes framed h ++ body
     unfolding front_of
-    front =
-        ap front_of p
+    front_lem =
+        ap front_of (p ∙ ap (λ (f : Filled). added f body) b)
         ∙ added_front (filled head w.reported) body fits
         ∙ ap (λ (l : List ℕ). l ++ body) (front_is w head (head_bytes framed h) scratch (head_refusal framed h) e none (room none))
 
-    pub behind_within : m ≤ length later
-    behind_within =
-        let n : length later ≡ length head = ap (λ (f : Filled). length f.bytes) p ∙ added_length (filled head w.reported) body in
-        let l : m ≡ w.reported + length body = ap (λ (f : Filled). f.len) p ∙ added_len (filled head w.reported) body fits in
-        omega (arith, fits)
-
-    pub behind_long : m ≡ length (take m later)
-    behind_long = sym (length-take-le m later behind_within)
-
-    pub behind_written : (text tail out last : List ℕ) (a : Answer) → ends a last ≡ wrote (over_by most_bytes (take m later ++ (text ++ tail))) (take m later ++ (text ++ tail)) out
-        → ends a last ≡ wrote_behind framed h body text tail out
+    pub behind_written : (front text tail out last : List ℕ) (a : Answer) → front ≡ take m later
+        → ends a last ≡ wrote (over_by most_bytes (front ++ (text ++ tail))) (front ++ (text ++ tail)) out → ends a last ≡ wrote_behind framed h body text tail out
     unfolding wrote_behind
-    behind_written text tail out last a f = rw (or_none (head_refusal framed h) _ none, ← front) f
+    behind_written front text tail out last a q f = rw (or_none (head_refusal framed h) _ none, ← front_lem, ← q) f
 
 -- ---- a body that is refused
 

@@ -15,6 +15,7 @@ ghost use Rattle.packet.specs.Written.{text_bytes, frame_bytes, or_else, text_re
 ghost use Rattle.packet.specs.Private.{head_bytes, head_refusal, wrote_behind};
 
 use body::{Body, Kind, Span};
+use buffer::Pieces;
 use callsign::Callsign;
 use header::{Header, HeaderRead};
 
@@ -110,6 +111,8 @@ fn header_in(s: &[u8], framed: bool) -> HeaderRead
         header::read_any_length(s)
     }
 }
+
+// Kept: (a) `framed` and `strict` are flags, as `packet::read` and `read_text_by strict` promise them and their callers hand them on.
 
 // Reads an AX.25 frame where framed, else a text, by itself: refused with 1 where it is longer than `most`, and then as its header
 // and its body are, which is judged strictly where strict.
@@ -342,8 +345,9 @@ fn write_behind(
     if w.refusal != 0 {
         return buffer::refused(w.refusal);
     }
-    let m = buffer::put(body, &mut bytes, w.reported);
-    buffer::write_three(MOST, &bytes[..m], text, tail, out)
+    let mut front = Pieces::behind(&mut bytes, w.reported);
+    front.put(body);
+    buffer::write_three(MOST, front.written(), text, tail, out)
 }
 
 // The answer where there is a packet inside: 15 for a number, a header or a part out of range, else 14.
