@@ -1,10 +1,10 @@
 -- Laws of digit places: the last places as one byte, and the value that digits write.
 -- Assumes nothing.
-use Rattle.std.proofs.Common.{◌≡◌, ℕ, ◌+◌, ◌-◌, ◌*◌, ◌/◌, ◌%◌, ◌^◌, ◌<◌, ◌≤◌, Bool, true, false, leb, List, [], ◌∷◌, ◌++◌, length, get_or, take, drop, replicate, sym, refl, ap, ◌∙◌, add-one, arith, length-append, length-drop, take-append-drop, length-take-le, take_at, get_or-append-add, append-nil, drop_of_length-le, le-leb, leb-false, leb-true}
+use Rattle.std.proofs.Common.{◌≡◌, ℕ, ◌+◌, ◌-◌, ◌*◌, ◌/◌, ◌%◌, ◌^◌, ◌<◌, ◌≤◌, Bool, true, false, leb, List, [], ◌∷◌, length, take, drop, replicate, sym, refl, ap, ◌∙◌, add-one, arith, length-append, length-drop, take-append-drop, length-take-le, take_at, append-nil, drop_of_length-le, le-leb, leb-false, leb-true}
 use native.Mathlib.Nat.{pow-succ', pow-le-pow_right}
 use borrow.Author.Tests.{lt-leb}
 use borrow.Rule.Slice.PartMut.{put_mid}
-use lib.ListN.{length-replicate, get_or-replicate}
+use lib.ListN.{length-replicate}
 use Rattle.laws.specs.Bytes.{is_digit}
 use Rattle.laws.specs.Lists.{every}
 use Rattle.laws.proofs.Each.{every_first, every_rest, every_drop}

@@ -1,7 +1,6 @@
 -- What each answer of the readers must show, one law an answer.
 -- Assumes nothing.
 use Rattle.std.proofs.Common.{◌≡◌, ℕ, ◌-◌, ◌<◌, ◌≤◌, Bool, true, false, cond, Option, Some, None, Err, ok_or, ◌||◌, eqb, leb, List, length, get_or, take, drop, ℤ, sym, refl, ap, ◌∙◌, arith, le-ltb, lt-ltb, eq-eqb, ne_eqb, le-leb}
-use mathlib.Core.Bool.{or-true}
 use borrow.Author.Tests.{lt-leb}
 use borrow.Author.Rules.{part_to_end}
 use Rattle.laws.specs.Bytes.{space, digit0, point, capital_n, capital_s, capital_e, capital_w, is_digit}
