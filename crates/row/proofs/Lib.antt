@@ -2,5 +2,4 @@ pub mod Theorems
 pub mod Fits
 pub mod Rows
 pub mod Calls
-pub mod Hops
 pub mod Unique

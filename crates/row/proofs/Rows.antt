@@ -72,9 +72,9 @@ angles_put f g h place y z d e p q =
     (ap (λ (u : ℤ). decimal u ∷ (space ∷ []) ∷ decimal z ∷ (line_feed ∷ []) ∷ []) d
     ∙ ap (λ (u : ℤ). decimal place.latitude.0 ∷ (space ∷ []) ∷ decimal u ∷ (line_feed ∷ []) ∷ []) e) p q
 
--- the place by the kind; k is what it is
-pub place_put : (kind k : Kind) (place : Place) (f g : Filled) → kind ≡ k → g ≡ added_all f (spaced (place_fields k place)) → g ≡ added_all f (spaced (place_fields kind place))
-place_put kind k place f g is p = rw is p
+-- fields by another name
+pub same_fields : (f g : Filled) (fields other : List (List ℕ)) → fields ≡ other → g ≡ added_all f (spaced fields) → g ≡ added_all f (spaced other)
+same_fields f g fields other e p = p ∙ ap (λ (l : List (List ℕ)). added_all f (spaced l)) e
 
 -- a field and a space in front of others
 before_place : (kind : Kind) (place : Place) (field : List ℕ) → field ∷ (space ∷ []) ∷ spaced (place_fields kind place) ≡ spaced (field ∷ place_fields kind place)

@@ -86,7 +86,10 @@ fn put_to(inner: u8, kind: Kind, to: Callsign, out: &mut Pieces)
 fn heard(hops: [Hop; 8], count: usize) -> usize
     ensures { result ≡ heard_among (take count hops) }
 {
-    hops[..count.min(8)].iter().filter(|h| h.kind == header::HEARD).count()
+    hops[..count.min(8)]
+        .iter()
+        .filter(|h| h.kind == header::HEARD)
+        .count()
 }
 
 // The number of hops, and of heard ones.

@@ -15,5 +15,5 @@ returns-then-n-eq0 c = record { written = search (rules, same_field, shown_point
 pub slice_bounds-text-end : goal.slice_bounds-text-end
 slice_bounds-text-end c = let whole : length c.args.c.text ≡ 16 = search rules in omega (arith, c.text_len-n.ensures)
 
-pub returns : goal.returns
-returns c = record { written = search (rules, same_field, shown_text); width = search (rules, call_width) }
+pub returns-else-n-eq0 : goal.returns-else-n-eq0
+returns-else-n-eq0 c = record { written = search (rules, same_field, shown_text); width = search (rules, call_width) }

@@ -8,5 +8,5 @@ use Rattle.row.proofs.put_fields.Goals as goal
 pub returns-then-read-ne0 : goal.returns-then-read-ne0
 returns-then-read-ne0 c = record { written = search (rules, row_refused); width = search (rules, refused_width) }
 
-pub returns : goal.returns
-returns c = record { written = search (rules, row_accepted); width = search (rules, accepted_width) }
+pub returns-else-read-ne0 : goal.returns-else-read-ne0
+returns-else-read-ne0 c = record { written = search (rules, row_accepted); width = search (rules, accepted_width) }

@@ -8,5 +8,5 @@ use Rattle.row.proofs.put_to.Goals as goal
 pub returns-then-inner-eq0 : goal.returns-then-inner-eq0
 returns-then-inner-eq0 c = record { written = search (rules, to_put); width = search (rules, to_width) }
 
-pub returns : goal.returns
-returns c = record { written = search (rules, outer_to_put); width = search (rules, outer_to_width) }
+pub returns-else-inner-eq0 : goal.returns-else-inner-eq0
+returns-else-inner-eq0 c = record { written = search (rules, outer_to_put); width = search (rules, outer_to_width) }
