@@ -2,6 +2,7 @@
 -- Assumes nothing.
 use Rattle.std.proofs.Common.{◌≡◌, ℕ, suc, ◌+◌, ◌/◌, ◌%◌, ◌<◌, ◌≤◌, Bool, true, false, cond, ◌&&◌, List, [], ◌∷◌, ◌++◌, length, get_or, take, drop, set, sym, refl, ap, ◌∙◌, append_assoc, append-nil, add-one, arith, length-drop, length-set, drop_of_length-le, length-take, length-take-le, get_or-drop, drop-cons, get_or-take, take-suc-set, eq-eqb, ne_eqb, eqb-true, Option, Some, None}
 use borrow.Author.Tests.{eqb-false}
+use Rattle.std.specs.Option.{option_map}
 use Rattle.laws.specs.Bytes.{space, is_letter_or_digit, raised}
 use Rattle.callsign.specs.declared.Callsign.{Callsign}
 use Rattle.callsign.specs.declared.AddressRead.{AddressRead}
@@ -16,8 +17,7 @@ rest true l = cond (are_spaces l) (Some []) None
 rest false l = unpacked l
 
 pub behind : List ℕ → Option (List ℕ) → Option (List ℕ)
-behind xs None = None
-behind xs (Some cs) = Some (xs ++ cs)
+behind xs u = option_map (λ cs. xs ++ cs) u
 
 none_yet : (l : List ℕ) → unpacked l ≡ behind [] (rest false l)
 unfolding rest behind

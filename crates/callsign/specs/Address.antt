@@ -5,6 +5,7 @@
 -- frames it is never set."
 -- Assumes nothing.
 use Rattle.std.specs.Prelude.{ℕ, ◌+◌, ◌*◌, ◌/◌, ◌%◌, Bool, true, false, cond, ◌&&◌, List, [], ◌∷◌, length, take, ◌==◌, nat_lt, slice_index, Option, Some, None}
+use Rattle.std.specs.Option.{option_map}
 use Rattle.laws.specs.Bytes.{space, digit0, is_letter_or_digit, raised}
 use Rattle.callsign.specs.Text.{made, blank_call}
 use Rattle.callsign.specs.declared.AddressRead.{AddressRead}
@@ -27,8 +28,7 @@ last_of b = b % 2 == 1
 
 -- a character in front
 unfoldable pub onto : ℕ → Option (List ℕ) → Option (List ℕ)
-onto c None = None
-onto c (Some cs) = Some (c ∷ cs)
+onto c u = option_map (λ cs. c ∷ cs) u
 
 -- nothing but spaces, each shifted left by one
 unfoldable pub are_spaces : List ℕ → Bool

@@ -45,7 +45,7 @@ pub struct AddressRead {
 }
 
 // The field of a frame that an address goes into; a hop is heard or not.
-#[derive(Clone, Copy)]
+#[derive(Clone, Copy, Debug, PartialEq, Eq)]
 pub enum Field {
     Destination,
     Source,
@@ -385,6 +385,7 @@ fn numbered(call: &[u8], ssid: u8) -> Callsign
 }
 
 // The characters of an address, unpacked.
+// Kept: their number stands beside them, since `address_call` is given both, by header too, and promises its result for any number.
 pub type Characters = [u8; 6];
 
 // The callsign of an address's characters, the first `len` of `call`, and of the SSID in its seventh byte.
