@@ -278,7 +278,7 @@ fn bounds_of(most: u32, angle: i32, blanks: u8) -> BoundsAnswer
     }
 }
 
-// Kept: one for each type of angle, here and at the boxes, since the C interface has both; bounds_of and box_of are what they share.
+// Kept: one for each type of angle, as of the boxes, since the C interface has both; they share bounds_of and box_of.
 // The bounds between which a latitude lies whose last digits are blank, as many as blanks says.
 pub fn latitude_bounds(l: Latitude, blanks: u8) -> BoundsAnswer
     ensures { result ≡ bounds_of most_latitude l.0 blanks }
