@@ -362,18 +362,18 @@ fn walk(s: &[u8]) -> Result<Path, Fault>
 {
     let mut hops = [blank_hop(); 8];
     let mut count: usize = 0;
-    let mut at: usize = 0;
+    let mut rest = s;
     'hops: loop {
         if count == 8 {
             break 'hops Err(Fault::NinthHop);
         }
-        if s.len() - at < 7 {
+        let Some((address, later)) = rest.split_first_chunk::<7>() else {
             break 'hops Err(Fault::Incomplete);
-        }
+        };
         let mut call = [0u8; 6];
         let mut n: usize = 0;
         let mut space = false;
-        for d in &s[at..at + 6] {
+        for d in &address[..6] {
             if callsign::last(*d) {
                 break 'hops Err(Fault::Call(3));
             }
@@ -388,16 +388,16 @@ fn walk(s: &[u8]) -> Result<Path, Fault>
             call[n] = callsign::capital(c);
             n += 1;
         }
-        let seventh = s[at + 6];
+        let seventh = address[6];
         hops[count] = Hop {
             call: callsign::address_call(call, n, seventh),
             kind: callsign::heard(seventh) as u8,
         };
         count += 1;
-        at += 7;
         if callsign::last(seventh) {
             break 'hops Ok(Path { count, hops });
         }
+        rest = later;
     }
 }
 

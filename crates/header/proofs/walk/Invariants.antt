@@ -4,10 +4,10 @@ use Rattle.header.proofs.FrameHops.{Spelling, Walking}
 use Rattle.header.proofs.walk.Given as goal
 
 abbrev pub invariant-loop-d : goal.invariant-loop-d
-invariant-loop-d l = Spelling l.s l.at l.call l.n l.space l.d-index
+invariant-loop-d l = Spelling l.address l.call l.n l.space l.d-index
 
 abbrev pub invariant-hops : goal.invariant-hops
-invariant-hops l = Walking l.s l.hops l.count l.at
+invariant-hops l = Walking l.s l.hops l.count l.rest
 
 abbrev pub decreases-hops : goal.decreases-hops
 decreases-hops l = 8 - l.count
