@@ -7,7 +7,7 @@ use Prim.Native.Nat.{ℕ, suc, ◌≤◌}
 use native.Mathlib.Omega.{arith}
 use mir.Val.{bool_byte}
 use lib.Dec.{eqb, leb}
-use borrow.Author.Tests.{ne_eqb, eqb-true, eqb-false, leb-true}
+use borrow.Author.Tests.{ne_eqb, eqb-true, eqb-false, leb-true, eq-eqb}
 use lib.ListN.{length, get_or}
 use Rattle.std.specs.Prelude.{Option, Some, None, Result, Ok, Err}
 use Rattle.laws.specs.Bytes.{capital_a, small_q, within}
@@ -15,6 +15,7 @@ use Rattle.laws.specs.Lists.{every, any_of}
 use Rattle.laws.proofs.Among.{among_holds}
 use Rattle.laws.proofs.Tests.{and_first, and_second}
 use Rattle.callsign.specs.declared.Callsign.{Callsign}
+use Rattle.callsign.specs.declared.CallRead.{CallRead}
 use Rattle.callsign.specs.Utf8.{after, characters, utf8}
 use Rattle.callsign.specs.Text.{joined, read_text}
 use Rattle.callsign.proofs.Ranges.{utf8_none, zero_none}
@@ -202,8 +203,14 @@ module _ (t : List ℕ) (o : Option ℕ) (e : o ≡ cond (starts_q t) (Some (get
     pub name_by_start : false ≡ is_q_name t
     name_by_start = sym (no_name t other)
 
-    pub hop_by_call : (r : Result Hop Fault) → r ≡ hop_of (read_text t) → r ≡ read_hop t
-    hop_by_call r q = q ∙ sym (call_read t other)
+    module _ (c : CallRead) (q : c ≡ read_text t) where
+      pub call_bad : (c.refusal ≡ 0 → ⊥) → ◌≡◌ {A = Result Hop Fault} (Err (Call c.refusal)) (read_hop t)
+      unfolding hop_of
+      call_bad z = sym (call_read t other ∙ rw (← q, ne_eqb c.refusal 0 z))
+
+      pub call_good : c.refusal ≡ 0 → ◌≡◌ {A = Result Hop Fault} (Ok (record { call = c.call; kind = bool_byte c.starred })) (read_hop t)
+      unfolding hop_of call_hop
+      call_good z = rw (flag_as c.starred) (sym (call_read t other ∙ rw (← q, eq-eqb c.refusal 0 z)))
 
 -- the hop of a name is in range
 pub name_range : (t : List ℕ) → is_q_name t ≡ true → hop_in_range (q_hop t) ≡ true

@@ -29,6 +29,7 @@ const MOST_BYTES: usize = 512;
 const PAIR: [u8; 2] = [0x03, 0xf0];
 
 // The kinds of a hop: a callsign that was not heard is 0, one that was heard is 1; a Q element, whose name is its callsign's text, is 2.
+// Kept: bytes and no enum, since a writer refuses with 15 what C's record of a hop may hold besides, and header_in_range says so.
 pub const HEARD: u8 = 1;
 
 pub const Q_ELEMENT: u8 = 2;
@@ -228,21 +229,6 @@ fn read_q(c: u8) -> Result<Hop, Fault>
     }
 }
 
-// Reads a hop that does not start so, by its callsign.
-#[tactic(auto, unfolding(crate::specs::Text::hop_of, crate::specs::Hop::call_hop), using(crate::proofs::Hops::flag_as))]
-fn read_call(t: &[u8]) -> Result<Hop, Fault>
-    ensures { result ≡ hop_of (read_text t.now) }
-{
-    let c = callsign::read_text(t);
-    if c.refusal != 0 {
-        return Err(Fault::Call(c.refusal));
-    }
-    Ok(Hop {
-        call: c.call,
-        kind: c.starred as u8,
-    })
-}
-
 // The number of a hop of such a number, where a callsign is heard or not; a Q element stays one.
 #[tactic(auto, unfolding(crate::specs::Private::carried_kind), using(crate::proofs::Hops::flag_as))]
 fn carried_kind(kind: u8, heard: bool) -> u8
@@ -274,6 +260,7 @@ fn carry(typed: Path) -> StarredPath
 
 // The hops of a text, with commas between them. Q elements and callsigns are set in a branch each: where one function answers either,
 // the compiler puts every hop together byte by byte.
+// Kept: a callsign's refusal is looked at here; through a function's Result and `?` reading a header took 3 % more instructions.
 fn read_hops(s: &[u8]) -> Result<StarredPath, Fault>
     ensures { result ≡ text_read (text_hops 8 (fields s.now)) }
 {
@@ -288,7 +275,16 @@ fn read_hops(s: &[u8]) -> Result<StarredPath, Fault>
         let part = &t[..e];
         match q_letter(part) {
             Some(c) => hops[n] = read_q(c)?,
-            None => hops[n] = read_call(part)?,
+            None => {
+                let c = callsign::read_text(part);
+                if c.refusal != 0 {
+                    return Err(Fault::Call(c.refusal));
+                }
+                hops[n] = Hop {
+                    call: c.call,
+                    kind: c.starred as u8,
+                };
+            }
         }
         n += 1;
         if e == t.len() {
@@ -645,6 +641,7 @@ impl<'a> Draft<'a> {
     }
 
     // Puts each hop after a comma, with a star after the last that was heard.
+    // Kept: this loop and that of the addresses share a `while let` alone; a closure or a trait for what they put would be longer.
     fn put_hops(&mut self, hops: &[Hop])
         ensures { self.new ≡ with_pieces self.old (hop_pieces hops.now) }
     {
