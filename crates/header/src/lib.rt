@@ -12,7 +12,7 @@ ghost use Rattle.callsign.specs.Text.{read_text};
 ghost use Rattle.callsign.specs.Range.{in_range, text_of};
 ghost use Rattle.header.specs.Hop.{is_q_name, is_heard, is_call, q_hop};
 ghost use Rattle.header.specs.Header.{number_of, blank_hop, path_of, blank_header, header_refused, header_accepted};
-ghost use Rattle.header.specs.Text.{fields, starts_q, hop_named, hop_of, text_hops, read_route, read_before, read_header_text, read_text_header, header_text};
+ghost use Rattle.header.specs.Text.{fields, starts_q, hop_named, text_hops, read_route, read_before, read_header_text, read_text_header, header_text};
 ghost use Rattle.header.specs.Frame.{starts_with_pair, frame_hops, with_pair, read_source, read_frame_header, header_frame};
 ghost use Rattle.header.specs.Range.{is_blank, is_blank_header, text_refusal, frame_refusal};
 ghost use Rattle.header.specs.Private.{frame_read, text_read, starred_read, carried_kind, is_tidy_hop, is_tidy};
