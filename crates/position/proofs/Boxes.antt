@@ -1,13 +1,12 @@
 -- The cases of the box, and the machine's signed numbers in it.
 -- Assumes nothing.
-use Rattle.std.proofs.Common.{◌≡◌, ℕ, zero, suc, ◌+◌, ◌-◌, ◌*◌, ◌≤◌, Bool, true, false, cond, not, ltb, [], ◌∷◌, ℤ, pos, negsuc, ◌+ℤ◌, ◌-ℤ◌, ◌*ℤ◌, neg_ℤ, nat_abs, sym, refl, ap, ◌∙◌, arith, w32, SFits, to_z, of_z, ltb-true}
-use borrow.Author.Tests.{not-true, not-false}
+use Rattle.std.proofs.Common.{◌≡◌, ℕ, zero, suc, ◌+◌, ◌-◌, ◌*◌, ◌≤◌, Bool, true, false, cond, ltb, [], ◌∷◌, ℤ, pos, negsuc, ◌+ℤ◌, ◌-ℤ◌, ◌*ℤ◌, neg_ℤ, nat_abs, sym, refl, ap, ◌∙◌, arith, w32, SFits, to_z, of_z, ltb-true}
 use lib.ListN.{get_or-eq_default}
 use lib.IntN.{sub_ℕ, +ℤ_idl, +ℤ_idr, +ℤ_assoc, +ℤ_comm, neg_ℤ-+ℤ, zero-*ℤ, suc_ℤ-*ℤ}
 use lib.Signed.{mag}
 use Rattle.lonlat.specs.Angle.{most_longitude, width_of}
 use Rattle.numbers.specs.Sign.{is_on}
-use Rattle.numbers.proofs.Sign.{back, size_turned}
+use Rattle.numbers.proofs.Sign.{back}
 use Rattle.position.specs.declared.PageBox.{PageBox}
 use Rattle.position.specs.Reach.{in_reach}
 use Rattle.position.specs.Page.{no_box, outward, box_of}
@@ -34,11 +33,11 @@ twice_turned x = twice_is_sum (neg_ℤ x) ∙ sym (neg_ℤ-+ℤ x x) ∙ ap neg_
 
 -- u is the test of the angle, v that of its side, z the angle as the code has it
 module _ (most : ℕ) (angle : ℤ) (blanks : ℕ) (minus : Bool) (z : ℤ) (back : z ≡ angle) (u : Bool) (e : u ≡ in_reach most (nat_abs z) blanks) where
-  pub box_out : (r : PageBox) → not u ≡ true → r ≡ no_box → r ≡ box_of most angle blanks minus
+  pub box_out : (r : PageBox) → u ≡ false → r ≡ no_box → r ≡ box_of most angle blanks minus
   unfolding box_of
-  box_out r h f = rw (← back, ← e, not-true u h) f
+  box_out r h f = rw (← back, ← e, h) f
 
-  module _ (h : not u ≡ false) where
+  module _ (h : u ≡ true) where
     reach : in_reach most (nat_abs angle) blanks ≡ true
     reach = reached most blanks angle z back u e h
 
@@ -46,22 +45,22 @@ module _ (most : ℕ) (angle : ℤ) (blanks : ℕ) (minus : Bool) (z : ℤ) (bac
     reach_most = reach_near most (nat_abs angle) blanks reach
 
     module _ (v : Bool) (f : v ≡ is_on minus z) where
-      pub box_contradicted : (r : PageBox) → not v ≡ true → r ≡ no_box → r ≡ box_of most angle blanks minus
+      pub box_contradicted : (r : PageBox) → v ≡ false → r ≡ no_box → r ≡ box_of most angle blanks minus
       unfolding box_of
-      box_contradicted r k g = rw (reach, ← back, ← f, not-true v k) g
+      box_contradicted r k g = rw (reach, ← back, ← f, k) g
 
       -- wide is twice the width, as the code has it
-      module _ (k : not v ≡ false) (wide : ℤ) (w : wide ≡ pos 2 *ℤ pos (width_of blanks)) (r : PageBox) where
+      module _ (k : v ≡ true) (wide : ℤ) (w : wide ≡ pos 2 *ℤ pos (width_of blanks)) (r : PageBox) where
         pub box_below : minus ≡ true → r ≡ box_around z wide (pos 0) → r ≡ box_of most angle blanks minus
         unfolding box_of outward box_around
         box_below m g =
-            rw (reach, ← ap (is_on minus) back, ← f, not-false v k, m)
+            rw (reach, ← ap (is_on minus) back, ← f, k, m)
             (g ∙ rw (back, w, twice_sum angle (neg_ℤ (pos (width_of blanks))), twice_turned (pos (width_of blanks)), +ℤ_idr (pos 2 *ℤ angle)))
 
         pub box_above : minus ≡ false → r ≡ box_around z (pos 0) wide → r ≡ box_of most angle blanks minus
         unfolding box_of outward box_around
         box_above m g =
-            rw (reach, ← ap (is_on minus) back, ← f, not-false v k, m)
+            rw (reach, ← ap (is_on minus) back, ← f, k, m)
             (g ∙ rw (back, w, twice_sum angle (pos (width_of blanks)), +ℤ_idr (pos 2 *ℤ angle)))
 
 -- ---- the width
@@ -81,6 +80,11 @@ width_small (suc (suc (suc (suc zero)))) = omega arith
 width_small (suc (suc (suc (suc (suc n))))) = omega arith
 
 -- ---- small numbers fit
+
+size_turned : (z : ℤ) → nat_abs (neg_ℤ z) ≡ nat_abs z
+size_turned (pos zero) = refl
+size_turned (pos (suc n)) = refl
+size_turned (negsuc n) = refl
 
 sub_small : (a b : ℕ) → nat_abs (sub_ℕ a b) ≤ a + b
 sub_small a b = go (ltb a b) refl
@@ -109,7 +113,7 @@ held z = to_z w32 (of_z w32 z)
 -- ---- the code's own numbers: w is the width
 
 module _ (blanks : ℕ) (w : ℤ) (e : w ≡ pos (width_of blanks)) where
-  width_held : held w ≡ pos (width_of blanks)
+  pub width_held : held w ≡ pos (width_of blanks)
   width_held = back w (rw e (record { sfits = omega (arith, width_small blanks) })) ∙ e
 
   pub width_near : nat_abs (held w) ≤ widest

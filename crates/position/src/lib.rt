@@ -2,24 +2,22 @@
 // and the box for the page.
 #![tactic(auto)]
 
-ghost use Rattle.std.specs.Prelude.{◌≡◌, ◌≤◌, true, length, take, drop, pos, unsigned_abs};
-ghost use Rattle.laws.specs.Bytes.{is_digit};
+ghost use Rattle.std.specs.Prelude.{◌≡◌, ◌≤◌, length, take, drop, pos, unsigned_abs};
 ghost use Rattle.buffer.specs.Wrote.{ends, wrote};
 ghost use Rattle.lonlat.specs.Angle.{most_latitude, most_longitude, width_of};
 ghost use Rattle.lonlat.specs.Longitude.{read_longitude};
 ghost use Rattle.position.specs.Reach.{in_reach};
 ghost use Rattle.position.specs.Position.{fixed_bytes, is_numeric, is_over, is_table, is_off_table, is_uncompressed, no_place, refused_position, with_longitude, read_position_by, letters_agree, symbols_in_range, position_refusal, position_text};
-ghost use Rattle.position.specs.Bounds.{from_dmh, degrees_of, degree_width, range_of, bounds_of};
+ghost use Rattle.position.specs.Bounds.{from_dmh, degrees_of, center_of, degree_width, range_of, bounds_of};
 ghost use Rattle.position.specs.Page.{no_box, box_of};
 ghost use Rattle.position.specs.Private.{widest, box_around};
 
-use lonlat::{Latitude, LatitudeRead, Longitude, LongitudeRead};
-use std::num::wrapping_sub_u8;
+use lonlat::{Latitude, LatitudeRead, Longitude, LongitudeError};
 
 // Where something is: its angles, how many of their last digits are blank, its symbol, and whether its letters are S and W, also
 // at 0.
 #[repr(C)]
-#[derive(Clone, Copy)]
+#[derive(Clone, Copy, Debug, Default, PartialEq, Eq)]
 pub struct Place {
     pub latitude: Latitude,
     pub longitude: Longitude,
@@ -32,7 +30,7 @@ pub struct Place {
 
 // What a position reads as: the refusal's number or 0, the place, and which of its angles has minutes of 60 or more.
 #[repr(C)]
-#[derive(Clone, Copy)]
+#[derive(Clone, Copy, Debug, Default, PartialEq, Eq)]
 pub struct PositionRead {
     pub place: Place,
     pub latitude_sixty: bool,
@@ -44,127 +42,65 @@ pub struct PositionRead {
 pub fn blank() -> Place
     ensures { result ≡ no_place }
 {
-    Place {
-        latitude: Latitude(0),
-        longitude: Longitude(0),
-        blanks: 0,
-        table: 0,
-        code: 0,
-        south: false,
-        west: false,
-    }
+    Place::default()
 }
 
 // A refusal, and nothing else.
 fn refused_position(n: u8) -> PositionRead
     ensures { result ≡ refused_position n }
 {
-    let place = blank();
     PositionRead {
         refusal: n,
-        place,
-        latitude_sixty: false,
-        longitude_sixty: false,
+        ..PositionRead::default()
     }
-}
-
-// Whether b is a digit.
-fn digit(b: u8) -> bool
-    ensures { result ≡ is_digit b }
-{
-    wrapping_sub_u8(b, b'0') < 10
 }
 
 // Whether b is numeric, taken as a character of Latin-1.
+#[tactic(auto, unfolding(crate::specs::Position::is_numeric, laws::specs::Bytes::within))]
 fn numeric(b: u8) -> bool
     ensures { result ≡ is_numeric b }
 {
-    if digit(b) {
-        return true;
-    }
-    if b == 0xb2 {
-        return true;
-    }
-    if b == 0xb3 {
-        return true;
-    }
-    if b == 0xb9 {
-        return true;
-    }
-    if b == 0xbc {
-        return true;
-    }
-    if b == 0xbd {
-        return true;
-    }
-    b == 0xbe
+    matches!(b, b'0'..=b'9' | 0xb2 | 0xb3 | 0xb9 | 0xbc..=0xbe)
 }
 
 // Whether the first byte, 0 if there is none, starts an uncompressed position.
+#[tactic(auto, unfolding(crate::specs::Position::is_uncompressed, crate::specs::Position::is_numeric, laws::specs::Bytes::within))]
 fn uncompressed(s: &[u8]) -> bool
     ensures { result ≡ is_uncompressed s.now }
 {
-    if s.len() == 0 {
-        return false;
-    }
-    numeric(s[0])
+    !s.is_empty() && numeric(s[0])
 }
 
 // Whether minutes are refused: strictly, if they are 60 or more.
 pub fn is_over(strict: bool, sixty: bool) -> bool
     ensures { result ≡ is_over strict sixty }
 {
-    if strict {
-        return sixty;
-    }
-    false
+    strict && sixty
 }
 
 // Whether b names a symbol table: `/`, `\`, a digit or a capital letter.
+#[tactic(auto, unfolding(crate::specs::Position::is_table, laws::specs::Bytes::within))]
 fn is_table(b: u8) -> bool
     ensures { result ≡ is_table b }
 {
-    if b == b'/' {
-        return true;
-    }
-    if b == b'\\' {
-        return true;
-    }
-    if digit(b) {
-        return true;
-    }
-    wrapping_sub_u8(b, b'A') < 26
+    matches!(b, b'/' | b'\\' | b'0'..=b'9' | b'A'..=b'Z')
 }
 
 // Whether a table byte is refused: strictly, if it names none.
 pub fn is_off_table(strict: bool, table: u8) -> bool
     ensures { result ≡ is_off_table strict table }
 {
-    if strict {
-        return !is_table(table);
-    }
-    false
+    strict && !is_table(table)
 }
 
-// Goes on with the longitude, behind a latitude with its blanks, its side, and whether its minutes are 60 or more.
-fn with_longitude(
-    s: &[u8],
-    latitude: Latitude,
-    blanks: u8,
-    south: bool,
-    sixty: bool,
-    strict: bool,
-) -> PositionRead
+// Goes on with the longitude, behind the latitude that was read.
+fn with_longitude(s: &[u8], north: LatitudeRead, strict: bool) -> PositionRead
     requires { fixed_bytes ≤ length s.now }
-    ensures { result ≡ with_longitude strict s.now latitude blanks south sixty (read_longitude (take 9 (drop 9 s.now)) blanks) }
+    ensures { result ≡ with_longitude strict s.now north (read_longitude (take 9 (drop 9 s.now)) north.blanks) }
 {
-    match lonlat::read_longitude(&s[9..18], blanks) {
-        LongitudeRead::Read {
-            longitude,
-            west,
-            sixty: longitude_sixty,
-        } => {
-            if is_over(strict, longitude_sixty) {
+    match lonlat::read_longitude(&s[9..18], north.blanks) {
+        Ok(east) => {
+            if is_over(strict, east.sixty) {
                 return refused_position(9);
             }
             if is_off_table(strict, s[8]) {
@@ -173,20 +109,20 @@ fn with_longitude(
             PositionRead {
                 refusal: 0,
                 place: Place {
-                    latitude,
-                    longitude,
-                    blanks,
+                    latitude: north.latitude,
+                    longitude: east.longitude,
+                    blanks: north.blanks,
                     table: s[8],
                     code: s[18],
-                    south,
-                    west,
+                    south: north.south,
+                    west: east.west,
                 },
-                latitude_sixty: sixty,
-                longitude_sixty,
+                latitude_sixty: north.sixty,
+                longitude_sixty: east.sixty,
             }
         }
-        LongitudeRead::Refused => refused_position(9),
-        LongitudeRead::OutOfRange => refused_position(15),
+        Err(LongitudeError::Malformed) => refused_position(9),
+        Err(LongitudeError::OutOfRange) => refused_position(15),
     }
 }
 
@@ -202,53 +138,34 @@ pub fn read_position(s: &[u8], strict: bool) -> PositionRead
     if s.len() < 19 {
         return refused_position(10);
     }
-    match lonlat::read_latitude(&s[0..8]) {
-        LatitudeRead::Read {
-            latitude,
-            blanks,
-            south,
-            sixty,
-        } => {
-            if is_over(strict, sixty) {
-                return refused_position(8);
-            }
-            with_longitude(s, latitude, blanks, south, sixty, strict)
-        }
-        LatitudeRead::Refused => refused_position(8),
+    match lonlat::read_latitude(&s[..8]) {
+        Some(north) if !is_over(strict, north.sixty) => with_longitude(s, north, strict),
+        _ => refused_position(8),
     }
 }
 
 // Whether an angle and its blanks are in range.
+#[tactic(auto, unfolding(crate::specs::Reach::in_reach))]
 fn in_reach(most: u32, angle: i32, blanks: u8) -> bool
     ensures { result ≡ in_reach most (unsigned_abs angle) blanks }
 {
-    let sides = numbers::parts(angle);
-    if most < sides.size {
-        return false;
-    }
-    blanks <= 5
+    angle.unsigned_abs() <= most && blanks <= 5
 }
 
 // Whether neither letter contradicts its angle; at 0 either may stand.
+#[tactic(auto, unfolding(crate::specs::Position::letters_agree))]
 pub fn letters_agree(p: Place) -> bool
     ensures { result ≡ letters_agree p }
 {
-    let latitude = p.latitude;
-    if numbers::is_on(p.south, latitude.0) {
-        let longitude = p.longitude;
-        return numbers::is_on(p.west, longitude.0);
-    }
-    false
+    numbers::is_on(p.south, p.latitude.0) && numbers::is_on(p.west, p.longitude.0)
 }
 
 // Whether a position may have the symbol: both its bytes are below 128.
+#[tactic(auto, unfolding(crate::specs::Position::symbols_in_range))]
 fn symbols_in_range(p: Place) -> bool
     ensures { result ≡ symbols_in_range p }
 {
-    if p.table < 128 {
-        return p.code < 128;
-    }
-    false
+    p.table.is_ascii() && p.code.is_ascii()
 }
 
 // Writes the 19 bytes before the comment, 0 as N and E. An angle, the blanks or a symbol byte out of range is 15, and so is a letter
@@ -256,21 +173,13 @@ fn symbols_in_range(p: Place) -> bool
 pub fn write_position(p: Place, out: &mut [u8]) -> buffer::Answer
     ensures { ends result out.new ≡ wrote (position_refusal p) (position_text p) out.old }
 {
-    let latitude = p.latitude;
-    let longitude = p.longitude;
     let mut text = [0u8; 19];
-    let north = lonlat::write_latitude(latitude, p.blanks, &mut text);
+    let north = lonlat::write_latitude(p.latitude, p.blanks, &mut text);
     if north.refusal != 0 {
         return buffer::refused(15);
     }
-    let east = lonlat::write_longitude(longitude, &mut text[9..]);
-    if east.refusal != 0 {
-        return buffer::refused(15);
-    }
-    if !letters_agree(p) {
-        return buffer::refused(15);
-    }
-    if !symbols_in_range(p) {
+    let east = lonlat::write_longitude(p.longitude, &mut text[9..]);
+    if east.refusal != 0 || !letters_agree(p) || !symbols_in_range(p) {
         return buffer::refused(15);
     }
     text[8] = p.table;
@@ -280,7 +189,7 @@ pub fn write_position(p: Place, out: &mut [u8]) -> buffer::Answer
 
 // The lower and upper bound of an angle, in degrees.
 #[repr(C)]
-#[derive(Clone, Copy)]
+#[derive(Clone, Copy, Debug)]
 pub struct Bounds {
     pub lower: f64,
     pub upper: f64,
@@ -288,7 +197,7 @@ pub struct Bounds {
 
 // The bounds, or 15 and 0, 0.
 #[repr(C)]
-#[derive(Clone, Copy)]
+#[derive(Clone, Copy, Debug)]
 pub struct BoundsAnswer {
     pub refusal: u8,
     pub bounds: Bounds,
@@ -302,24 +211,41 @@ fn from_dmh(degrees: u32, minutes: u32, hundredths: u32) -> f64
 }
 
 // An angle's size in degrees.
+#[tactic(auto, unfolding(crate::specs::Bounds::degrees_of))]
 fn degrees(size: u32) -> f64
     ensures { result ≡ degrees_of size }
 {
     from_dmh(size / 6000, size / 100 % 60, size % 100)
 }
 
-// The width that the blanks leave, in degrees.
+// An angle in degrees, south and west below 0.
+#[tactic(auto, unfolding(crate::specs::Bounds::center_of, numbers::specs::Sign::is_minus))]
+fn center(angle: i32) -> f64
+    ensures { result ≡ center_of angle }
+{
+    let size = degrees(angle.unsigned_abs());
+    if angle < 0 { -size } else { size }
+}
+
+// The width that the blanks leave, in hundredths of a minute.
+fn width(blanks: u8) -> i32
+    ensures { result ≡ pos (width_of blanks) }
+{
+    match blanks {
+        0 => 1,
+        1 => 10,
+        2 => 100,
+        3 => 1000,
+        4 => 6000,
+        _ => 60000,
+    }
+}
+
+// The same in degrees.
 fn degree_width(blanks: u8) -> f64
     ensures { result ≡ degree_width blanks }
 {
-    match blanks {
-        0 => 1.0 / 6000.0,
-        1 => 1.0 / 600.0,
-        2 => 1.0 / 60.0,
-        3 => 1.0 / 6.0,
-        4 => 1.0,
-        _ => 10.0,
-    }
+    f64::from(width(blanks)) / 6000.0
 }
 
 // Half the width to either side of the center.
@@ -346,19 +272,13 @@ fn bounds_of(most: u32, angle: i32, blanks: u8) -> BoundsAnswer
             },
         };
     }
-    let sides = numbers::parts(angle);
-    let center = degrees(sides.size);
-    if sides.minus {
-        let turned = range(-center, blanks);
-        return BoundsAnswer {
-            refusal: 0,
-            bounds: turned,
-        };
+    BoundsAnswer {
+        refusal: 0,
+        bounds: range(center(angle), blanks),
     }
-    let bounds = range(center, blanks);
-    BoundsAnswer { refusal: 0, bounds }
 }
 
+// Kept: one for each type of angle, as of the boxes, since the C interface has both; they share bounds_of and box_of.
 // The bounds between which a latitude lies whose last digits are blank, as many as blanks says.
 pub fn latitude_bounds(l: Latitude, blanks: u8) -> BoundsAnswer
     ensures { result ≡ bounds_of most_latitude l.0 blanks }
@@ -375,25 +295,11 @@ pub fn longitude_bounds(l: Longitude, blanks: u8) -> BoundsAnswer
 
 // The box for the page in half hundredths of a minute, or 15 and 0, 0.
 #[repr(C)]
-#[derive(Clone, Copy)]
+#[derive(Clone, Copy, Debug, PartialEq, Eq)]
 pub struct PageBox {
     pub refusal: u8,
     pub from: i32,
     pub to: i32,
-}
-
-// The width that the blanks leave, in hundredths of a minute.
-fn width(blanks: u8) -> i32
-    ensures { result ≡ pos (width_of blanks) }
-{
-    match blanks {
-        0 => 1,
-        1 => 10,
-        2 => 100,
-        3 => 1000,
-        4 => 6000,
-        _ => 60000,
-    }
 }
 
 fn no_box() -> PageBox
@@ -424,18 +330,15 @@ fn box_of(most: u32, angle: i32, blanks: u8, minus: bool) -> PageBox
     requires { most ≤ most_longitude }
     ensures { result ≡ box_of most angle blanks minus }
 {
-    if !in_reach(most, angle, blanks) {
+    if !in_reach(most, angle, blanks) || !numbers::is_on(minus, angle) {
         return no_box();
     }
-    if !numbers::is_on(minus, angle) {
-        return no_box();
-    }
-    let w = width(blanks);
-    let wide = 2 * w;
+    let wide = 2 * width(blanks);
     if minus {
-        return around(angle, wide, 0);
+        around(angle, wide, 0)
+    } else {
+        around(angle, 0, wide)
     }
-    around(angle, 0, wide)
 }
 
 // The box for the page of a latitude whose last digits are blank, as many as blanks says, on the side of its letter. A letter that
