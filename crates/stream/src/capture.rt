@@ -1,0 +1,29 @@
+// The lines of a capture, one after the other.
+ghost use Rattle.std.specs.Prelude.{length};
+ghost use Rattle.std.specs.Iterator.{at_most};
+
+// What is left of a capture, from the start of a line on.
+#[derive(Drop)]
+pub struct Capture<'a> {
+    rest: &'a [u8],
+}
+
+// The lines of s, without what ends them.
+pub fn lines(s: &[u8]) -> Capture<'_> {
+    Capture { rest: s }
+}
+
+impl<'a> Iterator for Capture<'a> {
+    type Item = &'a [u8];
+
+    ghost remaining = { λ c. at_most (length c.rest.now) };
+
+    fn next(&mut self) -> Option<&'a [u8]> {
+        let rest = self.rest;
+        let lines::Line::At { start, end, next } = lines::line_at(rest, 0) else {
+            return None;
+        };
+        self.rest = &rest[next..];
+        Some(&rest[start..end])
+    }
+}
