@@ -10,15 +10,14 @@ use native.Mathlib.Numerals.{add-one}
 use native.Mathlib.Omega.{arith}
 use lib.Dec.{ltb, leb}
 use borrow.Author.Tests.{ltb-true, ltb-false, leb-true, leb-false, le-leb, lt-leb}
-use lib.ListN.{length, get_or, set, take, drop, take-append-drop, length-append, length-drop, drop_of_length-le}
-use lib.Seq.{length-take-le, set_split, drop-drop, take_at, drop-append-add, get_or-append-add, get_or-drop}
+use lib.ListN.{length, set, take, drop, take-append-drop, length-append, length-drop, drop_of_length-le}
+use lib.Seq.{length-take-le, set_split, drop-drop, take_at, drop-append-add}
 use borrow.Author.Rules.{part_to_end}
 use borrow.Rule.Slice.PartMut.{put_mid}
 use Rattle.laws.specs.Lists.{together}
-use Rattle.laws.proofs.Lists.{copy_more}
 use Rattle.buffer.specs.declared.Answer.{Answer}
 use Rattle.buffer.specs.Wrote.{Wrote, ends, no_room, done_by, wrote_as, wrote}
-use Rattle.buffer.specs.Filled.{Filled, filled, front_of, added, added_all, shifted}
+use Rattle.buffer.specs.Filled.{Filled, filled, front_of, added, added_all}
 
 -- ---- a piece that fits, and one that does not
 
@@ -220,37 +219,3 @@ byte_stored b at out h = rw (set_split out at b h, add-one) (sym (added_fits (fi
 
 pub byte_not : (b at : ℕ) (out : List ℕ) → length out ≤ at → filled out at ≡ added (filled out at) (b ∷ [])
 byte_not b at out h = sym (added_not (filled out at) (b ∷ []) (omega arith))
-
--- ---- bytes moved to the front, i of them so far
-
-module _ (out : List ℕ) (from to : ℕ) where
-  pub shift_back : to < from → filled out 0 ≡ shifted out from to
-  unfolding shifted
-  shift_back h = rw (lt-leb from to h)
-
-  pub shift_past : from ≤ to → length out < to → filled out 0 ≡ shifted out from to
-  unfolding shifted
-  shift_past h k = rw (le-leb from to h, lt-leb to (length out) k)
-
-  module _ (h : from ≤ to) (k : to ≤ length out) (i : ℕ) where
-    -- what is read at a turn is not overwritten yet
-    ahead : i < to - from → get_or (take i (drop from out) ++ drop i out) (from + i) 0 ≡ get_or (drop from out) i 0
-    ahead l =
-        let n : length (take i (drop from out)) ≡ i = length-take-le i (drop from out) (omega (arith, length-drop from out)) in
-        let m : from + i ≡ length (take i (drop from out)) + from = omega arith in
-        ap (λ (j : ℕ). get_or (take i (drop from out) ++ drop i out) j 0) m
-        ∙ get_or-append-add (take i (drop from out)) (drop i out) from 0
-        ∙ get_or-drop i out from 0
-        ∙ ap (λ (j : ℕ). get_or out j 0) (omega arith)
-        ∙ sym (get_or-drop from out i 0)
-
-    pub moved_more : (now : List ℕ) → i < to - from → now ≡ take i (drop from out) ++ drop i out
-        → set now i (get_or now (from + i) 0) ≡ take (i + 1) (drop from out) ++ drop (i + 1) out
-    moved_more now l e =
-        rw e
-        (ap (λ (d : ℕ). set (take i (drop from out) ++ drop i out) i d) (ahead l)
-        ∙ copy_more 0 (drop from out) out i (omega (arith, length-drop from out)) (omega arith))
-
-  pub moved_all : (now : List ℕ) (i : ℕ) → from ≤ to → to ≤ length out → i ≡ to - from → now ≡ take i (drop from out) ++ drop i out → filled now (to - from) ≡ shifted out from to
-  unfolding shifted
-  moved_all now i h k e p = rw (le-leb from to h, le-leb to (length out) k) (ap (λ (l : List ℕ). filled l (to - from)) (p ∙ ap (λ (j : ℕ). take j (drop from out) ++ drop j out) e))

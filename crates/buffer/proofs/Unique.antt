@@ -3,6 +3,7 @@
 use mathlib.Core.Path.{◌≡◌, sym, ap, ◌∙◌}
 use mathlib.Core.List.{List, [], ◌∷◌, ◌++◌}
 use Prim.Native.Nat.{ℕ}
+use lib.ListN.{take}
 use Rattle.laws.proofs.Unique.{one_value}
 use Rattle.buffer.specs.declared.Answer.{Answer}
 use Rattle.buffer.specs.Wrote.{ends, refused_by, no_room, done_by, over_by, wrote}
@@ -39,6 +40,12 @@ module _ (r r' : ℕ) (o o' : List ℕ) where
   pub one_filled : (l : Filled) → filled o r ≡ l → filled o' r' ≡ l → (r ≡ r') × (o ≡ o')
   one_filled l e e' = (ap (λ (x : Filled). x.len) (e ∙ sym e'), ap (λ (x : Filled). x.bytes) (e ∙ sym e'))
 
+  pub unique_new : (out : List ℕ) → filled o r ≡ filled out 0 → filled o' r' ≡ filled out 0 → (r ≡ r') × (o ≡ o')
+  unique_new out = one_filled (filled out 0)
+
+  pub unique_behind : (out : List ℕ) (at : ℕ) → filled o r ≡ filled out at → filled o' r' ≡ filled out at → (r ≡ r') × (o ≡ o')
+  unique_behind out at = one_filled (filled out at)
+
   pub unique_put : (s out : List ℕ) (at : ℕ) → filled o r ≡ added (filled out at) s → filled o' r' ≡ added (filled out at) s → (r ≡ r') × (o ≡ o')
   unique_put s out at = one_filled (added (filled out at) s)
 
@@ -47,3 +54,6 @@ module _ (r r' : ℕ) (o o' : List ℕ) where
 
   pub unique_shift : (buffer : List ℕ) (from to : ℕ) → filled o r ≡ shifted buffer from to → filled o' r' ≡ shifted buffer from to → (r ≡ r') × (o ≡ o')
   unique_shift buffer from to = one_filled (shifted buffer from to)
+
+pub unique_written : (out : List ℕ) (at : ℕ) (r r' : List ℕ) → r ≡ take at out → r' ≡ take at out → r ≡ r'
+unique_written out at r r' = one_value r r' (take at out)

@@ -2,10 +2,10 @@
 // moved to the front.
 #![tactic(auto)]
 
-ghost use Rattle.std.specs.Prelude.{◌≡◌, [], ◌∷◌, ◌++◌, ◌+◌, ◌≤◌, length};
+ghost use Rattle.std.specs.Prelude.{◌≡◌, [], ◌∷◌, ◌++◌, ◌+◌, ◌≤◌, length, take};
 ghost use Rattle.std.proofs.Math.Seq.{paste};
 ghost use Rattle.buffer.specs.Wrote.{refused_by, no_room, done_by, ends, over_by, wrote};
-ghost use Rattle.buffer.specs.Filled.{filled, added, shifted};
+ghost use Rattle.buffer.specs.Filled.{filled, in_use, added, shifted};
 
 // What a writer or lister answers: the refusal's number or 0, what it reports (bytes written or fields
 // listed), and at 16 the bytes needed.
@@ -55,11 +55,7 @@ fn copy(s: &[u8], out: &mut [u8], at: usize)
     requires { at + length s.now ≤ length out.old }
     ensures { out.new ≡ paste out.old at s.now (length s.now) }
 {
-    let mut i: usize = 0;
-    while i < s.len() {
-        out[at + i] = s[i];
-        i += 1;
-    }
+    out[at..at + s.len()].copy_from_slice(s);
 }
 
 // Writes bytes to the front of out, or answers 16 and leaves it alone.
@@ -70,7 +66,7 @@ pub fn write(bytes: &[u8], out: &mut [u8]) -> Answer
     if out.len() < n {
         return no_room(n);
     }
-    copy(bytes, out, 0);
+    out[..n].copy_from_slice(bytes);
     done(n)
 }
 
@@ -107,44 +103,69 @@ pub fn write_two(limit: usize, head: &[u8], tail: &[u8], out: &mut [u8]) -> Answ
     write_three(limit, head, tail, b"", out)
 }
 
-// ---- pieces, each put into out at the place `at`; the place behind it is answered
+// ---- pieces
 
-// A text.
-pub fn put(s: &[u8], out: &mut [u8], at: usize) -> usize
-    ensures { filled out.new result ≡ added (filled out.old at) s.now }
-{
-    if out.len() < at {
-        return at;
-    }
-    at + write(s, &mut out[at..]).reported
+// A lent buffer, and how many bytes at its front are in use. A piece goes behind those; one that does not fit is left out.
+#[derive(Drop)]
+pub struct Pieces<'a> {
+    pub bytes: &'a mut [u8],
+    pub len: usize,
 }
 
-// One byte.
-pub fn put_byte(b: u8, out: &mut [u8], at: usize) -> usize
-    ensures { filled out.new result ≡ added (filled out.old at) (b ∷ []) }
-{
-    if out.len() <= at {
-        return at;
+impl<'a> Pieces<'a> {
+    // A buffer of which nothing is in use.
+    pub fn new(bytes: &'a mut [u8]) -> Pieces<'a>
+        ensures same_reference { result.bytes.ghost_name ≡ bytes.entry.ghost_name }
+        ensures value { in_use result ≡ filled bytes.old 0 }
+    {
+        Pieces { bytes, len: 0 }
     }
-    out[at] = b;
-    at + 1
+
+    // A buffer whose first `len` bytes are in use.
+    pub fn behind(bytes: &'a mut [u8], len: usize) -> Pieces<'a>
+        ensures same_reference { result.bytes.ghost_name ≡ bytes.entry.ghost_name }
+        ensures value { in_use result ≡ filled bytes.old len }
+    {
+        Pieces { bytes, len }
+    }
+
+    // Puts a text.
+    pub fn put(&mut self, s: &[u8])
+        ensures same_reference { self.new.bytes.ghost_name ≡ self.old.bytes.ghost_name }
+        ensures value { in_use self.new ≡ added (in_use self.old) s.now }
+    {
+        if self.len <= self.bytes.len() {
+            let answer = write(s, &mut self.bytes[self.len..]);
+            self.len += answer.reported;
+        }
+    }
+
+    // Puts one byte.
+    pub fn put_byte(&mut self, b: u8)
+        ensures same_reference { self.new.bytes.ghost_name ≡ self.old.bytes.ghost_name }
+        ensures value { in_use self.new ≡ added (in_use self.old) (b ∷ []) }
+    {
+        if self.len < self.bytes.len() {
+            self.bytes[self.len] = b;
+            self.len += 1;
+        }
+    }
+
+    // The bytes in use; all of the buffer where it has fewer.
+    pub fn written(&self) -> &[u8]
+        ensures { result.now ≡ take self.now.len self.now.bytes.now }
+    {
+        &self.bytes[..self.len.min(self.bytes.len())]
+    }
 }
 
 // Moves the bytes of buffer from the place `from` up to `to` to its front; answers how many they are.
 pub fn shift(buffer: &mut [u8], from: usize, to: usize) -> usize
     ensures { filled buffer.new result ≡ shifted buffer.old from to }
 {
-    if to < from {
+    if to < from || buffer.len() < to {
         return 0;
     }
-    if buffer.len() < to {
-        return 0;
-    }
-    let n = to - from;
-    let mut i: usize = 0;
-    while i < n {
-        buffer[i] = buffer[from + i];
-        i += 1;
-    }
-    n
+    buffer.copy_within(from..to, 0);
+    to - from
 }

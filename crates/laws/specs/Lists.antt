@@ -1,6 +1,7 @@
 -- Lists: the first place of a byte, a test of every element or of any, zeros, lists that are the same, and a list padded to a length.
 -- Assumes nothing.
-use Rattle.std.specs.Prelude.{ℕ, zero, suc, ◌-◌, Bool, true, false, cond, ◌&&◌, ◌||◌, List, [], ◌∷◌, ◌++◌, length, replicate, ◌==◌}
+use Rattle.std.specs.Prelude.{ℕ, zero, suc, ◌-◌, Bool, true, false, cond, ◌&&◌, List, [], ◌∷◌, ◌++◌, length, replicate, ◌==◌}
+use Rattle.std.specs.List.{list_all, list_any}
 
 -- the place of the first b, or the length where there is none
 unfoldable pub index_of : ℕ → List ℕ → ℕ
@@ -9,13 +10,11 @@ index_of b (x ∷ l) = cond (x == b) zero (suc (index_of b l))
 
 -- a test that holds of every element
 unfoldable pub every : {A : Type 0} → (A → Bool) → List A → Bool
-every p [] = true
-every p (x ∷ l) = p x && every p l
+every p l = list_all p l
 
 -- a test that holds of one element at least
 unfoldable pub any_of : {A : Type 0} → (A → Bool) → List A → Bool
-any_of p [] = false
-any_of p (x ∷ l) = p x || any_of p l
+any_of p l = list_any p l
 
 -- the same bytes in the same order
 unfoldable pub same_bytes : List ℕ → List ℕ → Bool
@@ -30,8 +29,7 @@ pad_to n z l = l ++ replicate (n - length l) z
 
 -- nothing but zeros
 unfoldable pub zeros : List ℕ → Bool
-zeros [] = true
-zeros (x ∷ l) = x == 0 && zeros l
+zeros l = list_all (λ x. x == 0) l
 
 -- lists one behind the other
 unfoldable pub together : {A : Type 0} → List (List A) → List A

@@ -1,3 +1,4 @@
+pub mod Bare
 pub mod Parts
 pub mod Lines
 pub mod Walk

@@ -4,8 +4,8 @@ use mathlib.Core.Path.{◌≡◌}
 use mathlib.Core.List.{List}
 use Prim.Native.Nat.{ℕ, ◌<◌}
 use lib.ListN.{length, drop}
-use Rattle.lines.specs.declared.Line.TheVariants.{At}
-use Rattle.lines.specs.Lines.{lines, line_at}
+use Rattle.std.specs.Prelude.{Some}
+use Rattle.lines.specs.Lines.{placed, lines, line_at}
 use Rattle.lines.proofs.Walk as walk
 use Rattle.lines.proofs.Walk.{stepped, Ahead}
 
@@ -14,7 +14,7 @@ pub line_then_lines : (s : List ℕ) (from : ℕ) → lines (drop from s) ≡ st
 line_then_lines = walk.one_line
 
 -- each answer moves on, and stays within the capture
-pub line_moves_on : (s : List ℕ) (from start end next : ℕ) → line_at s from ≡ At start end next → Ahead s from start end next
+pub line_moves_on : (s : List ℕ) (from start end next : ℕ) → line_at s from ≡ Some (placed start end next) → Ahead s from start end next
 line_moves_on = walk.ahead
 
 -- the walk from 0 gives exactly the lines, each once and in order; with a step more than there are bytes it has ended

@@ -6,6 +6,7 @@ use Prim.Native.Nat.{ℕ}
 use lib.ListN.{take, drop}
 use Rattle.laws.proofs.Unique.{one_value}
 use Rattle.lines.specs.Parts.{first_word, other_words}
+use Rattle.std.specs.Prelude.{Option}
 use Rattle.lines.specs.declared.Line.{Line}
 use Rattle.lines.specs.Lines.{line_at}
 
@@ -22,5 +23,5 @@ module _ (s r r' : List ℕ) where
   pub unique_rest : r ≡ other_words s → r' ≡ other_words s → r ≡ r'
   unique_rest = one_value r r' (other_words s)
 
-pub unique_line_at : (s : List ℕ) (from : ℕ) (r r' : Line) → r ≡ line_at s from → r' ≡ line_at s from → r ≡ r'
+pub unique_line_at : (s : List ℕ) (from : ℕ) (r r' : Option Line) → r ≡ line_at s from → r' ≡ line_at s from → r ≡ r'
 unique_line_at s from r r' = one_value r r' (line_at s from)

@@ -9,14 +9,15 @@ use native.Mathlib.Omega.{arith}
 use native.Mathlib.Nat.{le_of_suc-le-suc}
 use lib.Dec.{ltb, eqb}
 use borrow.Author.Tests.{ltb-true, ltb-false}
-use lib.ListN.{length, get_or, take, drop, length-take, length-drop, drop_of_length-le}
+use lib.ListN.{length, take, drop, length-take, length-drop, drop_of_length-le}
 use lib.Seq.{take-take, take-length, drop-drop, append_snoc}
-use Rattle.laws.specs.Bytes.{line_feed, carriage_return}
+use Rattle.laws.specs.Bytes.{line_feed}
 use Rattle.laws.specs.Lists.{index_of}
 use Rattle.laws.proofs.Places.{index_le}
 use Rattle.lines.specs.declared.Line.{Line}
-use Rattle.lines.specs.declared.Line.TheVariants.{At, End}
-use Rattle.lines.specs.Lines.{without_return, last_line, lines_after, lines, line_from, line_at}
+use Rattle.std.specs.Prelude.{Option, Some, None}
+use Rattle.lines.proofs.Bare.{bare_prefix, bare_length}
+use Rattle.lines.specs.Lines.{placed, without_return, last_line, lines_after, lines, line_from, line_at}
 
 -- ---- the lines by the first LF
 
@@ -68,22 +69,9 @@ abbrev pub between : List ℕ → ℕ → ℕ → List ℕ
 between s start end = take (end - start) (drop start s)
 
 -- the line that an answer gives, and what `onward` makes of the next place
-unfoldable pub stepped : List ℕ → (ℕ → List (List ℕ)) → Line → List (List ℕ)
-stepped s onward (At start end next) = between s start end ∷ onward next
-stepped s onward End = []
-
-bare_prefix : (l : List ℕ) → take (length (without_return l)) l ≡ without_return l
-unfolding without_return
-bare_prefix l = go (eqb (get_or l (length l - 1) 0) carriage_return)
-  where
-    go : (t : Bool) → take (length (cond t (take (length l - 1) l) l)) l ≡ cond t (take (length l - 1) l) l
-    go true =
-        let e : length (take (length l - 1) l) ≡ length l - 1 = omega (arith, length-take (length l - 1) l) in
-        ap (λ (n : ℕ). take n l) e
-    go false = take-length l
-
-pub bare_length : (l : List ℕ) → length (without_return l) ≤ length l
-bare_length l = omega (arith, length-take (length (without_return l)) l, ap length (bare_prefix l))
+unfoldable pub stepped : List ℕ → (ℕ → List (List ℕ)) → Option Line → List (List ℕ)
+stepped s onward (Some line) = between s line.start line.end ∷ onward line.next
+stepped s onward None = []
 
 module _ (s : List ℕ) (from : ℕ) where
   left : List ℕ
@@ -122,13 +110,13 @@ module _ (s : List ℕ) (from : ℕ) where
   one_line = go (ltb from (length s)) refl
     where
       here : (t : Bool) → ltb feed (length left) ≡ t → from < length s
-          → lines left ≡ stepped s (λ n. lines (drop n s)) (cond t (At from (from + length (without_return (take feed left))) (from + feed + 1)) (At from (from + length left) (from + length left)))
+          → lines left ≡ stepped s (λ n. lines (drop n s)) (Some (cond t (placed from (from + length (without_return (take feed left))) (from + feed + 1)) (placed from (from + length left) (from + length left))))
       here true e h = lines_ended left (ltb-true feed (length left) e) ∙ ap₂ (λ (x y : List ℕ). x ∷ lines y) (sym line_between) (sym behind)
       here false e h =
           let n : index_of line_feed left ≡ length left = omega (arith, ltb-false feed (length left) e, index_le line_feed left) in
           lines_last left n (omega (arith, length-drop from s)) ∙ ap₂ (λ (x : List ℕ) (y : List (List ℕ)). x ∷ y) (sym all_between) (sym (ap lines at_end ∙ lines_none))
 
-      go : (t : Bool) → ltb from (length s) ≡ t → lines left ≡ stepped s (λ n. lines (drop n s)) (cond t (line_from from left feed) End)
+      go : (t : Bool) → ltb from (length s) ≡ t → lines left ≡ stepped s (λ n. lines (drop n s)) (cond t (Some (line_from from left feed)) None)
       go true e = here (ltb feed (length left)) refl (ltb-true from (length s) e)
       go false e = ap lines (drop_of_length-le s (ltb-false from (length s) e)) ∙ lines_none
 
@@ -141,31 +129,32 @@ pub record Ahead (s : List ℕ) (from start end next : ℕ) : Type 0 where
   pub moves : from < next
   pub stays : next ≤ length s
 
-pub ahead : (s : List ℕ) (from start end next : ℕ) → line_at s from ≡ At start end next → Ahead s from start end next
+pub ahead : (s : List ℕ) (from start end next : ℕ) → line_at s from ≡ Some (placed start end next) → Ahead s from start end next
 unfolding line_at line_from left feed
 ahead s from start end next = go (ltb from (length s)) refl
   where
-    placed : (x y : ℕ) → At from x y ≡ At start end next → from ≤ x → x ≤ y → from < y → y ≤ length s → Ahead s from start end next
-    placed x y q h₁ h₂ h₃ h₄ =
-        let p₁ : from ≡ start = cc in
-        let p₂ : x ≡ end = cc in
-        let p₃ : y ≡ next = cc in
+    lies : (x y : ℕ) → Some (placed from x y) ≡ Some (placed start end next) → from ≤ x → x ≤ y → from < y → y ≤ length s → Ahead s from start end next
+    lies x y q h₁ h₂ h₃ h₄ =
+        let same : placed from x y ≡ placed start end next = cc in
+        let p₁ : from ≡ start = ap (λ (l : Line). l.start) same in
+        let p₂ : x ≡ end = ap (λ (l : Line). l.end) same in
+        let p₃ : y ≡ next = ap (λ (l : Line). l.next) same in
         record { here = sym p₁; ordered = omega arith; inside = omega arith; moves = omega arith; stays = omega arith }
 
     here : (t : Bool) → ltb (feed s from) (length (left s from)) ≡ t → from < length s
-        → cond t (At from (from + length (without_return (take (feed s from) (left s from)))) (from + feed s from + 1)) (At from (from + length (left s from)) (from + length (left s from))) ≡ At start end next
+        → Some (cond t (placed from (from + length (without_return (take (feed s from) (left s from)))) (from + feed s from + 1)) (placed from (from + length (left s from)) (from + length (left s from)))) ≡ Some (placed start end next)
         → Ahead s from start end next
     here true e h q =
         let k : feed s from < length (left s from) = ltb-true (feed s from) (length (left s from)) e in
         let b = bare_length (take (feed s from) (left s from)) in
         let l = length-take (feed s from) (left s from) in
         let d : length (left s from) ≡ length s - from = length-drop from s in
-        placed (from + length (without_return (take (feed s from) (left s from)))) (from + feed s from + 1) q (omega arith) (omega arith) (omega arith) (omega arith)
+        lies (from + length (without_return (take (feed s from) (left s from)))) (from + feed s from + 1) q (omega arith) (omega arith) (omega arith) (omega arith)
     here false e h q =
         let d : length (left s from) ≡ length s - from = length-drop from s in
-        placed (from + length (left s from)) (from + length (left s from)) q (omega arith) (omega arith) (omega arith) (omega arith)
+        lies (from + length (left s from)) (from + length (left s from)) q (omega arith) (omega arith) (omega arith) (omega arith)
 
-    go : (t : Bool) → ltb from (length s) ≡ t → cond t (line_from from (left s from) (feed s from)) End ≡ At start end next → Ahead s from start end next
+    go : (t : Bool) → ltb from (length s) ≡ t → cond t (Some (line_from from (left s from) (feed s from))) None ≡ Some (placed start end next) → Ahead s from start end next
     go true e q = here (ltb (feed s from) (length (left s from))) refl (ltb-true from (length s) e) q
     go false e q = absurd (let z : ◌≡◌ {A = ℕ} 0 1 = cc in omega arith)
 
@@ -182,11 +171,11 @@ unfolding walk stepped
 walk_from zero s from h = absurd (omega arith)
 walk_from (suc steps) s from h = go (line_at s from) refl (λ n k. walk_from steps s n k) ∙ sym (one_line s from)
   where
-    go : (line : Line) → line_at s from ≡ line → ((n : ℕ) → length s - n < steps → walk steps s n ≡ lines (drop n s)) → stepped s (walk steps s) line ≡ stepped s (λ n. lines (drop n s)) line
-    go (At start end next) e r =
-        let a = ahead s from start end next e in
-        ap (λ (y : List (List ℕ)). between s start end ∷ y) (r next (omega arith))
-    go End e r = refl
+    go : (line : Option Line) → line_at s from ≡ line → ((n : ℕ) → length s - n < steps → walk steps s n ≡ lines (drop n s)) → stepped s (walk steps s) line ≡ stepped s (λ n. lines (drop n s)) line
+    go (Some line) e r =
+        let a = ahead s from line.start line.end line.next e in
+        ap (λ (y : List (List ℕ)). between s line.start line.end ∷ y) (r line.next (omega arith))
+    go None e r = refl
 
 -- from 0 it gives exactly the lines
 pub walk_lines : (steps : ℕ) (s : List ℕ) → length s < steps → walk steps s 0 ≡ lines s

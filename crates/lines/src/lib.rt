@@ -1,9 +1,9 @@
 // Lines of text: the parts of a line, and the lines of a lent capture.
 #![tactic(auto)]
 
-ghost use Rattle.std.specs.Prelude.{◌≡◌, take, drop};
+ghost use Rattle.std.specs.Prelude.{◌≡◌, length, take, drop};
 ghost use Rattle.lines.specs.Parts.{first_word, other_words};
-ghost use Rattle.lines.specs.Lines.{line_at};
+ghost use Rattle.lines.specs.Lines.{without_return, line_at};
 
 // ---- parts of a line
 
@@ -11,20 +11,14 @@ ghost use Rattle.lines.specs.Lines.{line_at};
 pub fn cut(s: &[u8], n: usize) -> &[u8]
     ensures { result.now ≡ take n s.now }
 {
-    if n <= s.len() {
-        return &s[..n];
-    }
-    s
+    &s[..n.min(s.len())]
 }
 
 // What stands behind the first n bytes of s.
 pub fn tail(s: &[u8], n: usize) -> &[u8]
     ensures { result.now ≡ drop n s.now }
 {
-    if n <= s.len() {
-        return &s[n..];
-    }
-    &s[..0]
+    &s[n.min(s.len())..]
 }
 
 // The first word of s.
@@ -43,51 +37,45 @@ pub fn rest(s: &[u8]) -> &[u8]
 
 // ---- the lines of a capture
 
-// The line at a place of a capture: where it starts and ends, and the place of the next one; or that there is none.
-#[derive(Drop)]
-pub enum Line {
-    At {
-        start: usize,
-        end: usize,
-        next: usize,
-    },
-    End,
+// A line of a capture: where it starts and ends, and the place of the next one.
+#[derive(Clone, Copy)]
+pub struct Line {
+    pub start: usize,
+    pub end: usize,
+    pub next: usize,
 }
 
-// The line that starts at the place `from`. It ends before its LF, and before a CR in front of that; the last line
+// How many bytes stand before an LF, without a CR that ends them.
+#[tactic(auto, unfolding(crate::specs::Lines::without_return))]
+fn length_of(line: &[u8]) -> usize
+    ensures { result ≡ length (without_return line.now) }
+{
+    match line {
+        [text @ .., b'\r'] => text.len(),
+        _ => line.len(),
+    }
+}
+
+// The line that starts at the place `from`, if there is one. It ends before its LF, and before a CR in front of that; the last line
 // may have no LF.
-pub fn line_at(s: &[u8], from: usize) -> Line
+pub fn line_at(s: &[u8], from: usize) -> Option<Line>
     ensures { result ≡ line_at s.now from }
 {
     if s.len() <= from {
-        return Line::End;
+        return None;
     }
     let t = &s[from..];
     let n = laws::find(t, b'\n');
     if n == t.len() {
-        return Line::At {
+        return Some(Line {
             start: from,
             end: s.len(),
             next: s.len(),
-        };
+        });
     }
-    if n == 0 {
-        return Line::At {
-            start: from,
-            end: from,
-            next: from + 1,
-        };
-    }
-    if t[n - 1] == b'\r' {
-        return Line::At {
-            start: from,
-            end: from + n - 1,
-            next: from + n + 1,
-        };
-    }
-    Line::At {
+    Some(Line {
         start: from,
-        end: from + n,
+        end: from + length_of(&t[..n]),
         next: from + n + 1,
-    }
+    })
 }

@@ -1,6 +1,7 @@
 -- Laws of numbers read: one digit more at a time, a number that grows past the most, and a dash before it.
 -- Assumes nothing.
-use Rattle.std.proofs.Common.{◌≡◌, ℕ, ◌+◌, ◌-◌, ◌*◌, ◌%◌, ◌^◌, ◌<◌, ◌≤◌, Bool, true, false, cond, eqb, leb, List, [], ◌∷◌, ◌++◌, length, get_or, drop, sym, refl, ◌∙◌, arith, drop_of_length-le, eq-eqb, ne_eqb, le-leb, leb-true}
+use Rattle.std.specs.Prelude.{Option, Result, Ok, Err}
+use Rattle.std.proofs.Common.{ℤ, ◌≡◌, ℕ, ◌+◌, ◌-◌, ◌*◌, ◌%◌, ◌^◌, ◌<◌, ◌≤◌, Bool, true, false, cond, eqb, leb, List, [], ◌∷◌, ◌++◌, length, get_or, drop, sym, refl, ◌∙◌, arith, drop_of_length-le, eq-eqb, ne_eqb, le-leb, leb-true}
 use borrow.Author.Tests.{lt-leb}
 use Rattle.laws.specs.Bytes.{dash, digit0, digit9, is_digit}
 use Rattle.laws.specs.Lists.{every}
@@ -8,12 +9,9 @@ use Rattle.laws.proofs.Lists.{next}
 use Rattle.laws.proofs.Each.{every_more, every_not, every_end, every_at}
 use Rattle.laws.proofs.Tests.{within_low, within_high}
 use Rattle.laws.proofs.Classes.{in_class, not_in_class, class_place}
-use Rattle.numbers.specs.Sign.{number_on}
 use Rattle.numbers.specs.Numbers.{number_after, number_of}
-use Rattle.numbers.specs.declared.Count.{Count}
-use Rattle.numbers.specs.declared.Count.TheVariants.{Is, Over, Bad}
-use Rattle.numbers.specs.declared.Number.{Number}
-use Rattle.numbers.specs.declared.Number.TheVariants as number
+use Rattle.numbers.specs.declared.CountError.{CountError}
+use Rattle.numbers.specs.declared.CountError.TheVariants.{Over, Malformed}
 use Rattle.numbers.specs.Numbers.{count_of, read_count, on_side, read_number}
 
 -- ---- digits alone
@@ -64,7 +62,7 @@ module _ (s : List ℕ) (i v : ℕ) (e : number_of s ≡ number_after v (drop i 
   unfolding number_after
   grown_more h = e ∙ rw (next 0 s i h)
 
-  pub grown_over : (most : ℕ) → i < length s → most < 10 * v + (get_or s i 0 - digit0) → Over ≡ count_of s most
+  pub grown_over : (most : ℕ) → i < length s → most < 10 * v + (get_or s i 0 - digit0) → Err Over ≡ count_of s most
   unfolding count_of
   grown_over most h k =
       let m : number_of s ≡ number_after (10 * v + (get_or s i 0 - digit0)) (drop (i + 1) s) = grown_more h in
@@ -74,29 +72,29 @@ module _ (s : List ℕ) (i v : ℕ) (e : number_of s ≡ number_after v (drop i 
   unfolding number_after
   grown_whole h = e ∙ rw (drop_of_length-le s h)
 
-  pub grown_all : (most : ℕ) → length s ≤ i → v ≤ most → Is v ≡ count_of s most
+  pub grown_all : (most : ℕ) → length s ≤ i → v ≤ most → Ok v ≡ count_of s most
   unfolding count_of
   grown_all most h k = rw (grown_whole h, le-leb v most k)
 
-pub count_none : (s : List ℕ) (most : ℕ) → length s ≡ 0 → Bad ≡ read_count s most
+pub count_none : (s : List ℕ) (most : ℕ) → length s ≡ 0 → Err Malformed ≡ read_count s most
 unfolding read_count
 count_none s most h = rw (eq-eqb (length s) 0 h)
 
 module _ (s : List ℕ) (most : ℕ) (digit : Bool) (e : digit ≡ every is_digit s) where
-  pub count_read : (r : Count) → (length s ≡ 0 → ⊥) → digit ≡ true → r ≡ count_of s most → r ≡ read_count s most
+  pub count_read : (r : Result ℕ CountError) → (length s ≡ 0 → ⊥) → digit ≡ true → r ≡ count_of s most → r ≡ read_count s most
   unfolding read_count
   count_read r h d p = rw (ne_eqb (length s) 0 h, ← e, d) p
 
-  pub count_bad : (length s ≡ 0 → ⊥) → digit ≡ false → Bad ≡ read_count s most
+  pub count_bad : (length s ≡ 0 → ⊥) → digit ≡ false → Err Malformed ≡ read_count s most
   unfolding read_count
   count_bad h d = rw (ne_eqb (length s) 0 h, ← e, d)
 
 -- what is read is at most the most
-pub count_small : (s : List ℕ) (most n : ℕ) → Is n ≡ read_count s most → n ≤ most
+pub count_small : (s : List ℕ) (most n : ℕ) → Ok n ≡ read_count s most → n ≤ most
 unfolding read_count count_of
 count_small s most n e = go (eqb (length s) 0) (every is_digit s) (leb (number_of s) most) refl e
   where
-    go : (p q t : Bool) → leb (number_of s) most ≡ t → Is n ≡ cond p Bad (cond q (cond t (Is (number_of s)) Over) Bad) → n ≤ most
+    go : (p q t : Bool) → leb (number_of s) most ≡ t → Ok n ≡ cond p (Err Malformed) (cond q (cond t (Ok (number_of s)) (Err Over)) (Err Malformed)) → n ≤ most
     go true q t f e = absurd (let z : ◌≡◌ {A = ℕ} 0 1 = cc in omega arith)
     go false true true f e = let m : n ≡ number_of s = cc in omega (arith, leb-true (number_of s) most f)
     go false true false f e = absurd (let z : ◌≡◌ {A = ℕ} 0 1 = cc in omega arith)
@@ -104,29 +102,10 @@ count_small s most n e = go (eqb (length s) 0) (every is_digit s) (leb (number_o
 
 -- ---- a dash, or none
 
--- r is the number of the size that was read
-module _ (s : List ℕ) (minus : Bool) (most : ℕ) (read : Count) (e : read ≡ read_count s most) where
-  pub side_over : read ≡ Over → number.Bad ≡ on_side minus (read_count s most)
-  unfolding on_side
-  side_over h = rw (← e, h)
-
-  pub side_bad : read ≡ Bad → number.Bad ≡ on_side minus (read_count s most)
-  unfolding on_side
-  side_bad h = rw (← e, h)
-
-  pub side_is : (n : ℕ) (r : Number) → read ≡ Is n → r ≡ number_on minus n → r ≡ on_side minus (read_count s most)
-  unfolding on_side
-  side_is n r h k = rw (← e, h) k
-
-pub with_dash : (s t : List ℕ) (r : Number) → get_or s 0 0 ≡ dash → t ≡ drop 1 s → r ≡ on_side true (read_count t 2147483648) → r ≡ read_number s
+pub with_dash : (s t : List ℕ) (r : Option ℤ) → get_or s 0 0 ≡ dash → t ≡ drop 1 s → r ≡ on_side true (read_count t 2147483648) → r ≡ read_number s
 unfolding read_number
 with_dash s t r h e p = rw (eq-eqb (get_or s 0 0) dash h, ← e) p
 
-pub without_dash : (s : List ℕ) (r : Number) → (get_or s 0 0 ≡ dash → ⊥) → r ≡ on_side false (read_count s 2147483648) → r ≡ read_number s
+pub without_dash : (s : List ℕ) (r : Option ℤ) → (get_or s 0 0 ≡ dash → ⊥) → r ≡ on_side false (read_count s 2147483648) → r ≡ read_number s
 unfolding read_number
 without_dash s r h p = rw (ne_eqb (get_or s 0 0) dash h) p
-
-pub no_text : (s : List ℕ) → length s ≡ 0 → number.Bad ≡ read_number s
-unfolding read_number read_count on_side
-no_text [] h = refl
-no_text (d ∷ l) h = absurd (omega arith)

@@ -1,11 +1,10 @@
 -- Laws of hexadecimal digits, and that a digit written reads back.
 -- Assumes nothing.
-use Rattle.std.proofs.Common.{◌≡◌, ℕ, ◌+◌, ◌-◌, ◌/◌, ◌%◌, ◌^◌, ◌<◌, ◌≤◌, [], ◌∷◌, ap₂, arith, le-ltb, lt-ltb}
+use Rattle.std.specs.Prelude.{Option, Some, None}
+use Rattle.std.proofs.Common.{Bool, false, T, eqb, eqb→eq, ap, ◌≡◌, ℕ, ◌+◌, ◌-◌, ◌/◌, ◌%◌, ◌<◌, ◌≤◌, [], ◌∷◌, ap₂, le-ltb, lt-ltb}
 use Rattle.laws.specs.Bytes.{digit0, small_a, within}
-use Rattle.laws.proofs.Classes.{in_class, not_in_class, class_place}
-use Rattle.laws.proofs.Every.{same_below}
-use Rattle.numbers.specs.Numbers.{hex_digit, hex_pair, hex_value, small_f}
-use Rattle.numbers.proofs.Counts.{digit_yes, digit_no, digit_value}
+use Rattle.laws.proofs.Every.{all_at}
+use Rattle.numbers.specs.Numbers.{hex_digit, hex_pair, hex_value}
 
 module _ (n : ℕ) where
   pub digit_low : n % 16 < 10 → digit0 + n % 16 ≡ hex_digit n
@@ -20,25 +19,17 @@ pub pair_is : (b high low : ℕ) → high ≡ hex_digit (b / 16) → low ≡ hex
 unfolding hex_pair
 pair_is b high low p q = ap₂ (λ (x y : ℕ). x ∷ y ∷ []) p q
 
--- d and l are the wrapped differences of a byte b from the digit 0 and from the letter a
-module _ (b d : ℕ) (digit : (d + digit0) % 2 ^ 8 ≡ b) where
-  pub a_digit : d < 10 → d ≡ hex_value b
-  unfolding hex_value
-  a_digit h = rw (digit_yes b d digit (omega arith)) (digit_value b d digit (omega arith))
+-- whether a digit was read as k
+reads : Option ℕ → ℕ → Bool
+reads (Some x) k = eqb x k
+reads None k = false
 
-  module _ (h : 10 ≤ d) (byte : d < 2 ^ 8) (l : ℕ) (letter : (l + small_a) % 2 ^ 8 ≡ b) where
-    pub a_letter : l < 6 → l + 10 ≡ hex_value b
-    unfolding hex_value
-    a_letter k =
-        rw (digit_no b d digit (omega arith) byte, in_class small_a small_f 6 b l letter k (omega arith) (omega arith))
-        (omega (arith, class_place small_a small_f 6 b l letter k (omega arith) (omega arith)))
-
-    pub no_hex : 6 ≤ l → l < 2 ^ 8 → 16 ≡ hex_value b
-    unfolding hex_value
-    no_hex k short =
-        rw (digit_no b d digit (omega arith) byte, not_in_class small_a small_f 6 b l letter k (omega arith) (omega arith) short)
+reads_eq : (o : Option ℕ) (k : ℕ) → T (reads o k) → o ≡ Some k
+unfolding reads
+reads_eq (Some x) k t = ap Some (eqb→eq x k t)
+reads_eq None k t = absurd t
 
 -- what is written for a number below sixteen reads back
-pub hex_reads_back : (n : ℕ) → n < 16 → hex_value (hex_digit n) ≡ n
-unfolding hex_value hex_digit within
-hex_reads_back n h = same_below 16 (λ k. hex_value (hex_digit k)) (λ k. k) tt n h
+pub hex_reads_back : (n : ℕ) → n < 16 → hex_value (hex_digit n) ≡ Some n
+unfolding hex_value hex_digit within reads
+hex_reads_back n h = reads_eq (hex_value (hex_digit n)) n (all_at 16 (λ k. reads (hex_value (hex_digit k)) k) tt n h)

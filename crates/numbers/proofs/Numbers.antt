@@ -1,5 +1,6 @@
 -- Numbers as text: they read back as the number, no zero stands in front, and two numbers have two texts.
 -- Assumes nothing.
+use Rattle.std.specs.Prelude.{Some, Ok}
 use Rattle.std.proofs.Common.{◌≡◌, ℕ, zero, suc, ◌+◌, ◌/◌, ◌%◌, ◌<◌, ◌≤◌, Bool, true, false, cond, eqb, ltb, List, [], ◌∷◌, ◌++◌, length, get_or, ℤ, pos, negsuc, neg_ℤ, sym, refl, ap, ◌∙◌, arith, length-append, w32, SFits, ltb-false, ltb-true, ne_eqb, le-leb}
 use lib.ListN.{get_or-append}
 use Rattle.laws.specs.Bytes.{dash, digit0, digit9, is_digit}
@@ -8,8 +9,6 @@ use Rattle.laws.proofs.Each.{every_snoc}
 use Rattle.laws.proofs.Tests.{within_yes}
 use Rattle.numbers.specs.Sign.{signed_of, most_on, number_on}
 use Rattle.numbers.specs.Numbers.{number_after, number_of}
-use Rattle.numbers.specs.declared.Count.TheVariants.{Is}
-use Rattle.numbers.specs.declared.Number.TheVariants as number
 use Rattle.numbers.specs.Numbers.{digits_by, digits, decimal, count_of, read_count, on_side, read_number}
 use Rattle.numbers.proofs.Counts.{number_append}
 
@@ -92,13 +91,13 @@ by_digits (suc left) n = go (ltb n 10) refl (by_digits left (n / 10))
     go true e r = let l : n < 10 = ltb-true n 10 e in rw (within_yes digit0 digit9 (digit0 + n) (omega arith) (omega arith))
     go false e r = every_snoc is_digit (digits_by left (n / 10)) (digit0 + n % 10) r (within_yes digit0 digit9 (digit0 + n % 10) (omega arith) (omega arith))
 
-pub count_back : (n most : ℕ) → n ≤ most → read_count (digits n) most ≡ Is n
+pub count_back : (n most : ℕ) → n ≤ most → read_count (digits n) most ≡ Ok n
 unfolding read_count count_of digits number_of
 count_back n most h =
     let f = by_first (suc n) n (omega arith) in
     rw (ne_eqb (length (digits n)) 0 (λ e. omega arith), by_digits (suc n) n, digits_read n, le-leb n most h)
 
-pub number_back : (z : ℤ) → SFits w32 z → read_number (decimal z) ≡ number.Is z
+pub number_back : (z : ℤ) → SFits w32 z → read_number (decimal z) ≡ Some z
 unfolding read_number on_side decimal digits number_on most_on signed_of
 number_back (pos n) f =
     let k = by_first (suc n) n (omega arith) in

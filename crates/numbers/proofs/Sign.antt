@@ -1,16 +1,15 @@
 -- Numbers put together and taken apart. First the laws of a side and a size that callers cite, then the machine's signed
 -- numbers: an `i32` is made and taken apart by way of an `i64`.
 -- Assumes nothing.
-use Rattle.std.proofs.Common.{◌≡◌, ℕ, zero, suc, ◌<◌, ◌≤◌, Bool, true, false, T, ℤ, pos, negsuc, ◌-ℤ◌, neg_ℤ, nat_abs, sym, refl, ap, ◌∙◌, subst, arith, to_z-of_z, w32, w64, Fits, SFits, to_z, of_z, ltb-true, le-leb}
+use Rattle.std.specs.Prelude.{Option, Some, None}
+use Rattle.std.proofs.Common.{le-ltb, ◌≡◌, ℕ, zero, suc, ◌<◌, ◌≤◌, Bool, true, false, ℤ, pos, negsuc, ◌-ℤ◌, neg_ℤ, nat_abs, sym, refl, ap, ◌∙◌, subst, arith, to_z-of_z, w32, w64, SFits, to_z, of_z, le-leb}
 use mathlib.Core.Bool.{false≢true}
 use borrow.Author.Tests.{lt-leb}
 use lib.IntN.{+ℤ_idl}
-use lib.Signed.{lt_z, le_z, non_neg}
-use mir.Facts.{to_z_pos, sfits_widen, Fits-nat_abs}
+use lib.Signed.{lt_z, le_z}
+use mir.Facts.{to_z_pos}
 use Rattle.numbers.specs.Sign.{signed_of, most_on, number_on, is_minus, is_on, sides_of}
 use Rattle.numbers.specs.declared.Sides.{Sides}
-use Rattle.numbers.specs.declared.Number.{Number}
-use Rattle.numbers.specs.declared.Number.TheVariants.{Is, Bad}
 
 -- ---- a side and a size
 
@@ -68,30 +67,30 @@ module _ (angle z : ℤ) (back : z ≡ angle) (p : Sides) (e : p ≡ sides_of z)
   parts_minus = ap (λ (q : Sides). q.minus) e ∙ ap is_minus back
 
 -- a size that an `i32` holds on either side
-pub number_small : (minus : Bool) (size : ℕ) → size ≤ 2147483647 → number_on minus size ≡ Is (signed_of minus size)
+pub number_small : (minus : Bool) (size : ℕ) → size ≤ 2147483647 → number_on minus size ≡ Some (signed_of minus size)
 unfolding number_on most_on
 number_small false size h = rw (le-leb size 2147483647 h)
 number_small true size h = rw (le-leb size 2147483648 (omega arith))
 
 -- what a caller learns of such a size: r is what it was answered
-module _ (minus : Bool) (size : ℕ) (h : size ≤ 2147483647) (r : Number) (e : r ≡ number_on minus size) where
-  pub number_told : (z : ℤ) → r ≡ Is z → z ≡ signed_of minus size
-  number_told z f = let k : Is z ≡ Is (signed_of minus size) = sym f ∙ e ∙ number_small minus size h in cc
+module _ (minus : Bool) (size : ℕ) (h : size ≤ 2147483647) (r : Option ℤ) (e : r ≡ number_on minus size) where
+  pub number_told : (z : ℤ) → r ≡ Some z → z ≡ signed_of minus size
+  number_told z f = let k : Some z ≡ Some (signed_of minus size) = sym f ∙ e ∙ number_small minus size h in cc
 
-  pub number_never : r ≡ Bad → ⊥
+  pub number_never : r ≡ None → ⊥
   number_never f =
-      let k : Bad ≡ Is (signed_of minus size) = sym f ∙ e ∙ number_small minus size h in
+      let k : None ≡ Some (signed_of minus size) = sym f ∙ e ∙ number_small minus size h in
       let n : ◌≡◌ {A = ℕ} 0 1 = cc in
       omega arith
 
 -- ---- the machine's numbers: together
 
 module _ (minus : Bool) (size : ℕ) where
-  pub number_past : (most : ℕ) → most ≡ most_on minus → most < size → Bad ≡ number_on minus size
+  pub number_past : (most : ℕ) → most ≡ most_on minus → most < size → None ≡ number_on minus size
   unfolding number_on
   number_past most e h = rw (← e, lt-leb size most h)
 
-  pub number_is : (most : ℕ) → most ≡ most_on minus → size ≤ most → (z : ℤ) → z ≡ signed_of minus size → Is z ≡ number_on minus size
+  pub number_is : (most : ℕ) → most ≡ most_on minus → size ≤ most → (z : ℤ) → z ≡ signed_of minus size → Some z ≡ number_on minus size
   unfolding number_on
   number_is most e h z g = rw (← e, le-leb size most h, g)
 
@@ -130,30 +129,16 @@ module _ (m : ℕ) (h : m ≤ 2147483648) where
 pub back : (z : ℤ) → SFits w32 z → to_z w32 (of_z w32 z) ≡ z
 back z f = to_z-of_z {w = w32} {z = z} f
 
-pub wider : (z : ℤ) → SFits w32 z → SFits w64 (to_z w32 (of_z w32 z))
-wider z f = subst (SFits w64) (sym (back z f)) (sfits_widen {w = w32} {w' = w64} tt f)
+-- the sign of a number, as the code tests it
+is_below : (z : ℤ) → lt_z z (pos 0) ≡ is_minus z
+unfolding is_minus
+is_below (pos n) = le-ltb n 0 (omega arith)
+is_below (negsuc n) = refl
 
-wide_back : (z : ℤ) → SFits w32 z → to_z w64 (of_z w64 (to_z w32 (of_z w32 z))) ≡ z
-wide_back z f = to_z-of_z {w = w64} {z = to_z w32 (of_z w32 z)} (wider z f) ∙ back z f
-
-turned_fits : (z : ℤ) → SFits w32 z → SFits w64 (neg_ℤ z)
-turned_fits (pos zero) f = record { sfits = omega arith }
-turned_fits (pos (suc n)) f = record { sfits = omega (arith, f.sfits) }
-turned_fits (negsuc n) f = record { sfits = omega (arith, f.sfits) }
-
-turned_is : (z : ℤ) → SFits w32 z → pos 0 -ℤ to_z w64 (of_z w64 (to_z w32 (of_z w32 z))) ≡ neg_ℤ z
-turned_is z f = ap (λ (y : ℤ). pos 0 -ℤ y) (wide_back z f) ∙ +ℤ_idl (neg_ℤ z)
-
-pub turned : (z : ℤ) → SFits w32 z → SFits w64 (pos 0 -ℤ to_z w64 (of_z w64 (to_z w32 (of_z w32 z))))
-turned z f = subst (SFits w64) (sym (turned_is z f)) (turned_fits z f)
-
-pub turned_back : (z : ℤ) → SFits w32 z → to_z w64 (of_z w64 (pos 0 -ℤ to_z w64 (of_z w64 (to_z w32 (of_z w32 z))))) ≡ neg_ℤ z
-turned_back z f = to_z-of_z {w = w64} {z = pos 0 -ℤ to_z w64 (of_z w64 (to_z w32 (of_z w32 z)))} (turned z f) ∙ turned_is z f
-
-pub size_turned : (z : ℤ) → nat_abs (neg_ℤ z) ≡ nat_abs z
-size_turned (pos zero) = refl
-size_turned (pos (suc n)) = refl
-size_turned (negsuc n) = refl
+-- both parts of a number that the code has as y
+pub taken_apart : (z y : ℤ) (size : ℕ) → y ≡ z → size ≡ nat_abs z → record { size = size; minus = lt_z y (pos 0) } ≡ sides_of z
+unfolding sides_of
+taken_apart z y size e f = rw (e, f, is_below z)
 
 -- the tests of a side: z is the number as the code has it
 module _ (minus : Bool) (a z : ℤ) (e : z ≡ a) where
@@ -164,19 +149,3 @@ module _ (minus : Bool) (a z : ℤ) (e : z ≡ a) where
   pub on_plus : minus ≡ false → le_z (pos 0) z ≡ is_on minus a
   unfolding is_on
   on_plus h = rw (h, e)
-
--- what the test against 0 tells
-pub below_zero : (z : ℤ) → lt_z z (pos 0) ≡ true → non_neg z ≡ false
-below_zero (pos n) e = absurd (let h : n < 0 = ltb-true n 0 e in omega arith)
-below_zero (negsuc n) e = refl
-
-pub not_below : (z : ℤ) → lt_z z (pos 0) ≡ false → non_neg z ≡ true
-not_below (pos n) e = refl
-not_below (negsuc n) e = sym e
-
-pub turned_up : (z : ℤ) → non_neg z ≡ false → T (non_neg (neg_ℤ z))
-turned_up (pos n) e = absurd (false≢true (sym e))
-turned_up (negsuc n) e = tt
-
-pub size_fits : (z : ℤ) → SFits w32 z → Fits w32 (nat_abs z)
-size_fits z f = Fits-nat_abs {w = w32} {w' = w32} tt f

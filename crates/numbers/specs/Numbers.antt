@@ -1,14 +1,12 @@
 -- Numbers as text: decimal digits without a zero in front, a dash before a negative number, and two hexadecimal digits
 -- for a byte; and such text read.
 -- Assumes nothing.
-use Rattle.std.specs.Prelude.{ℕ, zero, suc, ◌+◌, ◌-◌, ◌*◌, ◌/◌, ◌%◌, Bool, true, false, cond, List, [], ◌∷◌, ◌++◌, length, drop, ℤ, pos, negsuc, ◌==◌, nat_le, nat_lt, slice_index}
+use Rattle.std.specs.Prelude.{ℕ, zero, suc, ◌+◌, ◌-◌, ◌*◌, ◌/◌, ◌%◌, Bool, true, false, cond, List, [], ◌∷◌, ◌++◌, length, drop, ℤ, pos, negsuc, ◌==◌, nat_le, nat_lt, slice_index, Option, Some, None, Result, Ok, Err}
 use Rattle.laws.specs.Bytes.{dash, digit0, small_a, within, is_digit}
 use Rattle.laws.specs.Lists.{every}
 use Rattle.numbers.specs.Sign.{number_on}
-use Rattle.numbers.specs.declared.Count.{Count}
-use Rattle.numbers.specs.declared.Count.TheVariants.{Is, Over, Bad}
-use Rattle.numbers.specs.declared.Number.{Number}
-use Rattle.numbers.specs.declared.Number.TheVariants as number
+use Rattle.numbers.specs.declared.CountError.{CountError}
+use Rattle.numbers.specs.declared.CountError.TheVariants.{Over, Malformed}
 
 -- ---- decimal
 
@@ -44,21 +42,20 @@ decimal (pos n) = digits n
 decimal (negsuc n) = dash ∷ digits (suc n)
 
 -- the number of digits, if it is at most `most`
-unfoldable pub count_of : List ℕ → ℕ → Count
-count_of s most = cond (nat_le (number_of s) most) (Is (number_of s)) Over
+unfoldable pub count_of : List ℕ → ℕ → Result ℕ CountError
+count_of s most = cond (nat_le (number_of s) most) (Ok (number_of s)) (Err Over)
 
 -- digits alone, at least one
-unfoldable pub read_count : List ℕ → ℕ → Count
-read_count s most = cond (length s == 0) Bad (cond (every is_digit s) (count_of s most) Bad)
+unfoldable pub read_count : List ℕ → ℕ → Result ℕ CountError
+read_count s most = cond (length s == 0) (Err Malformed) (cond (every is_digit s) (count_of s most) (Err Malformed))
 
 -- a count on a side of 0
-unfoldable pub on_side : Bool → Count → Number
-on_side minus (Is size) = number_on minus size
-on_side minus Over = number.Bad
-on_side minus Bad = number.Bad
+unfoldable pub on_side : Bool → Result ℕ CountError → Option ℤ
+on_side minus (Ok size) = number_on minus size
+on_side minus (Err e) = None
 
 -- a dash and digits, or digits alone, of a number that an `i32` holds: none is of a size past 2147483648
-unfoldable pub read_number : List ℕ → Number
+unfoldable pub read_number : List ℕ → Option ℤ
 read_number s =
     cond (slice_index s 0 == dash)
     (on_side true (read_count (drop 1 s) 2147483648))
@@ -77,6 +74,6 @@ hex_pair b = hex_digit (b / 16) ∷ hex_digit b ∷ []
 abbrev pub small_f : ℕ
 small_f = 0x66
 
--- what a digit stands for; 16 for any other byte
-unfoldable pub hex_value : ℕ → ℕ
-hex_value d = cond (is_digit d) (d - digit0) (cond (within small_a small_f d) (d - small_a + 10) 16)
+-- what a digit stands for; no other byte is one
+unfoldable pub hex_value : ℕ → Option ℕ
+hex_value d = cond (is_digit d) (Some (d - digit0)) (cond (within small_a small_f d) (Some (d - small_a + 10)) None)

@@ -1,11 +1,9 @@
 -- A number by its sign and its size, which is its distance from 0. Of an angle the sign is its side (document 01): "north and east
 -- positive", "Zero south or west is plain 0".
 -- Assumes nothing.
-use Rattle.std.specs.Prelude.{ℕ, Bool, cond, not, ℤ, pos, neg_ℤ, int_le, nat_le, unsigned_abs}
+use Rattle.std.specs.Prelude.{ℕ, Bool, cond, not, ℤ, pos, neg_ℤ, int_le, nat_le, unsigned_abs, Option, Some, None}
 use Rattle.std.specs.Int.Signed.{non_neg}
 use Rattle.numbers.specs.declared.Sides.{Sides}
-use Rattle.numbers.specs.declared.Number.{Number}
-use Rattle.numbers.specs.declared.Number.TheVariants.{Is, Bad}
 
 -- the number of that size, below 0 where minus is said
 unfoldable pub signed_of : Bool → ℕ → ℤ
@@ -16,8 +14,8 @@ unfoldable pub most_on : Bool → ℕ
 most_on minus = cond minus 2147483648 2147483647
 
 -- that number, if an `i32` holds it
-unfoldable pub number_on : Bool → ℕ → Number
-number_on minus size = cond (nat_le size (most_on minus)) (Is (signed_of minus size)) Bad
+unfoldable pub number_on : Bool → ℕ → Option ℤ
+number_on minus size = cond (nat_le size (most_on minus)) (Some (signed_of minus size)) None
 
 -- below 0; 0 itself is not
 unfoldable pub is_minus : ℤ → Bool
