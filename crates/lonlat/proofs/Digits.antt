@@ -1,8 +1,9 @@
 -- Laws of digit places: the last places as one byte, and the value that digits write.
 -- Assumes nothing.
-use Rattle.std.proofs.Common.{◌≡◌, ℕ, ◌+◌, ◌-◌, ◌*◌, ◌/◌, ◌%◌, ◌^◌, ◌<◌, ◌≤◌, Bool, true, false, leb, List, [], ◌∷◌, ◌++◌, length, get_or, take, drop, replicate, sym, refl, ap, ◌∙◌, add-one, arith, length-append, length-drop, take-append-drop, length-take-le, take_at, get_or-append-add, le-leb, leb-false, leb-true}
+use Rattle.std.proofs.Common.{◌≡◌, ℕ, ◌+◌, ◌-◌, ◌*◌, ◌/◌, ◌%◌, ◌^◌, ◌<◌, ◌≤◌, Bool, true, false, leb, List, [], ◌∷◌, ◌++◌, length, get_or, take, drop, replicate, sym, refl, ap, ◌∙◌, add-one, arith, length-append, length-drop, take-append-drop, length-take-le, take_at, get_or-append-add, append-nil, drop_of_length-le, le-leb, leb-false, leb-true}
 use native.Mathlib.Nat.{pow-succ', pow-le-pow_right}
 use borrow.Author.Tests.{lt-leb}
+use borrow.Rule.Slice.PartMut.{put_mid}
 use lib.ListN.{length-replicate, get_or-replicate}
 use Rattle.laws.specs.Bytes.{is_digit}
 use Rattle.laws.specs.Lists.{every}
@@ -20,6 +21,13 @@ module _ (b n : ℕ) (t : List ℕ) (few : n ≤ length t) where
   pub last_length : length (last_as b n t) ≡ length t
   unfolding last_as
   last_length = length-append (take (length t - n) t) (replicate n b) ∙ rw (kept, length-replicate n b) (omega arith)
+
+  -- the bytes behind what stays are filled: u is what they are then, m how many
+  pub last_filled : (u : List ℕ) (m : ℕ) → u ≡ replicate m b → m ≡ n → put_mid (length t - n) (length t - (length t - n)) t u ≡ last_as b n t
+  unfolding last_as
+  last_filled u m e f =
+      let past : drop (length t - (length t - n)) (drop (length t - n) t) ≡ [] = drop_of_length-le (drop (length t - n) t) (rw (length-drop (length t - n) t) (omega arith)) in
+      rw (e, f, past, append-nil (replicate n b))
 
   pub last_start : take (length t - n) (last_as b n t) ≡ take (length t - n) t
   unfolding last_as

@@ -1,199 +1,229 @@
 -- What each answer of the readers must show, one law an answer.
 -- Assumes nothing.
-use Rattle.std.proofs.Common.{◌≡◌, ℕ, ◌-◌, ◌<◌, ◌≤◌, Bool, true, false, cond, not, ◌&&◌, ◌||◌, eqb, leb, List, length, get_or, take, drop, ℤ, sym, refl, ap, ◌∙◌, arith, le-ltb, lt-ltb, eq-eqb, ne_eqb, le-leb}
-use borrow.Author.Tests.{lt-leb, not-true, not-false}
+use Rattle.std.proofs.Common.{◌≡◌, ℕ, ◌-◌, ◌<◌, ◌≤◌, Bool, true, false, cond, Option, Some, None, Err, ok_or, ◌||◌, eqb, leb, List, length, get_or, take, drop, ℤ, sym, refl, ap, ◌∙◌, arith, le-ltb, lt-ltb, eq-eqb, ne_eqb, le-leb}
+use mathlib.Core.Bool.{or-true}
+use borrow.Author.Tests.{lt-leb}
 use borrow.Author.Rules.{part_to_end}
 use Rattle.laws.specs.Bytes.{space, digit0, point, capital_n, capital_s, capital_e, capital_w, is_digit}
 use Rattle.laws.specs.Lists.{index_of, every}
 use Rattle.laws.proofs.Places.{index_le}
-use Rattle.laws.proofs.Tests.{guard, passed}
+use Rattle.std.proofs.lemmas.Option.{none-some, cond_some}
 use Rattle.lonlat.specs.Angle.{most_latitude, most_longitude}
 use Rattle.numbers.specs.Sign.{number_on}
-use Rattle.numbers.specs.declared.Number.{Number}
-use Rattle.numbers.specs.declared.Number.TheVariants as number
 use Rattle.numbers.proofs.Sign.{number_told, number_never}
 use Rattle.lonlat.specs.declared.Size.{Size}
-use Rattle.lonlat.specs.declared.Size.TheVariants.{Hundredths, NoDigit}
 use Rattle.lonlat.specs.declared.AngleRead.{AngleRead}
-use Rattle.lonlat.specs.declared.AngleRead.TheVariants.{Of, Bad}
 use Rattle.lonlat.specs.declared.LatitudeRead.{LatitudeRead}
-use Rattle.lonlat.specs.declared.LatitudeRead.TheVariants as lat
 use Rattle.lonlat.specs.declared.LongitudeRead.{LongitudeRead}
-use Rattle.lonlat.specs.declared.LongitudeRead.TheVariants as lon
-use Rattle.lonlat.specs.Digits.{last_as, value_of, is_sixty, size_of, fits, angle_in}
-use Rattle.lonlat.specs.Latitude.{is_blank, blanks_in, rest_blank, kept_of, counted_digits, latitude_with, latitude_in, latitude_places, read_latitude}
-use Rattle.lonlat.specs.Longitude.{longitude_with, longitude_in, longitude_places, read_longitude}
+use Rattle.lonlat.specs.declared.LongitudeError.TheVariants.{Malformed, OutOfRange}
+use Rattle.lonlat.specs.Digits.{last_as, value_of, is_sixty, size_of, fits, angle_in, side_of}
+use Rattle.lonlat.specs.Latitude.{is_blank, blanks_in, rest_blank, kept_of, counted_digits, latitude_read, latitude_with, latitude_in, latitude_places, read_latitude}
+use Rattle.lonlat.specs.Longitude.{longitude_read, longitude_with, longitude_in, longitude_places, read_longitude}
 
 -- ---- digits and then blanks
 
-pub kept_yes : (t : List ℕ) (k : ℕ) (b : Bool) → k ≡ index_of space t → b ≡ every is_blank (take (length t - k) (drop k t)) → b ≡ true → k ≡ kept_of t
+pub kept_yes : (t : List ℕ) (k : ℕ) (b : Bool) → k ≡ index_of space t → b ≡ every is_blank (take (length t - k) (drop k t)) → b ≡ true → Some k ≡ kept_of t
 unfolding kept_of rest_blank
 kept_yes t k b e f g = rw (← e, ← part_to_end t k, ← f, g)
 
-pub kept_no : (t : List ℕ) (k : ℕ) (b : Bool) → k ≡ index_of space t → b ≡ every is_blank (take (length t - k) (drop k t)) → b ≡ false → 0 ≡ kept_of t
+pub kept_no : (t : List ℕ) (k : ℕ) (b : Bool) → k ≡ index_of space t → b ≡ every is_blank (take (length t - k) (drop k t)) → b ≡ false → None ≡ kept_of t
 unfolding kept_of rest_blank
 kept_no t k b e f g = rw (← e, ← part_to_end t k, ← f, g)
 
 pub place_within : (t : List ℕ) (k : ℕ) → k ≡ index_of space t → k ≤ length t
 place_within t k e = rw e (index_le space t)
 
-pub kept_within : (t : List ℕ) → kept_of t ≤ length t
-unfolding kept_of
-kept_within t = go (rest_blank t)
-  where
-    go : (b : Bool) → cond b (index_of space t) 0 ≤ length t
-    go true = index_le space t
-    go false = omega arith
-
 -- what was kept tells both: the rest is blank, and where it starts
 pub record Blanked (t : List ℕ) (k : ℕ) : Type 0 where
   pub rest : rest_blank t ≡ true
   pub starts : index_of space t ≡ k
 
-kept_some : (t : List ℕ) (k : ℕ) → k ≡ kept_of t → (k ≡ 0 → ⊥) → Blanked t k
+kept_some : (t : List ℕ) (k : ℕ) → kept_of t ≡ Some k → Blanked t k
 unfolding kept_of
-kept_some t k e h = go (rest_blank t) refl e
+kept_some t k e = let g = cond_some (rest_blank t) (index_of space t) k e in record { rest = g.0; starts = g.1 }
+
+kept_none : (t : List ℕ) → kept_of t ≡ None → rest_blank t ≡ false
+unfolding kept_of
+kept_none t e = go (rest_blank t) e
   where
-    go : (b : Bool) → rest_blank t ≡ b → k ≡ cond b (index_of space t) 0 → Blanked t k
-    go true p q = record { rest = p; starts = sym q }
-    go false p q = absurd (h q)
+    go : (b : Bool) → cond b (Some (index_of space t)) None ≡ None → b ≡ false
+    go true f = absurd (none-some (index_of space t) (sym f))
+    go false f = refl
+
+pub kept_within : (t : List ℕ) (k : ℕ) (o : Option ℕ) → o ≡ kept_of t → o ≡ Some k → k ≤ length t
+kept_within t k o e f = place_within t k (sym (kept_some t k (sym e ∙ f)).starts)
 
 -- ---- the angle of digits
 
-pub record Valued (t : List ℕ) (v : ℕ) (sixty : Bool) : Type 0 where
+pub record Valued (t : List ℕ) (z : Size) : Type 0 where
   pub digits : every is_digit t ≡ true
-  pub value : value_of t ≡ v
-  pub sixties : is_sixty t ≡ sixty
+  pub value : value_of t ≡ z.hundredths
+  pub sixties : is_sixty t ≡ z.sixty
 
-valued : (t : List ℕ) (v : ℕ) (sixty : Bool) → size_of t ≡ Hundredths v sixty → Valued t v sixty
+valued : (t : List ℕ) (z : Size) → size_of t ≡ Some z → Valued t z
 unfolding size_of
-valued t v sixty e =
-    let g = passed (every is_digit t) (Hundredths (value_of t) (is_sixty t)) NoDigit (Hundredths v sixty) none e in
-    record { digits = g.0; value = same g.1; sixties = same_sixty g.1 }
-  where
-    none : NoDigit ≡ Hundredths v sixty → ⊥
-    none q = let z : ◌≡◌ {A = ℕ} 0 1 = cc in omega arith
+valued t z e =
+    let g = cond_some (every is_digit t) (record { hundredths = value_of t; sixty = is_sixty t }) z e in
+    record { digits = g.0; value = ap (λ (q : Size). q.hundredths) g.1; sixties = ap (λ (q : Size). q.sixty) g.1 }
 
-    same : Hundredths (value_of t) (is_sixty t) ≡ Hundredths v sixty → value_of t ≡ v
-    same q = cc
-
-    same_sixty : Hundredths (value_of t) (is_sixty t) ≡ Hundredths v sixty → is_sixty t ≡ sixty
-    same_sixty q = cc
-
-not_digits : (t : List ℕ) → size_of t ≡ NoDigit → every is_digit t ≡ false
+not_digits : (t : List ℕ) → size_of t ≡ None → every is_digit t ≡ false
 unfolding size_of
-not_digits t e = (guard (every is_digit t) (Hundredths (value_of t) (is_sixty t)) NoDigit NoDigit some e).0
+not_digits t e = go (every is_digit t) (record { hundredths = value_of t; sixty = is_sixty t }) e
   where
-    some : Hundredths (value_of t) (is_sixty t) ≡ NoDigit → ⊥
-    some q = let z : ◌≡◌ {A = ℕ} 0 1 = cc in omega arith
+    go : (b : Bool) (z : Size) → cond b (Some z) None ≡ None → b ≡ false
+    go true z f = absurd (none-some z (sym f))
+    go false z f = refl
 
-module _ (most : ℕ) (minus : Bool) (t : List ℕ) (q : Size) (e : q ≡ size_of t) where
-  pub angle_none : q ≡ NoDigit → Bad ≡ angle_in most minus t
+module _ (most : ℕ) (minus : Bool) (t : List ℕ) (q : Option Size) (e : q ≡ size_of t) where
+  pub angle_none : q ≡ None → None ≡ angle_in most minus t
   unfolding angle_in fits
   angle_none f = rw (not_digits t (sym e ∙ f))
 
-  module _ (v : ℕ) (sixty : Bool) (f : q ≡ Hundredths v sixty) where
-    known : Valued t v sixty
-    known = valued t v sixty (sym e ∙ f)
+  module _ (z : Size) (f : q ≡ Some z) where
+    known : Valued t z
+    known = valued t z (sym e ∙ f)
 
-    pub angle_big : most < v → Bad ≡ angle_in most minus t
+    pub angle_big : most < z.hundredths → None ≡ angle_in most minus t
     unfolding angle_in fits
-    angle_big h = rw (known.digits, known.value, lt-leb v most h)
+    angle_big h = rw (known.digits, known.value, lt-leb z.hundredths most h)
 
-    module _ (h : v ≤ most) (k : most ≤ most_longitude) (r : Number) (g : r ≡ number_on minus v) where
-      pub angle_of : (z z' : ℤ) → r ≡ number.Is z → z' ≡ z → Of z' sixty ≡ angle_in most minus t
+    module _ (h : z.hundredths ≤ most) (k : most ≤ most_longitude) (r : Option ℤ) (g : r ≡ number_on minus z.hundredths) where
+      pub angle_of : (a a' : ℤ) (sixty : Bool) → r ≡ Some a → a' ≡ a → sixty ≡ z.sixty → Some (record { angle = a'; sixty = sixty }) ≡ angle_in most minus t
       unfolding angle_in fits
-      angle_of z z' i j = rw (known.digits, known.value, known.sixties, le-leb v most h, ← number_told minus v (omega arith) r g z i, j)
+      angle_of a a' sixty i j l = rw (known.digits, known.value, known.sixties, le-leb z.hundredths most h, ← number_told minus z.hundredths (omega arith) r g a i, j, l)
 
-      pub angle_never : r ≡ number.Bad → Bad ≡ angle_in most minus t
-      angle_never i = absurd (number_never minus v (omega arith) r g i)
+      pub angle_never : r ≡ None → None ≡ angle_in most minus t
+      angle_never i = absurd (number_never minus z.hundredths (omega arith) r g i)
 
--- ---- with a letter: u is the test of the letter, a the angle
+-- ---- the letter of a side
 
-module _ (t : List ℕ) (letter : ℕ) (u : Bool) where
-  pub longitude_letter : u ≡ (eqb letter capital_e || eqb letter capital_w) → not u ≡ true → lon.Refused ≡ longitude_in t letter
-  unfolding longitude_in
-  longitude_letter e p = rw (← e, not-true u p)
+module _ (plus minus letter : ℕ) where
+  pub side_minus : letter ≡ minus → Some true ≡ side_of plus minus letter
+  unfolding side_of
+  side_minus e = rw (eq-eqb letter minus e, or-true (eqb letter plus))
 
-  module _ (e : u ≡ (eqb letter capital_e || eqb letter capital_w)) (p : not u ≡ false) (a : AngleRead) (f : a ≡ angle_in most_longitude (eqb letter capital_w) t) where
-    pub longitude_bad : a ≡ Bad → lon.Refused ≡ longitude_in t letter
-    unfolding longitude_in longitude_with
-    longitude_bad g = rw (← e, not-false u p, ← f, g)
+  module _ (other : letter ≡ minus → ⊥) where
+    pub side_plus : letter ≡ plus → Some false ≡ side_of plus minus letter
+    unfolding side_of
+    side_plus e = rw (eq-eqb letter plus e, ne_eqb letter minus other)
 
-    pub longitude_read : (z z' : ℤ) (sixty : Bool) → a ≡ Of z sixty → z' ≡ z → lon.Read (record { 0 = z' }) (eqb letter capital_w) sixty ≡ longitude_in t letter
-    unfolding longitude_in longitude_with
-    longitude_read z z' sixty g q = rw (← e, not-false u p, ← f, g, q)
+    pub side_neither : (letter ≡ plus → ⊥) → None ≡ side_of plus minus letter
+    unfolding side_of
+    side_neither n = rw (ne_eqb letter plus n, ne_eqb letter minus other)
 
-  pub latitude_letter : u ≡ (eqb letter capital_n || eqb letter capital_s) → not u ≡ true → lat.Refused ≡ latitude_in t letter
-  unfolding latitude_in
-  latitude_letter e p = rw (← e, not-true u p)
+  -- o is what the code was told
+  module _ (o : Option Bool) (told : o ≡ side_of plus minus letter) where
+    pub side_none : o ≡ None → (eqb letter plus || eqb letter minus) ≡ false
+    unfolding side_of
+    side_none e = go (eqb letter plus || eqb letter minus) (sym told ∙ e)
+      where
+        go : (b : Bool) → cond b (Some (eqb letter minus)) None ≡ None → b ≡ false
+        go true f = absurd (none-some (eqb letter minus) (sym f))
+        go false f = refl
 
-  module _ (e : u ≡ (eqb letter capital_n || eqb letter capital_s)) (p : not u ≡ false) (six : length t ≡ 6) (k : ℕ) (kept : k ≡ kept_of t) where
-    none_kept : (b : Bool) → rest_blank t ≡ b → k ≡ cond b (index_of space t) 0 → k ≡ 0 → (b && leb (blanks_in t) 5) ≡ false
-    unfolding blanks_in
-    none_kept true q r z = lt-leb (length t - index_of space t) 5 (omega arith)
-    none_kept false q r z = refl
+    pub side_some : (x : Bool) → o ≡ Some x → ((eqb letter plus || eqb letter minus) ≡ true) × (eqb letter minus ≡ x)
+    unfolding side_of
+    side_some x e = cond_some (eqb letter plus || eqb letter minus) (eqb letter minus) x (sym told ∙ e)
 
-    pub latitude_no_digit : k ≡ 0 → lat.Refused ≡ latitude_in t letter
-    unfolding latitude_in kept_of
-    latitude_no_digit z = rw (← e, not-false u p, none_kept (rest_blank t) refl kept z)
+-- ---- with a letter: o is the side that it says, a the angle
 
-    module _ (some : k ≡ 0 → ⊥) (s : List ℕ) (last : s ≡ last_as digit0 (6 - k) t) (a : AngleRead) (f : a ≡ angle_in most_latitude (eqb letter capital_s) s) where
-      found : Blanked t k
-      found = kept_some t k kept some
+module _ (t : List ℕ) (letter : ℕ) where
+  module _ (o : Option Bool) (told : o ≡ side_of capital_e capital_w letter) where
+    pub longitude_letter : o ≡ None → None ≡ longitude_in t letter
+    unfolding longitude_in
+    longitude_letter e = rw (side_none capital_e capital_w letter o told e)
 
-      blanks : blanks_in t ≡ 6 - k
-      unfolding blanks_in
-      blanks = rw (found.starts, six)
+    module _ (west : Bool) (e : o ≡ Some west) (a : Option AngleRead) (f : a ≡ angle_in most_longitude west t) where
+      said_west : longitude_with west a ≡ longitude_in t letter
+      unfolding longitude_in
+      said_west = let g = side_some capital_e capital_w letter o told west e in rw (g.0, g.1, f)
 
-      few : leb (blanks_in t) 5 ≡ true
-      few = rw blanks (le-leb (6 - k) 5 (omega arith))
+      pub longitude_bad : a ≡ None → None ≡ longitude_in t letter
+      unfolding longitude_with
+      longitude_bad g = sym (ap (longitude_with west) g) ∙ said_west
 
-      said : latitude_with (6 - k) (eqb letter capital_s) a ≡ latitude_in t letter
-      unfolding latitude_in counted_digits
-      said = rw (← e, not-false u p, found.rest, few, blanks, f, last)
+      pub longitude_found : (z : AngleRead) (angle : ℤ) (sixty : Bool) → a ≡ Some z → angle ≡ z.angle → sixty ≡ z.sixty → Some (longitude_read angle west sixty) ≡ longitude_in t letter
+      unfolding longitude_with
+      longitude_found z angle sixty g q l =
+          ap (λ (y : ℤ). Some (longitude_read y west sixty)) q
+          ∙ ap (λ (x : Bool). Some (longitude_read z.angle west x)) l
+          ∙ sym (ap (longitude_with west) g) ∙ said_west
 
-      pub latitude_bad : a ≡ Bad → lat.Refused ≡ latitude_in t letter
-      unfolding latitude_with
-      latitude_bad g = sym (ap (latitude_with (6 - k) (eqb letter capital_s)) g) ∙ said
+  module _ (o : Option Bool) (told : o ≡ side_of capital_n capital_s letter) where
+    pub latitude_letter : o ≡ None → None ≡ latitude_in t letter
+    unfolding latitude_in
+    latitude_letter e = rw (side_none capital_n capital_s letter o told e)
 
-      pub latitude_read : (z z' : ℤ) (sixty : Bool) → a ≡ Of z sixty → z' ≡ z → lat.Read (record { 0 = z' }) (6 - k) (eqb letter capital_s) sixty ≡ latitude_in t letter
-      unfolding latitude_with
-      latitude_read z z' sixty g q =
-          ap (λ (y : ℤ). lat.Read (record { 0 = y }) (6 - k) (eqb letter capital_s) sixty) q
-          ∙ sym (ap (latitude_with (6 - k) (eqb letter capital_s)) g) ∙ said
+    module _ (south : Bool) (e : o ≡ Some south) (six : length t ≡ 6) (p : Option ℕ) (kept : p ≡ kept_of t) where
+      lettered : (eqb letter capital_n || eqb letter capital_s) ≡ true
+      lettered = (side_some capital_n capital_s letter o told south e).0
+
+      pub latitude_mixed : p ≡ None → None ≡ latitude_in t letter
+      unfolding latitude_in
+      latitude_mixed z = rw (lettered, kept_none t (sym kept ∙ z))
+
+      module _ (k : ℕ) (found : p ≡ Some k) where
+        blanked : Blanked t k
+        blanked = kept_some t k (sym kept ∙ found)
+
+        pub latitude_no_digit : k ≡ 0 → None ≡ latitude_in t letter
+        unfolding latitude_in blanks_in
+        latitude_no_digit z = rw (lettered, blanked.rest, blanked.starts, six, z)
+
+        module _ (some : k ≡ 0 → ⊥) (s : List ℕ) (last : s ≡ last_as digit0 (6 - k) t) (a : Option AngleRead) (f : a ≡ angle_in most_latitude south s) where
+          blanks : blanks_in t ≡ 6 - k
+          unfolding blanks_in
+          blanks = rw (blanked.starts, six)
+
+          few : leb (blanks_in t) 5 ≡ true
+          few = rw blanks (le-leb (6 - k) 5 (omega arith))
+
+          said_south : latitude_with (6 - k) south a ≡ latitude_in t letter
+          unfolding latitude_in counted_digits
+          said_south = rw (lettered, (side_some capital_n capital_s letter o told south e).1, blanked.rest, few, blanks, f, last)
+
+          pub latitude_bad : a ≡ None → None ≡ latitude_in t letter
+          unfolding latitude_with
+          latitude_bad g = sym (ap (latitude_with (6 - k) south) g) ∙ said_south
+
+          pub latitude_found : (z : AngleRead) (angle : ℤ) (sixty : Bool) → a ≡ Some z → angle ≡ z.angle → sixty ≡ z.sixty → Some (latitude_read angle (6 - k) south sixty) ≡ latitude_in t letter
+          unfolding latitude_with
+          latitude_found z angle sixty g q l =
+              ap (λ (y : ℤ). Some (latitude_read y (6 - k) south sixty)) q
+              ∙ ap (λ (x : Bool). Some (latitude_read z.angle (6 - k) south x)) l
+              ∙ sym (ap (latitude_with (6 - k) south) g) ∙ said_south
 
 -- ---- the text: its length, its point, and then its places
 
-pub latitude_length : (s : List ℕ) → (length s ≡ 8 → ⊥) → lat.Refused ≡ read_latitude s
+pub latitude_length : (s : List ℕ) → (length s ≡ 8 → ⊥) → None ≡ read_latitude s
 unfolding read_latitude
 latitude_length s h = rw (ne_eqb (length s) 8 h)
 
 module _ (s : List ℕ) (eight : length s ≡ 8) where
-  pub latitude_point : (get_or s 4 0 ≡ point → ⊥) → lat.Refused ≡ read_latitude s
+  pub latitude_point : (get_or s 4 0 ≡ point → ⊥) → None ≡ read_latitude s
   unfolding read_latitude
   latitude_point h = rw (eq-eqb (length s) 8 eight, ne_eqb (get_or s 4 0) point h)
 
-  pub latitude_whole : get_or s 4 0 ≡ point → (r : LatitudeRead) → r ≡ latitude_in (latitude_places s) (get_or s 7 0) → r ≡ read_latitude s
+  pub latitude_whole : get_or s 4 0 ≡ point → (r : Option LatitudeRead) → r ≡ latitude_in (latitude_places s) (get_or s 7 0) → r ≡ read_latitude s
   unfolding read_latitude
   latitude_whole h r e = rw (eq-eqb (length s) 8 eight, eq-eqb (get_or s 4 0) point h) e
 
 module _ (s : List ℕ) (blanks : ℕ) where
-  pub longitude_many : 5 < blanks → lon.OutOfRange ≡ read_longitude s blanks
+  pub longitude_many : 5 < blanks → Err OutOfRange ≡ read_longitude s blanks
   unfolding read_longitude
   longitude_many h = rw (lt-ltb 5 blanks h)
 
   module _ (few : blanks ≤ 5) where
-    pub longitude_length : (length s ≡ 9 → ⊥) → lon.Refused ≡ read_longitude s blanks
+    pub longitude_length : (length s ≡ 9 → ⊥) → Err Malformed ≡ read_longitude s blanks
     unfolding read_longitude
     longitude_length h = rw (le-ltb 5 blanks few, ne_eqb (length s) 9 h)
 
     module _ (nine : length s ≡ 9) where
-      pub longitude_point : (get_or s 5 0 ≡ point → ⊥) → lon.Refused ≡ read_longitude s blanks
+      pub longitude_point : (get_or s 5 0 ≡ point → ⊥) → Err Malformed ≡ read_longitude s blanks
       unfolding read_longitude
       longitude_point h = rw (le-ltb 5 blanks few, eq-eqb (length s) 9 nine, ne_eqb (get_or s 5 0) point h)
 
       pub longitude_whole : get_or s 5 0 ≡ point → (t : List ℕ) → t ≡ last_as digit0 blanks (longitude_places s)
-          → (r : LongitudeRead) → r ≡ longitude_in t (get_or s 8 0) → r ≡ read_longitude s blanks
+          → (r : Option LongitudeRead) → r ≡ longitude_in t (get_or s 8 0) → ok_or r Malformed ≡ read_longitude s blanks
       unfolding read_longitude
-      longitude_whole h t f r e = rw (le-ltb 5 blanks few, eq-eqb (length s) 9 nine, eq-eqb (get_or s 5 0) point h, ← f) e
+      longitude_whole h t f r e = rw (le-ltb 5 blanks few, eq-eqb (length s) 9 nine, eq-eqb (get_or s 5 0) point h, ← f, ← e)

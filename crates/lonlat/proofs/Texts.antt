@@ -1,6 +1,6 @@
 -- Laws of written texts that callers cite: their places, and what digits and then blanks say.
 -- Assumes nothing.
-use Rattle.std.proofs.Common.{◌≡◌, ℕ, zero, suc, ◌+◌, ◌-◌, ◌/◌, ◌%◌, ◌<◌, ◌≤◌, Bool, true, false, eqb, List, [], ◌∷◌, ◌++◌, length, get_or, take, replicate, ℤ, nat_abs, refl, ap, ◌∙◌, subst, arith, length-take-le, le-ltb, ne_eqb, le-leb}
+use Rattle.std.proofs.Common.{◌≡◌, ℕ, zero, suc, ◌+◌, ◌-◌, ◌/◌, ◌%◌, ◌<◌, ◌≤◌, Bool, true, false, eqb, ok_or, List, [], ◌∷◌, ◌++◌, length, get_or, take, replicate, ℤ, nat_abs, refl, ap, ◌∙◌, subst, arith, length-take-le, le-ltb, ne_eqb, le-leb}
 use lib.Seq.{drop-append_seam}
 use Rattle.laws.specs.Bytes.{space, digit0, digit9, point, is_digit, within, capital_s}
 use Rattle.laws.specs.Lists.{index_of, every}
@@ -12,6 +12,7 @@ use Rattle.lonlat.specs.Digits.{last_as, angle_in, places_of, text_of}
 use Rattle.numbers.specs.Numbers.{digit_of, digits_of}
 use Rattle.numbers.proofs.Counts.{a_digit}
 use Rattle.lonlat.specs.Latitude.{is_blank, is_digit_or_blank, blanks_in, rest_blank, counted_digits, is_north_or_south, latitude_with, latitude_in, latitude_places, read_latitude, blanked_places, north_or_south, latitude_text}
+use Rattle.lonlat.specs.declared.LongitudeError.TheVariants.{Malformed}
 use Rattle.lonlat.specs.Longitude.{longitude_in, read_longitude, east_or_west, longitude_text}
 use Rattle.lonlat.proofs.Cut.{up_to_five}
 use Rattle.lonlat.proofs.Digits.{last_length, last_start}
@@ -113,10 +114,10 @@ module _ (t : List ℕ) (letter : ℕ) where
     unfolding text_of
     seven_length = subst (λ (u : List ℕ). length (text_of u letter) ≡ 9) (elements_all 0 t 7 seven) refl
 
-    pub longitude_of_text : (blanks : ℕ) → blanks ≤ 5 → read_longitude (text_of t letter) blanks ≡ longitude_in (last_as digit0 blanks t) letter
+    pub longitude_of_text : (blanks : ℕ) → blanks ≤ 5 → read_longitude (text_of t letter) blanks ≡ ok_or (longitude_in (last_as digit0 blanks t) letter) Malformed
     unfolding read_longitude text_of
     longitude_of_text blanks few =
-        subst (λ (u : List ℕ). read_longitude (text_of u letter) blanks ≡ longitude_in (last_as digit0 blanks u) letter) (elements_all 0 t 7 seven) (rw (le-ltb 5 blanks few))
+        subst (λ (u : List ℕ). read_longitude (text_of u letter) blanks ≡ ok_or (longitude_in (last_as digit0 blanks u) letter) Malformed) (elements_all 0 t 7 seven) (rw (le-ltb 5 blanks few))
 
 -- the eight bytes that Mic-E makes
 pub latitude_of_eight : (a b c d e f letter : ℕ) → read_latitude (a ∷ b ∷ c ∷ d ∷ point ∷ e ∷ f ∷ letter ∷ []) ≡ latitude_in (a ∷ b ∷ c ∷ d ∷ e ∷ f ∷ []) letter

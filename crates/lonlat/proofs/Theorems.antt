@@ -1,36 +1,36 @@
 -- What is read is in range and on the side that was read, what is written reads back, and document 01's P12.
 -- Assumes nothing.
-use Rattle.std.proofs.Common.{◌≡◌, ℕ, ◌-◌, ◌%◌, ◌≤◌, Bool, true, false, cond, ◌&&◌, eqb, ltb, leb, List, [], ◌∷◌, length, get_or, ℤ, pos, nat_abs, sym, refl, ap, ◌∙◌, arith, ltb-false, le-ltb, le-leb, leb-true}
+use Rattle.std.proofs.Common.{◌≡◌, ℕ, ◌-◌, ◌%◌, ◌≤◌, Bool, true, false, cond, Option, Some, None, Result, Ok, Err, ok_or, ◌&&◌, eqb, ltb, leb, List, [], ◌∷◌, length, get_or, ℤ, pos, nat_abs, sym, refl, ap, ◌∙◌, subst, arith, ltb-false, le-ltb, le-leb, leb-true}
 use Rattle.laws.specs.Bytes.{digit0, digit9, point, is_digit, within, capital_n, capital_s, capital_e, capital_w}
 use Rattle.laws.specs.Lists.{index_of, every}
+use Rattle.std.proofs.lemmas.Option.{none-some, same_Some, cond_some}
 use Rattle.laws.proofs.Tests.{and_second, picked, guard, passed}
 use Rattle.lonlat.specs.Angle.{most_latitude, most_longitude, width_of, cut_to, cut_angle}
 use Rattle.numbers.specs.Sign.{signed_of, is_minus, is_on}
 use Rattle.lonlat.specs.declared.AngleRead.{AngleRead}
-use Rattle.lonlat.specs.declared.AngleRead.TheVariants.{Of, Bad}
-use Rattle.lonlat.specs.declared.Latitude.{Latitude}
-use Rattle.lonlat.specs.declared.Longitude.{Longitude}
-use Rattle.lonlat.specs.declared.LatitudeRead.TheVariants as lat
-use Rattle.lonlat.specs.declared.LongitudeRead.TheVariants as lon
+use Rattle.lonlat.specs.declared.LatitudeRead.{LatitudeRead}
+use Rattle.lonlat.specs.declared.LongitudeRead.{LongitudeRead}
+use Rattle.lonlat.specs.declared.LongitudeError.{LongitudeError}
+use Rattle.lonlat.specs.declared.LongitudeError.TheVariants.{Malformed, OutOfRange}
 use Rattle.lonlat.specs.Digits.{last_as, degrees_of, minutes_of, hundredths_of, value_of, is_sixty, fits, angle_in, places_of}
 use Rattle.numbers.specs.Numbers.{number_after, number_of}
-use Rattle.lonlat.specs.Latitude.{blanks_in, rest_blank, counted_digits, is_north_or_south, latitude_with, latitude_in, latitude_places, read_latitude, blanked_places, north_or_south, latitude_text}
-use Rattle.lonlat.specs.Longitude.{is_east_or_west, longitude_with, longitude_in, longitude_places, read_longitude, east_or_west, longitude_text}
+use Rattle.lonlat.specs.Latitude.{blanks_in, rest_blank, counted_digits, is_north_or_south, latitude_read, latitude_with, latitude_in, latitude_places, read_latitude, blanked_places, north_or_south, latitude_text}
+use Rattle.lonlat.specs.Longitude.{is_east_or_west, longitude_read, longitude_with, longitude_in, longitude_places, read_longitude, east_or_west, longitude_text}
 use Rattle.numbers.proofs.Sign.{rejoined, size_signed, on_signed, on_one}
 use Rattle.lonlat.proofs.Texts.{every_last, places_are, six_places, seven_places, blanked_six, blanked_latitude, latitude_of_text, longitude_of_text}
 use Rattle.lonlat.proofs.Cut.{whole_width, latitude_cut, longitude_cut, places_minutes}
 
 -- ---- P12
 
-pub ninety_degrees : read_latitude (digit9 ∷ digit0 ∷ digit0 ∷ digit0 ∷ point ∷ digit0 ∷ digit0 ∷ capital_n ∷ []) ≡ lat.Read (record { 0 = pos 540000 }) 0 false false
+pub ninety_degrees : read_latitude (digit9 ∷ digit0 ∷ digit0 ∷ digit0 ∷ point ∷ digit0 ∷ digit0 ∷ capital_n ∷ []) ≡ Some (latitude_read (pos 540000) 0 false false)
 unfolding read_latitude latitude_in rest_blank blanks_in counted_digits index_of every last_as latitude_with angle_in fits within value_of is_sixty degrees_of minutes_of hundredths_of number_of number_after signed_of
 ninety_degrees = refl
 
-pub sixty_minutes : read_latitude (0x38 ∷ digit9 ∷ 0x36 ∷ digit0 ∷ point ∷ digit0 ∷ digit0 ∷ capital_n ∷ []) ≡ lat.Read (record { 0 = pos 540000 }) 0 false true
+pub sixty_minutes : read_latitude (0x38 ∷ digit9 ∷ 0x36 ∷ digit0 ∷ point ∷ digit0 ∷ digit0 ∷ capital_n ∷ []) ≡ Some (latitude_read (pos 540000) 0 false true)
 unfolding read_latitude latitude_in rest_blank blanks_in counted_digits index_of every last_as latitude_with angle_in fits within value_of is_sixty degrees_of minutes_of hundredths_of number_of number_after signed_of
 sixty_minutes = refl
 
-pub past_ninety : read_latitude (digit9 ∷ digit0 ∷ digit0 ∷ digit0 ∷ point ∷ digit0 ∷ 0x31 ∷ capital_n ∷ []) ≡ lat.Refused
+pub past_ninety : read_latitude (digit9 ∷ digit0 ∷ digit0 ∷ digit0 ∷ point ∷ digit0 ∷ 0x31 ∷ capital_n ∷ []) ≡ None
 unfolding read_latitude latitude_in rest_blank blanks_in counted_digits index_of every last_as latitude_with angle_in fits within value_of degrees_of minutes_of hundredths_of number_of number_after signed_of
 past_ninety = refl
 
@@ -52,153 +52,134 @@ pub record AngleFound (most : ℕ) (minus : Bool) (width : ℕ) (angle : ℤ) : 
   pub side : is_on minus angle ≡ true
   pub whole : nat_abs angle % width ≡ 0
 
-angle_found : (most : ℕ) (minus : Bool) (width : ℕ) (t : List ℕ) (z : ℤ) (sixty : Bool) → value_of t % width ≡ 0 → angle_in most minus t ≡ Of z sixty → AngleFound most minus width z
+angle_found : (most : ℕ) (minus : Bool) (width : ℕ) (t : List ℕ) (a : AngleRead) → value_of t % width ≡ 0 → angle_in most minus t ≡ Some a → AngleFound most minus width a.angle
 unfolding angle_in
-angle_found most minus width t z sixty w e =
-    let g = passed (fits most t) (Of (signed_of minus (value_of t)) (is_sixty t)) Bad (Of z sixty) bad e in
+angle_found most minus width t a w e =
+    let g = cond_some (fits most t) _ a e in
     let size = size_signed minus (value_of t) in
-    rw (← same g.1) (record { near = rw size (fits_most most t g.0); side = on_signed minus (value_of t); whole = rw size w })
-  where
-    bad : Bad ≡ Of z sixty → ⊥
-    bad q = let n : ◌≡◌ {A = ℕ} 0 1 = cc in omega arith
-
-    same : Of (signed_of minus (value_of t)) (is_sixty t) ≡ Of z sixty → signed_of minus (value_of t) ≡ z
-    same q = cc
+    rw (← g.1) (record { near = rw size (fits_most most t g.0); side = on_signed minus (value_of t); whole = rw size w })
 
 -- what is told of the minutes is what its digits say
-told_by_digits : {A : Type 0} (most : ℕ) (minus : Bool) (t : List ℕ) (with : AngleRead → A) (sixty : Bool) (r : A) → (with Bad ≡ r → ⊥) → ((z : ℤ) (y : Bool) → with (Of z y) ≡ r → y ≡ sixty)
-    → with (angle_in most minus t) ≡ r → sixty ≡ leb 60 (minutes_of t)
+angle_told : (most : ℕ) (minus : Bool) (t : List ℕ) (a : AngleRead) → angle_in most minus t ≡ Some a → a.sixty ≡ leb 60 (minutes_of t)
 unfolding angle_in is_sixty
-told_by_digits most minus t with sixty r bad same = go (fits most t)
-  where
-    go : (f : Bool) → with (cond f (Of (signed_of minus (value_of t)) (leb 60 (minutes_of t))) Bad) ≡ r → sixty ≡ leb 60 (minutes_of t)
-    go true e = sym (same (signed_of minus (value_of t)) (leb 60 (minutes_of t)) e)
-    go false e = absurd (bad e)
+angle_told most minus t a e = sym (ap (λ (q : AngleRead). q.sixty) (cond_some (fits most t) _ a e).1)
 
-pub record LatitudeFound (latitude : Latitude) (blanks : ℕ) (south : Bool) : Type 0 where
-  pub angle : AngleFound most_latitude south (width_of blanks) latitude.0
-  pub few : blanks ≤ 5
+pub record LatitudeFound (r : LatitudeRead) : Type 0 where
+  pub angle : AngleFound most_latitude r.south (width_of r.blanks) r.latitude.0
+  pub few : r.blanks ≤ 5
 
-module _ (latitude : Latitude) (blanks : ℕ) (south sixty : Bool) where
-  no_latitude : lat.Refused ≡ lat.Read latitude blanks south sixty → ⊥
-  no_latitude q = let k : ◌≡◌ {A = ℕ} 0 1 = cc in omega arith
+-- a latitude that was read: its letter, and the angle of its digits
+record LatitudeIs (s : List ℕ) (r : LatitudeRead) : Type 0 where
+  few : blanks_in (latitude_places s) ≤ 5
+  digits : AngleRead
+  angle : angle_in most_latitude (eqb (get_or s 7 0) capital_s) (counted_digits (latitude_places s)) ≡ Some digits
+  said : latitude_read digits.angle (blanks_in (latitude_places s)) (eqb (get_or s 7 0) capital_s) digits.sixty ≡ r
 
-  latitude_with_lem : (n : ℕ) (x : Bool) (a : AngleRead) → ((z : ℤ) (y : Bool) → a ≡ Of z y → AngleFound most_latitude x (width_of n) z) → n ≤ 5
-      → latitude_with n x a ≡ lat.Read latitude blanks south sixty → LatitudeFound latitude blanks south
-  unfolding latitude_with
-  latitude_with_lem n x (Of z y) m h q =
-      let l : record { 0 = z } ≡ latitude = cc in
-      let b : n ≡ blanks = cc in
-      let w : x ≡ south = cc in
-      record { angle = rw (← l, ← w, ← b) (m z y refl); few = rw (← b) h }
-  latitude_with_lem n x Bad m h q = absurd (no_latitude q)
-
-  pub read_latitude_found : (s : List ℕ) → read_latitude s ≡ lat.Read latitude blanks south sixty → LatitudeFound latitude blanks south
-  unfolding read_latitude latitude_in counted_digits
-  read_latitude_found s e =
+module _ (r : LatitudeRead) where
+  latitude_is : (s : List ℕ) → read_latitude s ≡ Some r → LatitudeIs s r
+  unfolding read_latitude latitude_in latitude_with
+  latitude_is s e =
       let t = latitude_places s in
       let minus = eqb (get_or s 7 0) capital_s in
-      let g = passed (eqb (length s) 8 && eqb (get_or s 4 0) point) _ lat.Refused _ no_latitude e in
-      let k = passed (is_north_or_south (get_or s 7 0) && rest_blank t && leb (blanks_in t) 5) _ lat.Refused _ no_latitude g.1 in
+      let g = passed (eqb (length s) 8 && eqb (get_or s 4 0) point) _ None _ (none-some r) e in
+      let k = passed (is_north_or_south (get_or s 7 0) && rest_blank t && leb (blanks_in t) 5) _ None _ (none-some r) g.1 in
       let few = leb-true (blanks_in t) 5 (and_second (is_north_or_south (get_or s 7 0) && rest_blank t) (leb (blanks_in t) 5) k.0) in
-      let whole = whole_width (get_or s 0 0 ∷ []) (get_or s 1 0) (get_or s 2 0) (get_or s 3 0) (get_or s 5 0) (get_or s 6 0) (blanks_in t) few in
-      latitude_with_lem (blanks_in t) minus _ (λ z sixty. angle_found most_latitude minus (width_of (blanks_in t)) (counted_digits t) z sixty whole) few k.1
+      go few (angle_in most_latitude minus (counted_digits t)) refl k.1
+    where
+      go : blanks_in (latitude_places s) ≤ 5 → (a : Option AngleRead) → angle_in most_latitude (eqb (get_or s 7 0) capital_s) (counted_digits (latitude_places s)) ≡ a
+          → latitude_with (blanks_in (latitude_places s)) (eqb (get_or s 7 0) capital_s) a ≡ Some r → LatitudeIs s r
+      go few (Some a) f q = record { few = few; digits = a; angle = f; said = same_Some _ r q }
+      go few None f q = absurd (none-some r q)
 
-  latitude_side : (n : ℕ) (x : Bool) (a : AngleRead) → latitude_with n x a ≡ lat.Read latitude blanks south sixty → south ≡ x
-  unfolding latitude_with
-  latitude_side n x (Of z y) q = cc
-  latitude_side n x Bad q = absurd (no_latitude q)
+  pub read_latitude_found : (s : List ℕ) → read_latitude s ≡ Some r → LatitudeFound r
+  unfolding counted_digits
+  read_latitude_found s e =
+      let i = latitude_is s e in
+      let t = latitude_places s in
+      let minus = eqb (get_or s 7 0) capital_s in
+      let whole = whole_width (get_or s 0 0 ∷ []) (get_or s 1 0) (get_or s 2 0) (get_or s 3 0) (get_or s 5 0) (get_or s 6 0) (blanks_in t) i.few in
+      subst LatitudeFound i.said (record { angle = angle_found most_latitude minus (width_of (blanks_in t)) (counted_digits t) i.digits whole i.angle; few = i.few })
 
   -- the side that was read is the letter's
-  pub latitude_side_is_the_letter's : (s : List ℕ) → read_latitude s ≡ lat.Read latitude blanks south sixty → south ≡ eqb (get_or s 7 0) capital_s
-  unfolding read_latitude latitude_in
-  latitude_side_is_the_letter's s e =
-      let g = passed (eqb (length s) 8 && eqb (get_or s 4 0) point) _ lat.Refused _ no_latitude e in
-      let k = passed (is_north_or_south (get_or s 7 0) && rest_blank (latitude_places s) && leb (blanks_in (latitude_places s)) 5) _ lat.Refused _ no_latitude g.1 in
-      latitude_side (blanks_in (latitude_places s)) (eqb (get_or s 7 0) capital_s) _ k.1
+  pub latitude_side_is_the_letter's : (s : List ℕ) → read_latitude s ≡ Some r → r.south ≡ eqb (get_or s 7 0) capital_s
+  latitude_side_is_the_letter's s e = sym (ap (λ (q : LatitudeRead). q.south) (latitude_is s e).said)
 
   -- and it is the latitude's own, where that is not 0
-  pub latitude_side_is_the_angle's : (s : List ℕ) → read_latitude s ≡ lat.Read latitude blanks south sixty → (latitude.0 ≡ pos 0 → ⊥) → south ≡ is_minus latitude.0
-  latitude_side_is_the_angle's s e = on_one south latitude.0 (read_latitude_found s e).angle.side
+  pub latitude_side_is_the_angle's : (s : List ℕ) → read_latitude s ≡ Some r → (r.latitude.0 ≡ pos 0 → ⊥) → r.south ≡ is_minus r.latitude.0
+  latitude_side_is_the_angle's s e = on_one r.south r.latitude.0 (read_latitude_found s e).angle.side
 
   -- minutes of 60 or more are told, blanks as 0 (document 02, R-8: "the two digits with blanks and discarded places as 0")
-  pub latitude_minutes_are_the_digits' : (s : List ℕ) → read_latitude s ≡ lat.Read latitude blanks south sixty → sixty ≡ leb 60 (minutes_of (counted_digits (latitude_places s)))
-  unfolding read_latitude latitude_in latitude_with
+  pub latitude_minutes_are_the_digits' : (s : List ℕ) → read_latitude s ≡ Some r → r.sixty ≡ leb 60 (minutes_of (counted_digits (latitude_places s)))
   latitude_minutes_are_the_digits' s e =
-      let t = latitude_places s in
-      let minus = eqb (get_or s 7 0) capital_s in
-      let g = passed (eqb (length s) 8 && eqb (get_or s 4 0) point) _ lat.Refused _ no_latitude e in
-      let k = passed (is_north_or_south (get_or s 7 0) && rest_blank t && leb (blanks_in t) 5) _ lat.Refused _ no_latitude g.1 in
-      told_by_digits most_latitude minus (counted_digits t) (latitude_with (blanks_in t) minus) sixty (lat.Read latitude blanks south sixty) no_latitude (λ z y q. cc) k.1
+      let i = latitude_is s e in
+      sym (ap (λ (q : LatitudeRead). q.sixty) i.said) ∙ angle_told most_latitude (eqb (get_or s 7 0) capital_s) (counted_digits (latitude_places s)) i.digits i.angle
 
-module _ (longitude : Longitude) (west sixty : Bool) where
-  no_longitude_lem : lon.Refused ≡ lon.Read longitude west sixty → ⊥
-  no_longitude_lem q = let k : ◌≡◌ {A = ℕ} 0 1 = cc in omega arith
+-- a longitude that was read: its letter, and the angle of its digits
+record LongitudeIs (s : List ℕ) (blanks : ℕ) (r : LongitudeRead) : Type 0 where
+  few : blanks ≤ 5
+  digits : AngleRead
+  angle : angle_in most_longitude (eqb (get_or s 8 0) capital_w) (last_as digit0 blanks (longitude_places s)) ≡ Some digits
+  said : longitude_read digits.angle (eqb (get_or s 8 0) capital_w) digits.sixty ≡ r
 
-  past_five : lon.OutOfRange ≡ lon.Read longitude west sixty → ⊥
-  past_five q = let k : ◌≡◌ {A = ℕ} 0 1 = cc in omega arith
+module _ (r : LongitudeRead) where
+  not_read : (e : LongitudeError) → ◌≡◌ {A = Result LongitudeRead LongitudeError} (Err e) (Ok r) → ⊥
+  not_read e q = grind arith
 
-  longitude_with_lem : (width : ℕ) (x : Bool) (a : AngleRead) → ((z : ℤ) (y : Bool) → a ≡ Of z y → AngleFound most_longitude x width z)
-      → longitude_with x a ≡ lon.Read longitude west sixty → AngleFound most_longitude west width longitude.0
-  unfolding longitude_with
-  longitude_with_lem width x (Of z y) m q =
-      let l : record { 0 = z } ≡ longitude = cc in
-      let w : x ≡ west = cc in
-      rw (← l, ← w) (m z y refl)
-  longitude_with_lem width x Bad m q = absurd (no_longitude_lem q)
+  longitude_is : (s : List ℕ) (blanks : ℕ) → read_longitude s blanks ≡ Ok r → LongitudeIs s blanks r
+  unfolding read_longitude longitude_in longitude_with
+  longitude_is s blanks e =
+      let g = guard (ltb 5 blanks) (Err OutOfRange) _ _ (not_read OutOfRange) e in
+      let k = passed (eqb (length s) 9 && eqb (get_or s 5 0) point) _ (Err Malformed) _ (not_read Malformed) g.1 in
+      lettered (ltb-false 5 blanks g.0) (is_east_or_west (get_or s 8 0)) k.1
+    where
+      go : blanks ≤ 5 → (a : Option AngleRead) → angle_in most_longitude (eqb (get_or s 8 0) capital_w) (last_as digit0 blanks (longitude_places s)) ≡ a
+          → ok_or (longitude_with (eqb (get_or s 8 0) capital_w) a) Malformed ≡ Ok r → LongitudeIs s blanks r
+      go few (Some a) f q = record { few = few; digits = a; angle = f; said = grind arith }
+      go few None f q = absurd (not_read Malformed q)
 
-  pub read_longitude_found : (s : List ℕ) (blanks : ℕ) → read_longitude s blanks ≡ lon.Read longitude west sixty → AngleFound most_longitude west (width_of blanks) longitude.0
-  unfolding read_longitude longitude_in
+      lettered : blanks ≤ 5 → (b : Bool)
+          → ok_or (cond b (longitude_with (eqb (get_or s 8 0) capital_w) (angle_in most_longitude (eqb (get_or s 8 0) capital_w) (last_as digit0 blanks (longitude_places s)))) None) Malformed ≡ Ok r
+          → LongitudeIs s blanks r
+      lettered few true q = go few _ refl q
+      lettered few false q = absurd (not_read Malformed q)
+
+  pub read_longitude_found : (s : List ℕ) (blanks : ℕ) → read_longitude s blanks ≡ Ok r → AngleFound most_longitude r.west (width_of blanks) r.longitude.0
   read_longitude_found s blanks e =
+      let i = longitude_is s blanks e in
       let t = last_as digit0 blanks (longitude_places s) in
       let minus = eqb (get_or s 8 0) capital_w in
-      let g = guard (ltb 5 blanks) lon.OutOfRange _ _ past_five e in
-      let k = passed (eqb (length s) 9 && eqb (get_or s 5 0) point) _ lon.Refused _ no_longitude_lem g.1 in
-      let whole = whole_width (get_or s 0 0 ∷ get_or s 1 0 ∷ []) (get_or s 2 0) (get_or s 3 0) (get_or s 4 0) (get_or s 6 0) (get_or s 7 0) blanks (ltb-false 5 blanks g.0) in
-      longitude_with_lem (width_of blanks) minus _ (λ z sixty. angle_found most_longitude minus (width_of blanks) t z sixty whole)
-      (passed (is_east_or_west (get_or s 8 0)) _ lon.Refused _ no_longitude_lem k.1).1
+      let whole = whole_width (get_or s 0 0 ∷ get_or s 1 0 ∷ []) (get_or s 2 0) (get_or s 3 0) (get_or s 4 0) (get_or s 6 0) (get_or s 7 0) blanks i.few in
+      subst (λ (q : LongitudeRead). AngleFound most_longitude q.west (width_of blanks) q.longitude.0) i.said (angle_found most_longitude minus (width_of blanks) t i.digits whole i.angle)
 
-  longitude_side : (x : Bool) (a : AngleRead) → longitude_with x a ≡ lon.Read longitude west sixty → west ≡ x
-  unfolding longitude_with
-  longitude_side x (Of z y) q = cc
-  longitude_side x Bad q = absurd (no_longitude_lem q)
+  pub longitude_side_is_the_letter's : (s : List ℕ) (blanks : ℕ) → read_longitude s blanks ≡ Ok r → r.west ≡ eqb (get_or s 8 0) capital_w
+  longitude_side_is_the_letter's s blanks e = sym (ap (λ (q : LongitudeRead). q.west) (longitude_is s blanks e).said)
 
-  pub longitude_side_is_the_letter's : (s : List ℕ) (blanks : ℕ) → read_longitude s blanks ≡ lon.Read longitude west sixty → west ≡ eqb (get_or s 8 0) capital_w
-  unfolding read_longitude longitude_in
-  longitude_side_is_the_letter's s blanks e =
-      let g = guard (ltb 5 blanks) lon.OutOfRange _ _ past_five e in
-      let k = passed (eqb (length s) 9 && eqb (get_or s 5 0) point) _ lon.Refused _ no_longitude_lem g.1 in
-      longitude_side (eqb (get_or s 8 0) capital_w) _ (passed (is_east_or_west (get_or s 8 0)) _ lon.Refused _ no_longitude_lem k.1).1
-
-  pub longitude_side_is_the_angle's : (s : List ℕ) (blanks : ℕ) → read_longitude s blanks ≡ lon.Read longitude west sixty → (longitude.0 ≡ pos 0 → ⊥) → west ≡ is_minus longitude.0
-  longitude_side_is_the_angle's s blanks e = on_one west longitude.0 (read_longitude_found s blanks e).side
+  pub longitude_side_is_the_angle's : (s : List ℕ) (blanks : ℕ) → read_longitude s blanks ≡ Ok r → (r.longitude.0 ≡ pos 0 → ⊥) → r.west ≡ is_minus r.longitude.0
+  longitude_side_is_the_angle's s blanks e = on_one r.west r.longitude.0 (read_longitude_found s blanks e).side
 
   -- the same of a longitude, its last digits as 0
-  pub longitude_minutes_are_the_digits' : (s : List ℕ) (blanks : ℕ) → read_longitude s blanks ≡ lon.Read longitude west sixty → sixty ≡ leb 60 (minutes_of (last_as digit0 blanks (longitude_places s)))
-  unfolding read_longitude longitude_in longitude_with
+  pub longitude_minutes_are_the_digits' : (s : List ℕ) (blanks : ℕ) → read_longitude s blanks ≡ Ok r → r.sixty ≡ leb 60 (minutes_of (last_as digit0 blanks (longitude_places s)))
   longitude_minutes_are_the_digits' s blanks e =
-      let minus = eqb (get_or s 8 0) capital_w in
-      let g = guard (ltb 5 blanks) lon.OutOfRange _ _ past_five e in
-      let k = passed (eqb (length s) 9 && eqb (get_or s 5 0) point) _ lon.Refused _ no_longitude_lem g.1 in
-      told_by_digits most_longitude minus (last_as digit0 blanks (longitude_places s)) (longitude_with minus) sixty (lon.Read longitude west sixty) no_longitude_lem (λ z y q. cc)
-      (passed (is_east_or_west (get_or s 8 0)) _ lon.Refused _ no_longitude_lem k.1).1
+      let i = longitude_is s blanks e in
+      sym (ap (λ (q : LongitudeRead). q.sixty) i.said) ∙ angle_told most_longitude (eqb (get_or s 8 0) capital_w) (last_as digit0 blanks (longitude_places s)) i.digits i.angle
 
 -- ---- document 02, R-8: "minutes give 8, 9 or 11 after the digits and before the size test"
 
 -- an angle that was read, and then its minutes judged
-abbrev judged : AngleRead → AngleRead
-judged (Of angle true) = Bad
-judged (Of angle false) = Of angle false
-judged Bad = Bad
+abbrev judged : Option AngleRead → Option AngleRead
+judged (Some a) = cond a.sixty None (Some a)
+judged None = None
 
 -- is an angle judged in that order
 pub minutes_before_size : (most : ℕ) (minus : Bool) (t : List ℕ)
-    → judged (angle_in most minus t) ≡ cond (every is_digit t) (cond (is_sixty t) Bad (cond (leb (value_of t) most) (Of (signed_of minus (value_of t)) false) Bad)) Bad
+    → judged (angle_in most minus t)
+    ≡ cond (every is_digit t) (cond (is_sixty t) None (cond (leb (value_of t) most) (Some (record { angle = signed_of minus (value_of t); sixty = false })) None)) None
 unfolding angle_in fits
 minutes_before_size most minus t = go (every is_digit t) (leb (value_of t) most) (is_sixty t)
   where
     go : (digits small sixty : Bool)
-        → judged (cond (digits && small) (Of (signed_of minus (value_of t)) sixty) Bad) ≡ cond digits (cond sixty Bad (cond small (Of (signed_of minus (value_of t)) false) Bad)) Bad
+        → judged (cond (digits && small) (Some (record { angle = signed_of minus (value_of t); sixty = sixty })) None)
+        ≡ cond digits (cond sixty None (cond small (Some (record { angle = signed_of minus (value_of t); sixty = false })) None)) None
     go true true true = refl
     go true true false = refl
     go true false true = refl
@@ -206,27 +187,20 @@ minutes_before_size most minus t = go (every is_digit t) (leb (value_of t) most)
     go false small sixty = refl
 
 -- up to five blanks are never out of range
-pub longitude_few : (s : List ℕ) (blanks : ℕ) → blanks ≤ 5 → read_longitude s blanks ≡ lon.OutOfRange → ⊥
-unfolding read_longitude longitude_in longitude_with
-longitude_few s blanks few e = with_digits (eqb (length s) 9 && eqb (get_or s 5 0) point) (rw (le-ltb 5 blanks few) at e)
+pub longitude_few : (s : List ℕ) (blanks : ℕ) → blanks ≤ 5 → read_longitude s blanks ≡ Err OutOfRange → ⊥
+unfolding read_longitude
+longitude_few s blanks few e = with_digits (eqb (length s) 9 && eqb (get_or s 5 0) point) (longitude_in (last_as digit0 blanks (longitude_places s)) (get_or s 8 0)) (rw (le-ltb 5 blanks few) at e)
   where
-    told : (x : Bool) (a : AngleRead) → longitude_with x a ≡ lon.OutOfRange → ⊥
-    told x (Of z y) e = let k : ◌≡◌ {A = ℕ} 0 1 = cc in omega arith
-    told x Bad e = let k : ◌≡◌ {A = ℕ} 0 1 = cc in omega arith
-
-    lettered : (b x : Bool) (a : AngleRead) → cond b (longitude_with x a) lon.Refused ≡ lon.OutOfRange → ⊥
-    lettered true x a e = told x a e
-    lettered false x a e = let k : ◌≡◌ {A = ℕ} 0 1 = cc in omega arith
-
-    with_digits : (b : Bool) → cond b (longitude_in (last_as digit0 blanks (longitude_places s)) (get_or s 8 0)) lon.Refused ≡ lon.OutOfRange → ⊥
-    with_digits true e = lettered (is_east_or_west (get_or s 8 0)) (eqb (get_or s 8 0) capital_w) (angle_in most_longitude (eqb (get_or s 8 0) capital_w) (last_as digit0 blanks (longitude_places s))) e
-    with_digits false e = let k : ◌≡◌ {A = ℕ} 0 1 = cc in omega arith
+    with_digits : (b : Bool) (r : Option LongitudeRead) → cond b (ok_or r Malformed) (Err Malformed) ≡ Err OutOfRange → ⊥
+    with_digits true (Some r) e = grind arith
+    with_digits true None e = grind arith
+    with_digits false r e = grind arith
 
 -- ---- what is written reads back: cut to the width that the blanks leave, and with minutes below 60
 
 places_angle : (most k n size : ℕ) (minus : Bool) → size ≤ most → value_of (last_as digit0 n (places_of k size)) ≡ cut_to n size
     → is_sixty (last_as digit0 n (places_of k size)) ≡ false
-    → angle_in most minus (last_as digit0 n (places_of k size)) ≡ Of (signed_of minus (cut_to n size)) false
+    → angle_in most minus (last_as digit0 n (places_of k size)) ≡ Some (record { angle = signed_of minus (cut_to n size); sixty = false })
 unfolding angle_in fits cut_to within
 places_angle most k n size minus h e m =
     let l : size - size % width_of n ≤ most = omega arith in
@@ -238,7 +212,7 @@ cut_multiple n size h = omega arith
 
 -- the six places of a size and a letter: what Mic-E writes and reads
 latitude_back : (size blanks letter : ℕ) → size ≤ most_latitude → blanks ≤ 5 → is_north_or_south letter ≡ true
-    → latitude_in (blanked_places blanks size) letter ≡ lat.Read (record { 0 = signed_of (eqb letter capital_s) (cut_to blanks size) }) blanks (eqb letter capital_s) false
+    → latitude_in (blanked_places blanks size) letter ≡ Some (latitude_read (signed_of (eqb letter capital_s) (cut_to blanks size)) blanks (eqb letter capital_s) false)
 unfolding blanked_places latitude_with
 latitude_back size blanks letter h few e =
     blanked_latitude (places_of 2 size) (places_are 2 size) blanks (rw (six_places size) (omega arith)) few letter e
@@ -266,22 +240,22 @@ module _ (angle : ℤ) where
   cut_whole blanks h = ap (signed_of (is_minus angle)) (cut_multiple blanks (nat_abs angle) h) ∙ rejoined angle
 
   module _ (blanks : ℕ) (few : blanks ≤ 5) where
-    pub latitude_reads_cut : nat_abs angle ≤ most_latitude → read_latitude (latitude_text angle blanks) ≡ lat.Read (record { 0 = cut_angle blanks angle }) blanks (is_minus angle) false
+    pub latitude_reads_cut : nat_abs angle ≤ most_latitude → read_latitude (latitude_text angle blanks) ≡ Some (latitude_read (cut_angle blanks angle) blanks (is_minus angle) false)
     unfolding latitude_text cut_angle
     latitude_reads_cut h =
         latitude_of_text (blanked_places blanks (nat_abs angle)) (north_or_south angle) (blanked_six blanks (nat_abs angle) (omega arith))
         ∙ latitude_back (nat_abs angle) blanks (north_or_south angle) h few north_or_south_lem
         ∙ rw south_minus
 
-    pub latitude_reads_back : nat_abs angle ≤ most_latitude → nat_abs angle % width_of blanks ≡ 0 → read_latitude (latitude_text angle blanks) ≡ lat.Read (record { 0 = angle }) blanks (is_minus angle) false
-    latitude_reads_back h w = latitude_reads_cut h ∙ ap (λ (z : ℤ). lat.Read (record { 0 = z }) blanks (is_minus angle) false) (cut_whole blanks w)
+    pub latitude_reads_back : nat_abs angle ≤ most_latitude → nat_abs angle % width_of blanks ≡ 0 → read_latitude (latitude_text angle blanks) ≡ Some (latitude_read angle blanks (is_minus angle) false)
+    latitude_reads_back h w = latitude_reads_cut h ∙ ap (λ (z : ℤ). Some (latitude_read z blanks (is_minus angle) false)) (cut_whole blanks w)
 
-    pub longitude_reads_cut : nat_abs angle ≤ most_longitude → read_longitude (longitude_text angle) blanks ≡ lon.Read (record { 0 = cut_angle blanks angle }) (is_minus angle) false
+    pub longitude_reads_cut : nat_abs angle ≤ most_longitude → read_longitude (longitude_text angle) blanks ≡ Ok (longitude_read (cut_angle blanks angle) (is_minus angle) false)
     unfolding longitude_text cut_angle longitude_in longitude_with
     longitude_reads_cut h =
         longitude_of_text (places_of 3 (nat_abs angle)) (east_or_west angle) (seven_places (nat_abs angle)) blanks few
         ∙ rw (east_or_west_lem, west_minus, places_angle most_longitude 3 blanks (nat_abs angle) (is_minus angle) h (longitude_cut (nat_abs angle) h blanks few) (places_minutes 2 (nat_abs angle) blanks few))
 
-  pub longitude_reads_back : nat_abs angle ≤ most_longitude → read_longitude (longitude_text angle) 0 ≡ lon.Read (record { 0 = angle }) (is_minus angle) false
+  pub longitude_reads_back : nat_abs angle ≤ most_longitude → read_longitude (longitude_text angle) 0 ≡ Ok (longitude_read angle (is_minus angle) false)
   unfolding width_of
-  longitude_reads_back h = longitude_reads_cut 0 (omega arith) h ∙ ap (λ (z : ℤ). lon.Read (record { 0 = z }) (is_minus angle) false) (cut_whole 0 (omega arith))
+  longitude_reads_back h = longitude_reads_cut 0 (omega arith) h ∙ ap (λ (z : ℤ). Ok (longitude_read z (is_minus angle) false)) (cut_whole 0 (omega arith))

@@ -1,10 +1,9 @@
 -- Angles (document 01): "Angles are signed whole hundredths of a minute, north and east positive." "Zero south or west is
 -- plain 0." An angle's size is its distance from 0, and its side minus is south or west.
 -- Assumes nothing.
-use Rattle.std.specs.Prelude.{ℕ, ◌-◌, ◌%◌, Bool, cond, [], ◌∷◌, ℤ, nat_lt, slice_index_or, unsigned_abs}
+use Rattle.std.specs.Prelude.{ℕ, ◌-◌, ◌%◌, Bool, cond, [], ◌∷◌, Some, None, Option, ℤ, nat_lt, slice_index_or, unsigned_abs}
 use Rattle.numbers.specs.Sign.{signed_of, is_minus}
-use Rattle.lonlat.specs.declared.LongitudeMade.{LongitudeMade}
-use Rattle.lonlat.specs.declared.LongitudeMade.TheVariants.{Made, OutOfRange}
+use Rattle.lonlat.specs.declared.Longitude.{Longitude}
 
 -- 90 degrees
 abbrev pub most_latitude : ℕ
@@ -28,10 +27,10 @@ unfoldable pub cut_angle : ℕ → ℤ → ℤ
 cut_angle blanks angle = signed_of (is_minus angle) (cut_to blanks (unsigned_abs angle))
 
 -- a longitude of that size, at most 180 degrees, east or west
-unfoldable pub longitude_of : ℕ → Bool → LongitudeMade
-longitude_of size west = cond (nat_lt most_longitude size) OutOfRange (Made (record { 0 = signed_of west size }))
+unfoldable pub longitude_of : ℕ → Bool → Option Longitude
+longitude_of size west = cond (nat_lt most_longitude size) None (Some (record { 0 = signed_of west size }))
 
 -- document 01's number: an angle out of range is 15
-unfoldable pub made_number : LongitudeMade → ℕ
-made_number (Made longitude) = 0
-made_number OutOfRange = 15
+unfoldable pub made_number : Option Longitude → ℕ
+made_number (Some longitude) = 0
+made_number None = 15

@@ -1,15 +1,13 @@
 -- The digit places of an angle's text (APRS 1.0.1, chapter 6): degrees, two places of minutes, a point, two places of
 -- hundredths, a letter. `dd` or `ddd` mm hh are its digit places, the point and the letter apart.
 -- Assumes nothing.
-use Rattle.std.specs.Prelude.{ℕ, ◌+◌, ◌-◌, ◌*◌, ◌/◌, ◌%◌, Bool, cond, ◌&&◌, List, [], ◌∷◌, ◌++◌, length, take, drop, replicate, nat_le}
+use Rattle.std.specs.Prelude.{ℕ, ◌+◌, ◌-◌, ◌*◌, ◌/◌, ◌%◌, Bool, cond, ◌&&◌, ◌||◌, List, [], ◌∷◌, ◌++◌, length, take, drop, replicate, Some, None, Option, ◌==◌, nat_le}
 use Rattle.laws.specs.Bytes.{point, is_digit}
 use Rattle.laws.specs.Lists.{every}
 use Rattle.numbers.specs.Sign.{signed_of}
 use Rattle.numbers.specs.Numbers.{number_of, digits_of}
 use Rattle.lonlat.specs.declared.AngleRead.{AngleRead}
-use Rattle.lonlat.specs.declared.AngleRead.TheVariants.{Of, Bad}
 use Rattle.lonlat.specs.declared.Size.{Size}
-use Rattle.lonlat.specs.declared.Size.TheVariants.{Hundredths, NoDigit}
 
 -- the last n of t as b, whichever bytes stand there
 unfoldable pub last_as : ℕ → ℕ → List ℕ → List ℕ
@@ -38,16 +36,20 @@ unfoldable pub is_sixty : List ℕ → Bool
 is_sixty t = nat_le 60 (minutes_of t)
 
 -- the value of digits, if digits they are, and whether their minutes are 60 or more
-unfoldable pub size_of : List ℕ → Size
-size_of t = cond (every is_digit t) (Hundredths (value_of t) (is_sixty t)) NoDigit
+unfoldable pub size_of : List ℕ → Option Size
+size_of t = cond (every is_digit t) (Some (record { hundredths = value_of t; sixty = is_sixty t })) None
 
 -- digits, of a value at most `most`
 unfoldable pub fits : ℕ → List ℕ → Bool
 fits most t = every is_digit t && nat_le (value_of t) most
 
 -- the angle on a side that digits say
-unfoldable pub angle_in : ℕ → Bool → List ℕ → AngleRead
-angle_in most minus t = cond (fits most t) (Of (signed_of minus (value_of t)) (is_sixty t)) Bad
+unfoldable pub angle_in : ℕ → Bool → List ℕ → Option AngleRead
+angle_in most minus t = cond (fits most t) (Some (record { angle = signed_of minus (value_of t); sixty = is_sixty t })) None
+
+-- whether a letter says the side minus, if it is the letter of either side
+unfoldable pub side_of : ℕ → ℕ → ℕ → Option Bool
+side_of plus minus letter = cond (letter == plus || letter == minus) (Some (letter == minus)) None
 
 -- ---- written
 

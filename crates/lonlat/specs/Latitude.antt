@@ -1,16 +1,14 @@
 -- A latitude's text (document 01, module 2; APRS 1.0.1, chapter 6): "Latitude is `ddmm.hh` and N or S" .. "Trailing blanks in
 -- latitude number 0 to 5; once one is met, the rest are blank; blanks count as 0."
 -- Assumes nothing.
-use Rattle.std.specs.Prelude.{ℕ, ◌-◌, Bool, cond, ◌&&◌, ◌||◌, List, [], ◌∷◌, length, drop, ℤ, ◌==◌, nat_le, nat_lt, slice_index, unsigned_abs}
+use Rattle.std.specs.Prelude.{ℕ, ◌-◌, Bool, cond, ◌&&◌, ◌||◌, List, [], ◌∷◌, length, drop, Some, None, Option, ℤ, ◌==◌, nat_le, nat_lt, slice_index, unsigned_abs}
 use Rattle.laws.specs.Bytes.{space, digit0, point, is_digit, capital_n, capital_s}
 use Rattle.laws.specs.Lists.{index_of, every}
 use Rattle.lonlat.specs.Angle.{most_latitude}
 use Rattle.numbers.specs.Sign.{is_minus}
 use Rattle.lonlat.specs.Digits.{last_as, angle_in, places_of, text_of}
 use Rattle.lonlat.specs.declared.AngleRead.{AngleRead}
-use Rattle.lonlat.specs.declared.AngleRead.TheVariants.{Of, Bad}
 use Rattle.lonlat.specs.declared.LatitudeRead.{LatitudeRead}
-use Rattle.lonlat.specs.declared.LatitudeRead.TheVariants.{Read, Refused}
 
 -- a digit left blank is a space
 abbrev pub is_blank : ℕ → Bool
@@ -34,38 +32,42 @@ rest_blank t = every is_blank (drop (index_of space t) t)
 unfoldable pub counted_digits : List ℕ → List ℕ
 counted_digits t = last_as digit0 (blanks_in t) t
 
--- how many places stand before the blanks; 0 where the rest is not blank
-unfoldable pub kept_of : List ℕ → ℕ
-kept_of t = cond (rest_blank t) (index_of space t) 0
+-- how many places stand before the blanks; none where the rest is not blank
+unfoldable pub kept_of : List ℕ → Option ℕ
+kept_of t = cond (rest_blank t) (Some (index_of space t)) None
 
 -- the letters that end a latitude
 abbrev pub is_north_or_south : ℕ → Bool
 is_north_or_south letter = letter == capital_n || letter == capital_s
 
--- the angle with its blanks, and its side as the letter says it
-unfoldable pub latitude_with : ℕ → Bool → AngleRead → LatitudeRead
-latitude_with blanks south (Of angle sixty) = Read (record { 0 = angle }) blanks south sixty
-latitude_with blanks south Bad = Refused
+-- an angle with its blanks, its side as the letter says it, and whether its minutes are 60 or more
+abbrev pub latitude_read : ℤ → ℕ → Bool → Bool → LatitudeRead
+latitude_read angle blanks south sixty = record { latitude = record { 0 = angle }; blanks = blanks; south = south; sixty = sixty }
+
+-- the same of the angle that digits say, if they say one
+unfoldable pub latitude_with : ℕ → Bool → Option AngleRead → Option LatitudeRead
+latitude_with blanks south (Some a) = Some (latitude_read a.angle blanks south a.sixty)
+latitude_with blanks south None = None
 
 -- what six places and a letter say, which Mic-E asks too: digits, then 0 to 5 blanks, and at most 90 degrees
-unfoldable pub latitude_in : List ℕ → ℕ → LatitudeRead
+unfoldable pub latitude_in : List ℕ → ℕ → Option LatitudeRead
 latitude_in t letter =
     cond (is_north_or_south letter && rest_blank t && nat_le (blanks_in t) 5)
     (latitude_with (blanks_in t) (letter == capital_s) (angle_in most_latitude (letter == capital_s) (counted_digits t)))
-    Refused
+    None
 
 -- the digit places of `ddmm.hhN`
 abbrev pub latitude_places : List ℕ → List ℕ
 latitude_places s = slice_index s 0 ∷ slice_index s 1 ∷ slice_index s 2 ∷ slice_index s 3 ∷ slice_index s 5 ∷ slice_index s 6 ∷ []
 
 -- eight bytes with the point at its place
-unfoldable pub read_latitude : List ℕ → LatitudeRead
-read_latitude s = cond (length s == 8 && slice_index s 4 == point) (latitude_in (latitude_places s) (slice_index s 7)) Refused
+unfoldable pub read_latitude : List ℕ → Option LatitudeRead
+read_latitude s = cond (length s == 8 && slice_index s 4 == point) (latitude_in (latitude_places s) (slice_index s 7)) None
 
 -- document 01's number
-unfoldable pub latitude_number : LatitudeRead → ℕ
-latitude_number (Read latitude blanks south sixty) = 0
-latitude_number Refused = 8
+unfoldable pub latitude_number : Option LatitudeRead → ℕ
+latitude_number (Some read) = 0
+latitude_number None = 8
 
 -- ---- written
 

@@ -1,15 +1,15 @@
 -- A longitude's text (document 01, module 2; APRS 1.0.1, chapter 6): "longitude `dddmm.hh` and E or W" .. "The same number of
 -- last longitude digits is taken as 0, whichever bytes stand there." "Writing .. writes longitude in full."
 -- Assumes nothing.
-use Rattle.std.specs.Prelude.{ℕ, Bool, cond, ◌&&◌, ◌||◌, List, [], ◌∷◌, length, ℤ, ◌==◌, nat_lt, slice_index, unsigned_abs}
+use Rattle.std.specs.Prelude.{ℕ, Bool, cond, ◌&&◌, ◌||◌, List, [], ◌∷◌, length, Some, None, Option, Ok, Err, Result, ok_or, ℤ, ◌==◌, nat_lt, slice_index, unsigned_abs}
 use Rattle.laws.specs.Bytes.{digit0, point, capital_e, capital_w}
 use Rattle.lonlat.specs.Angle.{most_longitude}
 use Rattle.numbers.specs.Sign.{is_minus}
 use Rattle.lonlat.specs.Digits.{last_as, angle_in, places_of, text_of}
 use Rattle.lonlat.specs.declared.AngleRead.{AngleRead}
-use Rattle.lonlat.specs.declared.AngleRead.TheVariants.{Of, Bad}
 use Rattle.lonlat.specs.declared.LongitudeRead.{LongitudeRead}
-use Rattle.lonlat.specs.declared.LongitudeRead.TheVariants.{Read, Refused, OutOfRange}
+use Rattle.lonlat.specs.declared.LongitudeError.{LongitudeError}
+use Rattle.lonlat.specs.declared.LongitudeError.TheVariants.{Malformed, OutOfRange}
 
 -- ---- read
 
@@ -17,35 +17,39 @@ use Rattle.lonlat.specs.declared.LongitudeRead.TheVariants.{Read, Refused, OutOf
 abbrev pub is_east_or_west : ℕ → Bool
 is_east_or_west letter = letter == capital_e || letter == capital_w
 
--- the angle, and its side as the letter says it
-unfoldable pub longitude_with : Bool → AngleRead → LongitudeRead
-longitude_with west (Of angle sixty) = Read (record { 0 = angle }) west sixty
-longitude_with west Bad = Refused
+-- an angle, its side as the letter says it, and whether its minutes are 60 or more
+abbrev pub longitude_read : ℤ → Bool → Bool → LongitudeRead
+longitude_read angle west sixty = record { longitude = record { 0 = angle }; west = west; sixty = sixty }
+
+-- the same of the angle that digits say, if they say one
+unfoldable pub longitude_with : Bool → Option AngleRead → Option LongitudeRead
+longitude_with west (Some a) = Some (longitude_read a.angle west a.sixty)
+longitude_with west None = None
 
 -- what seven digits and a letter say: at most 180 degrees
-unfoldable pub longitude_in : List ℕ → ℕ → LongitudeRead
+unfoldable pub longitude_in : List ℕ → ℕ → Option LongitudeRead
 longitude_in t letter =
     cond (is_east_or_west letter)
     (longitude_with (letter == capital_w) (angle_in most_longitude (letter == capital_w) t))
-    Refused
+    None
 
 -- the digit places of `dddmm.hhE`
 abbrev pub longitude_places : List ℕ → List ℕ
 longitude_places s = slice_index s 0 ∷ slice_index s 1 ∷ slice_index s 2 ∷ slice_index s 3 ∷ slice_index s 4 ∷ slice_index s 6 ∷ slice_index s 7 ∷ []
 
 -- nine bytes with the point at its place, the last places taken as 0; more than five of them are out of range
-unfoldable pub read_longitude : List ℕ → ℕ → LongitudeRead
+unfoldable pub read_longitude : List ℕ → ℕ → Result LongitudeRead LongitudeError
 read_longitude s blanks =
-    cond (nat_lt 5 blanks) OutOfRange
+    cond (nat_lt 5 blanks) (Err OutOfRange)
     (cond (length s == 9 && slice_index s 5 == point)
-    (longitude_in (last_as digit0 blanks (longitude_places s)) (slice_index s 8))
-    Refused)
+    (ok_or (longitude_in (last_as digit0 blanks (longitude_places s)) (slice_index s 8)) Malformed)
+    (Err Malformed))
 
 -- document 01's number
-unfoldable pub longitude_number : LongitudeRead → ℕ
-longitude_number (Read longitude west sixty) = 0
-longitude_number Refused = 9
-longitude_number OutOfRange = 15
+unfoldable pub longitude_number : Result LongitudeRead LongitudeError → ℕ
+longitude_number (Ok read) = 0
+longitude_number (Err Malformed) = 9
+longitude_number (Err OutOfRange) = 15
 
 -- ---- written
 

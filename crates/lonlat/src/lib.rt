@@ -5,12 +5,11 @@ ghost use Rattle.std.specs.Prelude.{◌≡◌, ◌≤◌, ◌||◌, length, if�
 ghost use Rattle.laws.specs.Lists.{every};
 ghost use Rattle.buffer.specs.Wrote.{ends, wrote};
 ghost use Rattle.lonlat.specs.Angle.{most_longitude, longitude_of};
-ghost use Rattle.lonlat.specs.Digits.{last_as, size_of, angle_in, places_of, text_of};
+ghost use Rattle.lonlat.specs.Digits.{last_as, size_of, angle_in, side_of, places_of, text_of};
 ghost use Rattle.numbers.specs.Numbers.{digit_of};
 ghost use Rattle.lonlat.specs.Latitude.{is_blank, kept_of, latitude_in, read_latitude, blanked_places, latitude_text, latitude_refusal};
 ghost use Rattle.lonlat.specs.Longitude.{longitude_in, read_longitude, longitude_text, longitude_refusal};
 
-use numbers::Number;
 use std::num::wrapping_sub_u8;
 
 // A latitude: signed hundredths of a minute, north positive.
@@ -23,52 +22,41 @@ pub struct Latitude(pub i32);
 #[derive(Clone, Copy)]
 pub struct Longitude(pub i32);
 
-// A longitude put together, or the refusal of one past 180 degrees.
-#[derive(Drop)]
-pub enum LongitudeMade {
-    Made(Longitude),
-    OutOfRange,
-}
-
-// The longitude of that size, east or west; 0 on either side is plain 0. Past 180 degrees it is out of range.
-pub fn longitude_of(size: u32, west: bool) -> LongitudeMade
+// The longitude of that size, east or west; 0 on either side is plain 0. Past 180 degrees there is none.
+pub fn longitude_of(size: u32, west: bool) -> Option<Longitude>
     ensures { result ≡ longitude_of size west }
 {
     if 1080000 < size {
-        return LongitudeMade::OutOfRange;
+        return None;
     }
-    match numbers::signed(size, west) {
-        Number::Is(angle) => LongitudeMade::Made(Longitude(angle)),
-        Number::Bad => LongitudeMade::OutOfRange,
-    }
+    let angle = numbers::signed(size, west)?;
+    Some(Longitude(angle))
 }
 
 // What digit places say together: hundredths of a minute, and whether the minutes are 60 or more.
-#[derive(Drop)]
-enum Size {
-    Hundredths { size: u32, sixty: bool },
-    NoDigit,
+#[derive(Clone, Copy)]
+struct Size {
+    hundredths: u32,
+    sixty: bool,
 }
 
 // The value of the digits: all but the last four are degrees, then two of minutes and two of hundredths.
-fn value(t: &[u8]) -> Size
+fn value(t: &[u8]) -> Option<Size>
     requires { (4 ≤ length t.now) × (length t.now ≤ 7) }
     ensures { result ≡ size_of t.now }
 {
     let mut v: u32 = 0;
-    let mut i: usize = 0;
-    while i < t.len() {
-        let digit = wrapping_sub_u8(t[i], b'0');
+    for &b in t {
+        let digit = wrapping_sub_u8(b, b'0');
         if 9 < digit {
-            return Size::NoDigit;
+            return None;
         }
-        v = 10 * v + (digit as u32);
-        i += 1;
+        v = 10 * v + u32::from(digit);
     }
-    Size::Hundredths {
-        size: 6000 * (v / 10000) + v % 10000,
+    Some(Size {
+        hundredths: 6000 * (v / 10000) + v % 10000,
         sixty: 6000 <= v % 10000,
-    }
+    })
 }
 
 // The last n bytes of t become b.
@@ -76,174 +64,152 @@ fn last_as(b: u8, n: usize, t: &mut [u8])
     requires { n ≤ length t.old }
     ensures { t.new ≡ last_as b n t.old }
 {
-    let mut i = t.len() - n;
-    while i < t.len() {
-        t[i] = b;
-        i += 1;
-    }
+    let kept = t.len() - n;
+    t[kept..].fill(b);
 }
 
 // Whether t is nothing but blanks.
+#[tactic(auto, unfolding(laws::specs::Lists::every))]
 fn blank(t: &[u8]) -> bool
     ensures { result ≡ every is_blank t.now }
 {
-    let mut i: usize = 0;
-    while i < t.len() {
-        if t[i] != b' ' {
-            return false;
-        }
-        i += 1;
-    }
-    true
+    t.iter().all(|&b| b == b' ')
 }
 
-// How many places stand before the blanks that end t; 0 where a blank stands before another byte.
-fn kept_of(t: &[u8]) -> usize
+// How many places stand before the blanks that end t; none where a blank stands before another byte.
+fn kept_of(t: &[u8]) -> Option<usize>
     ensures { result ≡ kept_of t.now }
 {
     let kept = laws::find(t, b' ');
-    if blank(&t[kept..]) {
-        return kept;
-    }
-    0
+    if blank(&t[kept..]) { Some(kept) } else { None }
 }
 
 // What digits say together with a side: the angle, and whether its minutes are 60 or more.
-#[derive(Drop)]
-enum AngleRead {
-    Of { angle: i32, sixty: bool },
-    Bad,
+#[derive(Clone, Copy)]
+struct AngleRead {
+    angle: i32,
+    sixty: bool,
 }
 
 // The angle of digits, at most `most` in size.
-fn angle_in(most: u32, minus: bool, t: &[u8]) -> AngleRead
+fn angle_in(most: u32, minus: bool, t: &[u8]) -> Option<AngleRead>
     requires { (4 ≤ length t.now) × (length t.now ≤ 7) × (most ≤ most_longitude) }
     ensures { result ≡ angle_in most minus t.now }
 {
-    match value(t) {
-        Size::Hundredths { size, sixty } => {
-            if most < size {
-                return AngleRead::Bad;
-            }
-            match numbers::signed(size, minus) {
-                Number::Is(angle) => AngleRead::Of { angle, sixty },
-                Number::Bad => AngleRead::Bad,
-            }
-        }
-        Size::NoDigit => AngleRead::Bad,
+    let size = value(t)?;
+    if most < size.hundredths {
+        return None;
     }
+    let angle = numbers::signed(size.hundredths, minus)?;
+    Some(AngleRead {
+        angle,
+        sixty: size.sixty,
+    })
 }
 
-// Whether the letter is one of two.
-fn either(letter: u8, a: u8, b: u8) -> bool
-    ensures { result ≡ (letter == a || letter == b) }
+// Whether a letter says the side minus, if it is the letter of either side.
+fn side_of(letter: u8, plus: u8, minus: u8) -> Option<bool>
+    ensures { result ≡ side_of plus minus letter }
 {
-    if letter == a {
-        return true;
+    if letter == minus {
+        Some(true)
+    } else if letter == plus {
+        Some(false)
+    } else {
+        None
     }
-    letter == b
 }
 
 // What eight bytes of latitude read as: the angle, its blanks, whether the letter is S, also at 0, and whether the minutes,
 // blanks as 0, are 60 or more.
-#[derive(Drop)]
-pub enum LatitudeRead {
-    Read {
-        latitude: Latitude,
-        blanks: u8,
-        south: bool,
-        sixty: bool,
-    },
-    Refused,
+#[derive(Clone, Copy)]
+pub struct LatitudeRead {
+    pub latitude: Latitude,
+    pub blanks: u8,
+    pub south: bool,
+    pub sixty: bool,
 }
 
 // Six digit places and a letter.
-fn latitude_in(places: [u8; 6], letter: u8) -> LatitudeRead
+fn latitude_in(places: [u8; 6], letter: u8) -> Option<LatitudeRead>
     ensures { result ≡ latitude_in places letter }
 {
-    if !either(letter, b'N', b'S') {
-        return LatitudeRead::Refused;
-    }
-    let kept = kept_of(&places);
+    let south = side_of(letter, b'N', b'S')?;
+    let kept = kept_of(&places)?;
     if kept == 0 {
-        return LatitudeRead::Refused;
+        return None;
     }
     let blanks = 6 - kept;
     let mut t = places;
     last_as(b'0', blanks, &mut t);
-    let south = letter == b'S';
-    match angle_in(540000, south, &t) {
-        AngleRead::Of { angle, sixty } => LatitudeRead::Read {
-            latitude: Latitude(angle),
-            blanks: blanks as u8,
-            south,
-            sixty,
-        },
-        AngleRead::Bad => LatitudeRead::Refused,
-    }
+    let read = angle_in(540000, south, &t)?;
+    Some(LatitudeRead {
+        latitude: Latitude(read.angle),
+        blanks: blanks as u8,
+        south,
+        sixty: read.sixty,
+    })
 }
 
 // Reads `ddmm.hh` and N or S: exactly eight bytes, the last 0 to 5 digits blank.
-pub fn read_latitude(s: &[u8]) -> LatitudeRead
+pub fn read_latitude(s: &[u8]) -> Option<LatitudeRead>
     ensures { result ≡ read_latitude s.now }
 {
     if s.len() != 8 {
-        return LatitudeRead::Refused;
+        return None;
     }
     if s[4] != b'.' {
-        return LatitudeRead::Refused;
+        return None;
     }
     latitude_in([s[0], s[1], s[2], s[3], s[5], s[6]], s[7])
 }
 
 // What nine bytes of longitude read as: the angle, whether the letter is W, also at 0, and whether the minutes, discarded
-// digits as 0, are 60 or more. OutOfRange is for blanks past five.
-#[derive(Drop)]
-pub enum LongitudeRead {
-    Read {
-        longitude: Longitude,
-        west: bool,
-        sixty: bool,
-    },
-    Refused,
+// digits as 0, are 60 or more.
+#[derive(Clone, Copy)]
+pub struct LongitudeRead {
+    pub longitude: Longitude,
+    pub west: bool,
+    pub sixty: bool,
+}
+
+// Why there is no longitude: the bytes are none, or blanks past five were asked for.
+#[derive(Clone, Copy, Debug, PartialEq, Eq)]
+pub enum LongitudeError {
+    Malformed,
     OutOfRange,
 }
 
 // Seven digits and a letter.
-fn longitude_in(t: &[u8; 7], letter: u8) -> LongitudeRead
+fn longitude_in(t: &[u8; 7], letter: u8) -> Option<LongitudeRead>
     ensures { result ≡ longitude_in t.now letter }
 {
-    if !either(letter, b'E', b'W') {
-        return LongitudeRead::Refused;
-    }
-    let west = letter == b'W';
-    match angle_in(1080000, west, t) {
-        AngleRead::Of { angle, sixty } => LongitudeRead::Read {
-            longitude: Longitude(angle),
-            west,
-            sixty,
-        },
-        AngleRead::Bad => LongitudeRead::Refused,
-    }
+    let west = side_of(letter, b'E', b'W')?;
+    let read = angle_in(1080000, west, t)?;
+    Some(LongitudeRead {
+        longitude: Longitude(read.angle),
+        west,
+        sixty: read.sixty,
+    })
 }
 
 // Reads `dddmm.hh` and E or W: exactly nine bytes, the last digits, as many as blanks says, taken as 0 whichever bytes
 // stand there. More than five blanks are out of range.
-pub fn read_longitude(s: &[u8], blanks: u8) -> LongitudeRead
+pub fn read_longitude(s: &[u8], blanks: u8) -> Result<LongitudeRead, LongitudeError>
     ensures { result ≡ read_longitude s.now blanks }
 {
     if 5 < blanks {
-        return LongitudeRead::OutOfRange;
+        return Err(LongitudeError::OutOfRange);
     }
     if s.len() != 9 {
-        return LongitudeRead::Refused;
+        return Err(LongitudeError::Malformed);
     }
     if s[5] != b'.' {
-        return LongitudeRead::Refused;
+        return Err(LongitudeError::Malformed);
     }
     let mut t = [s[0], s[1], s[2], s[3], s[4], s[6], s[7]];
     last_as(b'0', blanks as usize, &mut t);
-    longitude_in(&t, s[8])
+    longitude_in(&t, s[8]).ok_or(LongitudeError::Malformed)
 }
 
 // The character of the last digit of v.
@@ -293,10 +259,7 @@ pub fn write_latitude(l: Latitude, blanks: u8, out: &mut [u8]) -> buffer::Answer
 fn side_letter(minus: bool, plus: u8, other: u8) -> u8
     ensures { result ≡ (if minus then other else plus) }
 {
-    if minus {
-        return other;
-    }
-    plus
+    if minus { other } else { plus }
 }
 
 // The text of a longitude's size, and the letter.

@@ -7,7 +7,7 @@ use lib.IntN.{sub_ℕ, +ℤ_idl, +ℤ_idr, +ℤ_assoc, +ℤ_comm, neg_ℤ-+ℤ, 
 use lib.Signed.{mag}
 use Rattle.lonlat.specs.Angle.{most_longitude, width_of}
 use Rattle.numbers.specs.Sign.{is_on}
-use Rattle.numbers.proofs.Sign.{back, size_turned}
+use Rattle.numbers.proofs.Sign.{back}
 use Rattle.position.specs.declared.PageBox.{PageBox}
 use Rattle.position.specs.Reach.{in_reach}
 use Rattle.position.specs.Page.{no_box, outward, box_of}
@@ -81,6 +81,11 @@ width_small (suc (suc (suc (suc zero)))) = omega arith
 width_small (suc (suc (suc (suc (suc n))))) = omega arith
 
 -- ---- small numbers fit
+
+size_turned : (z : ℤ) → nat_abs (neg_ℤ z) ≡ nat_abs z
+size_turned (pos zero) = refl
+size_turned (pos (suc n)) = refl
+size_turned (negsuc n) = refl
 
 sub_small : (a b : ℕ) → nat_abs (sub_ℕ a b) ≤ a + b
 sub_small a b = go (ltb a b) refl

@@ -1,18 +1,16 @@
 -- What each answer of the reader must show, one law an answer.
 -- Assumes nothing.
-use Rattle.std.proofs.Common.{◌≡◌, ℕ, ◌<◌, ◌≤◌, Bool, true, false, not, List, [], ◌∷◌, length, get_or, take, drop, refl, arith, le-ltb, lt-ltb}
+use Rattle.std.proofs.Common.{◌≡◌, ℕ, ◌<◌, ◌≤◌, Bool, true, false, not, Option, Some, None, Result, Ok, Err, List, [], ◌∷◌, length, get_or, take, drop, refl, arith, le-ltb, lt-ltb}
 use borrow.Author.Tests.{not-true, not-false}
 use Rattle.laws.specs.Bytes.{within}
 use Rattle.lonlat.specs.Latitude.{read_latitude, latitude_number}
 use Rattle.lonlat.specs.Longitude.{read_longitude, longitude_number}
-use Rattle.lonlat.specs.declared.Latitude.{Latitude}
-use Rattle.lonlat.specs.declared.Longitude.{Longitude}
 use Rattle.lonlat.specs.declared.LatitudeRead.{LatitudeRead}
-use Rattle.lonlat.specs.declared.LatitudeRead.TheVariants as lat
 use Rattle.lonlat.specs.declared.LongitudeRead.{LongitudeRead}
-use Rattle.lonlat.specs.declared.LongitudeRead.TheVariants as lon
+use Rattle.lonlat.specs.declared.LongitudeError.{LongitudeError}
+use Rattle.lonlat.specs.declared.LongitudeError.TheVariants.{Malformed, OutOfRange}
 use Rattle.position.specs.declared.PositionRead.{PositionRead}
-use Rattle.position.specs.Position.{fixed_bytes, is_numeric, is_uncompressed, is_table, is_over, is_off_table, refused_position, accepted_position, with_longitude, with_latitude, read_position_by}
+use Rattle.position.specs.Position.{fixed_bytes, is_numeric, is_uncompressed, is_table, is_over, is_off_table, refused_position, accepted_position, place_of, with_longitude, with_latitude, read_position_by}
 
 pub first_none : (s : List ℕ) → length s ≡ 0 → false ≡ is_uncompressed s
 unfolding is_uncompressed is_numeric within
@@ -28,31 +26,30 @@ off_table strict table u e f = rw (e, f)
 
 -- ---- the longitude: q is what was read
 
-module _ (strict : Bool) (s : List ℕ) (latitude : Latitude) (blanks : ℕ) (south sixty : Bool) (q a : LongitudeRead) (e : q ≡ a) where
-  pub longitude_refused : q ≡ lon.Refused → (r : PositionRead) → r ≡ refused_position 9 → r ≡ with_longitude strict s latitude blanks south sixty a
+module _ (strict : Bool) (s : List ℕ) (north : LatitudeRead) (q a : Result LongitudeRead LongitudeError) (e : q ≡ a) where
+  pub longitude_refused : q ≡ Err Malformed → (r : PositionRead) → r ≡ refused_position 9 → r ≡ with_longitude strict s north a
   unfolding with_longitude longitude_number
   longitude_refused f r g = rw (← e, f) g
 
-  pub longitude_out_lem : q ≡ lon.OutOfRange → (r : PositionRead) → r ≡ refused_position 15 → r ≡ with_longitude strict s latitude blanks south sixty a
+  pub longitude_out_lem : q ≡ Err OutOfRange → (r : PositionRead) → r ≡ refused_position 15 → r ≡ with_longitude strict s north a
   unfolding with_longitude longitude_number
   longitude_out_lem f r g = rw (← e, f) g
 
   -- o and t are the tests of its minutes and of the table byte
-  module _ (longitude : Longitude) (west minutes : Bool) (f : q ≡ lon.Read longitude west minutes) (o : Bool) (i : o ≡ is_over strict minutes) where
-    pub longitude_over : o ≡ true → (r : PositionRead) → r ≡ refused_position 9 → r ≡ with_longitude strict s latitude blanks south sixty a
+  module _ (east : LongitudeRead) (f : q ≡ Ok east) (o : Bool) (i : o ≡ is_over strict east.sixty) where
+    pub longitude_over : o ≡ true → (r : PositionRead) → r ≡ refused_position 9 → r ≡ with_longitude strict s north a
     unfolding with_longitude longitude_number
     longitude_over z r g = rw (← e, f, ← i, z) g
 
     module _ (z : o ≡ false) (t : Bool) (j : t ≡ is_off_table strict (get_or s 8 0)) where
-      pub longitude_off_table : t ≡ true → (r : PositionRead) → r ≡ refused_position 20 → r ≡ with_longitude strict s latitude blanks south sixty a
+      pub longitude_off_table : t ≡ true → (r : PositionRead) → r ≡ refused_position 20 → r ≡ with_longitude strict s north a
       unfolding with_longitude
       longitude_off_table y r g = rw (← e, f, ← i, z, ← j, y) g
 
-      pub longitude_read : t ≡ false
-          → accepted_position (record { latitude = latitude; longitude = longitude; blanks = blanks; table = get_or s 8 0; code = get_or s 18 0; south = south; west = west }) sixty minutes
-          ≡ with_longitude strict s latitude blanks south sixty a
+      pub longitude_found : t ≡ false → (r : PositionRead) → r ≡ accepted_position (place_of s north east) north.sixty east.sixty
+          → r ≡ with_longitude strict s north a
       unfolding with_longitude
-      longitude_read y = rw (← e, f, ← i, z, ← j, y)
+      longitude_found y r g = rw (← e, f, ← i, z, ← j, y) g
 
 -- ---- the latitude: u is the test of the first byte
 
@@ -66,17 +63,17 @@ module _ (strict : Bool) (s : List ℕ) (u : Bool) (e : u ≡ is_uncompressed s)
     unfolding read_position_by
     position_short k r f = rw (← e, not-false u h, lt-ltb (length s) fixed_bytes k) f
 
-    module _ (k : fixed_bytes ≤ length s) (q : LatitudeRead) (f : q ≡ read_latitude (take 8 s)) where
-      pub latitude_refused : q ≡ lat.Refused → (r : PositionRead) → r ≡ refused_position 8 → r ≡ read_position_by strict s
+    module _ (k : fixed_bytes ≤ length s) (q : Option LatitudeRead) (f : q ≡ read_latitude (take 8 s)) where
+      pub latitude_refused : q ≡ None → (r : PositionRead) → r ≡ refused_position 8 → r ≡ read_position_by strict s
       unfolding read_position_by with_latitude latitude_number
       latitude_refused g r i = rw (← e, not-false u h, le-ltb (length s) fixed_bytes k, ← f, g) i
 
       -- o is the test of its minutes
-      module _ (latitude : Latitude) (blanks : ℕ) (south sixty : Bool) (g : q ≡ lat.Read latitude blanks south sixty) (o : Bool) (j : o ≡ is_over strict sixty) (r : PositionRead) where
+      module _ (north : LatitudeRead) (g : q ≡ Some north) (o : Bool) (j : o ≡ is_over strict north.sixty) (r : PositionRead) where
         pub latitude_over : o ≡ true → r ≡ refused_position 8 → r ≡ read_position_by strict s
         unfolding read_position_by with_latitude latitude_number
         latitude_over z i = rw (← e, not-false u h, le-ltb (length s) fixed_bytes k, ← f, g, ← j, z) i
 
-        pub latitude_read : o ≡ false → r ≡ with_longitude strict s latitude blanks south sixty (read_longitude (take 9 (drop 9 s)) blanks) → r ≡ read_position_by strict s
+        pub latitude_found : o ≡ false → r ≡ with_longitude strict s north (read_longitude (take 9 (drop 9 s)) north.blanks) → r ≡ read_position_by strict s
         unfolding read_position_by with_latitude
-        latitude_read z i = rw (← e, not-false u h, le-ltb (length s) fixed_bytes k, ← f, g, ← j, z) i
+        latitude_found z i = rw (← e, not-false u h, le-ltb (length s) fixed_bytes k, ← f, g, ← j, z) i

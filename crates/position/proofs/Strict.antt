@@ -1,15 +1,14 @@
 -- Reading strictly and as usually (document 02, R-8): the one is the other, but where a fault is found that only the strict reader looks
 -- for.
 -- Assumes nothing.
-use Rattle.std.proofs.Common.{◌≡◌, ℕ, suc, Bool, true, false, cond, not, ◌&&◌, ◌||◌, eqb, ltb, ◌⊎◌, List, length, get_or, take, drop, sym, refl, ◌∙◌, inl, inr, arith, eqb-true}
+use Rattle.std.proofs.Common.{◌≡◌, ℕ, suc, Bool, true, false, cond, Option, Some, None, Result, Ok, Err, not, ◌&&◌, ◌||◌, eqb, ltb, ◌⊎◌, List, length, get_or, take, drop, sym, refl, ◌∙◌, inl, inr, arith, eqb-true}
 use Rattle.laws.proofs.Tests.{picked}
 use Rattle.lonlat.specs.Latitude.{read_latitude, latitude_number}
 use Rattle.lonlat.specs.Longitude.{read_longitude, longitude_number}
-use Rattle.lonlat.specs.declared.Latitude.{Latitude}
 use Rattle.lonlat.specs.declared.LatitudeRead.{LatitudeRead}
-use Rattle.lonlat.specs.declared.LatitudeRead.TheVariants as lat
 use Rattle.lonlat.specs.declared.LongitudeRead.{LongitudeRead}
-use Rattle.lonlat.specs.declared.LongitudeRead.TheVariants as lon
+use Rattle.lonlat.specs.declared.LongitudeError.{LongitudeError}
+use Rattle.lonlat.specs.declared.LongitudeError.TheVariants.{Malformed, OutOfRange}
 use Rattle.lonlat.proofs.Theorems.{read_latitude_found, longitude_few}
 use Rattle.position.specs.declared.PositionRead.{PositionRead}
 use Rattle.position.specs.Position.{fixed_bytes, usually, strictly, is_table, table_number, is_uncompressed, refused_position, with_longitude, with_latitude, read_position_by, read_position}
@@ -41,15 +40,14 @@ abbrev pub table_fault : ℕ → ℕ
 table_fault table = cond (is_table table) 0 table_number
 
 -- behind a latitude
-unfoldable pub longitude_fault : ℕ → LongitudeRead → ℕ
-longitude_fault table (lon.Read longitude west sixty) = cond sixty (longitude_number lon.Refused) (table_fault table)
-longitude_fault table lon.Refused = 0
-longitude_fault table lon.OutOfRange = 0
+unfoldable pub longitude_fault : ℕ → Result LongitudeRead LongitudeError → ℕ
+longitude_fault table (Ok east) = cond east.sixty (longitude_number (Err Malformed)) (table_fault table)
+longitude_fault table (Err e) = 0
 
 -- a latitude's is found whatever stands behind it
-unfoldable pub latitude_fault : List ℕ → LatitudeRead → ℕ
-latitude_fault s (lat.Read latitude blanks south sixty) = cond sixty (latitude_number lat.Refused) (longitude_fault (get_or s 8 0) (read_longitude (take 9 (drop 9 s)) blanks))
-latitude_fault s lat.Refused = 0
+unfoldable pub latitude_fault : List ℕ → Option LatitudeRead → ℕ
+latitude_fault s (Some north) = cond north.sixty (latitude_number None) (longitude_fault (get_or s 8 0) (read_longitude (take 9 (drop 9 s)) north.blanks))
+latitude_fault s None = 0
 
 -- of a position that has its bytes
 unfoldable pub position_fault : List ℕ → ℕ
@@ -57,19 +55,21 @@ position_fault s = cond (is_uncompressed s) (cond (ltb (length s) fixed_bytes) 0
 
 -- ---- the strict reader is the usual one, but for its faults
 
-longitude_strictly : (s : List ℕ) (latitude : Latitude) (blanks : ℕ) (south sixty : Bool) (q : LongitudeRead)
-    → with_longitude strictly s latitude blanks south sixty q ≡ unless refused_position (longitude_fault (get_or s 8 0) q) (with_longitude usually s latitude blanks south sixty q)
-unfolding with_longitude longitude_fault longitude_number
-longitude_strictly s latitude blanks south sixty (lon.Read longitude west true) = refl
-longitude_strictly s latitude blanks south sixty (lon.Read longitude west false) = table_unless refused_position (is_table (get_or s 8 0)) _
-longitude_strictly s latitude blanks south sixty lon.Refused = refl
-longitude_strictly s latitude blanks south sixty lon.OutOfRange = refl
+-- minutes of 60 or more are refused in front of the other faults
+over_unless : {A : Type 0} (refused : ℕ → A) (sixty : Bool) (n fault : ℕ) (x r : A) → eqb n 0 ≡ false → x ≡ unless refused fault r → cond sixty (refused n) x ≡ unless refused (cond sixty n fault) r
+over_unless refused true n fault x r e f = rw e
+over_unless refused false n fault x r e f = f
 
-latitude_strictly : (s : List ℕ) (q : LatitudeRead) → with_latitude strictly s q ≡ unless refused_position (latitude_fault s q) (with_latitude usually s q)
+longitude_strictly : (s : List ℕ) (north : LatitudeRead) (q : Result LongitudeRead LongitudeError)
+    → with_longitude strictly s north q ≡ unless refused_position (longitude_fault (get_or s 8 0) q) (with_longitude usually s north q)
+unfolding with_longitude longitude_fault longitude_number
+longitude_strictly s north (Ok east) = over_unless refused_position east.sixty 9 _ _ _ refl (table_unless refused_position (is_table (get_or s 8 0)) _)
+longitude_strictly s north (Err e) = refl
+
+latitude_strictly : (s : List ℕ) (q : Option LatitudeRead) → with_latitude strictly s q ≡ unless refused_position (latitude_fault s q) (with_latitude usually s q)
 unfolding with_latitude latitude_fault latitude_number
-latitude_strictly s (lat.Read latitude blanks south true) = refl
-latitude_strictly s (lat.Read latitude blanks south false) = longitude_strictly s latitude blanks south false (read_longitude (take 9 (drop 9 s)) blanks)
-latitude_strictly s lat.Refused = refl
+latitude_strictly s (Some north) = over_unless refused_position north.sixty 8 _ _ _ refl (longitude_strictly s north (read_longitude (take 9 (drop 9 s)) north.blanks))
+latitude_strictly s None = refl
 
 pub position_strictly : (s : List ℕ) → read_position_by strictly s ≡ unless refused_position (position_fault s) (read_position s)
 unfolding read_position_by position_fault
@@ -93,16 +93,15 @@ either_fault a b p q = picked (λ n t. is_fault n ≡ true) a b p q
 pub table_fault_lem : (table : ℕ) → is_fault (table_fault table) ≡ true
 table_fault_lem table = either_fault 0 table_number refl refl (is_table table)
 
-longitude_fault_lem : (table : ℕ) (q : LongitudeRead) → is_fault (longitude_fault table q) ≡ true
+longitude_fault_lem : (table : ℕ) (q : Result LongitudeRead LongitudeError) → is_fault (longitude_fault table q) ≡ true
 unfolding longitude_fault longitude_number
-longitude_fault_lem table (lon.Read longitude west sixty) = either_fault 9 (table_fault table) refl (table_fault_lem table) sixty
-longitude_fault_lem table lon.Refused = refl
-longitude_fault_lem table lon.OutOfRange = refl
+longitude_fault_lem table (Ok east) = either_fault 9 (table_fault table) refl (table_fault_lem table) east.sixty
+longitude_fault_lem table (Err e) = refl
 
-latitude_fault_lem : (s : List ℕ) (q : LatitudeRead) → is_fault (latitude_fault s q) ≡ true
+latitude_fault_lem : (s : List ℕ) (q : Option LatitudeRead) → is_fault (latitude_fault s q) ≡ true
 unfolding latitude_fault latitude_number
-latitude_fault_lem s (lat.Read latitude blanks south sixty) = either_fault 8 _ refl (longitude_fault_lem (get_or s 8 0) (read_longitude (take 9 (drop 9 s)) blanks)) sixty
-latitude_fault_lem s lat.Refused = refl
+latitude_fault_lem s (Some north) = either_fault 8 _ refl (longitude_fault_lem (get_or s 8 0) (read_longitude (take 9 (drop 9 s)) north.blanks)) north.sixty
+latitude_fault_lem s None = refl
 
 pub position_fault_lem : (s : List ℕ) → is_fault (position_fault s) ≡ true
 unfolding position_fault
@@ -114,19 +113,19 @@ position_fault_lem s =
 -- the longitude's minutes and the table byte are looked at once the longitude is read; so what is refused usually is refused strictly with
 -- the same number, but with 8 for 9 where the latitude's minutes are 60 or more
 module _ (s : List ℕ) where
-  latitude_refused : (q : LatitudeRead) → read_latitude (take 8 s) ≡ q → ((with_latitude usually s q).refusal ≡ 0 → ⊥)
+  latitude_refused : (q : Option LatitudeRead) → read_latitude (take 8 s) ≡ q → ((with_latitude usually s q).refusal ≡ 0 → ⊥)
       → (latitude_fault s q ≡ 0) ⊎ (((with_latitude usually s q).refusal ≡ 9) × (latitude_fault s q ≡ 8))
   unfolding with_latitude latitude_fault latitude_number
-  latitude_refused (lat.Read latitude blanks south sixty) e n =
-      go (read_longitude (take 9 (drop 9 s)) blanks) (longitude_few (take 9 (drop 9 s)) blanks (read_latitude_found latitude blanks south sixty (take 8 s) e).few) sixty n
+  latitude_refused (Some north) e n =
+      go (read_longitude (take 9 (drop 9 s)) north.blanks) (longitude_few (take 9 (drop 9 s)) north.blanks (read_latitude_found north (take 8 s) e).few) north.sixty n
     where
-      go : (q : LongitudeRead) → (q ≡ lon.OutOfRange → ⊥) → (b : Bool) → ((with_longitude usually s latitude blanks south b q).refusal ≡ 0 → ⊥)
-          → (cond b 8 (longitude_fault (get_or s 8 0) q) ≡ 0) ⊎ (((with_longitude usually s latitude blanks south b q).refusal ≡ 9) × (cond b 8 (longitude_fault (get_or s 8 0) q) ≡ 8))
-      go (lon.Read longitude west over) few b n = absurd (n (unfold with_longitude in refl))
-      go lon.Refused few true n = inr (unfold with_longitude longitude_number in refl, refl)
-      go lon.Refused few false n = inl (unfold longitude_fault in refl)
-      go lon.OutOfRange few b n = absurd (few refl)
-  latitude_refused lat.Refused e n = inl refl
+      go : (q : Result LongitudeRead LongitudeError) → (q ≡ Err OutOfRange → ⊥) → (b : Bool) → ((with_longitude usually s north q).refusal ≡ 0 → ⊥)
+          → (cond b 8 (longitude_fault (get_or s 8 0) q) ≡ 0) ⊎ (((with_longitude usually s north q).refusal ≡ 9) × (cond b 8 (longitude_fault (get_or s 8 0) q) ≡ 8))
+      go (Ok east) few b n = absurd (n (unfold with_longitude in refl))
+      go (Err Malformed) few true n = inr (unfold with_longitude longitude_number in refl, refl)
+      go (Err Malformed) few false n = inl (unfold longitude_fault in refl)
+      go (Err OutOfRange) few b n = absurd (few refl)
+  latitude_refused None e n = inl refl
 
   pub position_refused_too : ((read_position s).refusal ≡ 0 → ⊥) → (position_fault s ≡ 0) ⊎ (((read_position s).refusal ≡ 9) × (position_fault s ≡ 8))
   unfolding read_position_by position_fault
@@ -159,17 +158,17 @@ table_none table = go (is_table table)
     go false = refl
 
 module _ (s : List ℕ) where
-  longitude_sound : (latitude : Latitude) (blanks : ℕ) (south sixty : Bool) (q : LongitudeRead) → (with_longitude usually s latitude blanks south sixty q).refusal ≡ 0
-      → eqb (cond sixty 8 (longitude_fault (get_or s 8 0) q)) 0 ≡ is_sound (with_longitude usually s latitude blanks south sixty q)
+  longitude_sound : (north : LatitudeRead) (q : Result LongitudeRead LongitudeError) → (with_longitude usually s north q).refusal ≡ 0
+      → eqb (cond north.sixty 8 (longitude_fault (get_or s 8 0) q)) 0 ≡ is_sound (with_longitude usually s north q)
   unfolding with_longitude longitude_fault longitude_number is_sound
-  longitude_sound latitude blanks south sixty (lon.Read longitude west over) z = none_where sixty 7 _ _ refl (none_where over 8 _ _ refl (table_none (get_or s 8 0)))
-  longitude_sound latitude blanks south sixty lon.Refused z = absurd (omega arith)
-  longitude_sound latitude blanks south sixty lon.OutOfRange z = absurd (omega arith)
+  longitude_sound north (Ok east) z = none_where north.sixty 7 _ _ refl (none_where east.sixty 8 _ _ refl (table_none (get_or s 8 0)))
+  longitude_sound north (Err Malformed) z = absurd (omega arith)
+  longitude_sound north (Err OutOfRange) z = absurd (omega arith)
 
-  latitude_sound : (q : LatitudeRead) → (with_latitude usually s q).refusal ≡ 0 → eqb (latitude_fault s q) 0 ≡ is_sound (with_latitude usually s q)
+  latitude_sound : (q : Option LatitudeRead) → (with_latitude usually s q).refusal ≡ 0 → eqb (latitude_fault s q) 0 ≡ is_sound (with_latitude usually s q)
   unfolding with_latitude latitude_fault latitude_number
-  latitude_sound (lat.Read latitude blanks south sixty) z = longitude_sound latitude blanks south sixty (read_longitude (take 9 (drop 9 s)) blanks) z
-  latitude_sound lat.Refused z = absurd (omega arith)
+  latitude_sound (Some north) z = longitude_sound north (read_longitude (take 9 (drop 9 s)) north.blanks) z
+  latitude_sound None z = absurd (omega arith)
 
   pub position_sound : (read_position s).refusal ≡ 0 → eqb (position_fault s) 0 ≡ is_sound (read_position s)
   unfolding read_position_by position_fault

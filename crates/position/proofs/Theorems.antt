@@ -1,7 +1,7 @@
 -- What a position reads as is blank, or in range and on the sides that were read; its angles are the inner edges of their boxes;
 -- and what is written reads back, 0 with the letters N and E.
 -- Assumes nothing.
-use Rattle.std.proofs.Common.{◌≡◌, ℕ, ◌%◌, ◌≤◌, Bool, true, false, cond, ◌||◌, eqb, ltb, List, [], ◌∷◌, ◌++◌, length, get_or, take, drop, pos, nat_abs, sym, refl, ap, ◌∙◌, append_assoc, arith, length-append, get_or-drop, take_at, get_or-append-add, drop_at, le-ltb, le-leb}
+use Rattle.std.proofs.Common.{◌≡◌, ℕ, ◌%◌, ◌≤◌, Bool, true, false, cond, Option, Some, None, Result, Ok, Err, ◌||◌, eqb, ltb, List, [], ◌∷◌, ◌++◌, length, get_or, take, drop, pos, nat_abs, sym, refl, ap, ◌∙◌, append_assoc, arith, length-append, get_or-drop, take_at, get_or-append-add, drop_at, le-ltb, le-leb}
 use mathlib.Core.Bool.{false≢true}
 use lib.ListN.{get_or-append}
 use lib.Seq.{get_or_at}
@@ -9,20 +9,18 @@ use Rattle.laws.specs.Bytes.{is_digit}
 use Rattle.numbers.specs.Sign.{is_minus, is_on}
 use Rattle.numbers.proofs.Sign.{on_one}
 use Rattle.lonlat.specs.Angle.{most_latitude, most_longitude, width_of, cut_angle}
-use Rattle.lonlat.specs.Latitude.{read_latitude, latitude_number, latitude_text}
-use Rattle.lonlat.specs.Longitude.{read_longitude, longitude_number, longitude_text}
-use Rattle.lonlat.specs.declared.Latitude.{Latitude}
-use Rattle.lonlat.specs.declared.Longitude.{Longitude}
+use Rattle.lonlat.specs.Latitude.{latitude_read, read_latitude, latitude_number, latitude_text}
+use Rattle.lonlat.specs.Longitude.{longitude_read, read_longitude, longitude_number, longitude_text}
 use Rattle.lonlat.specs.declared.LatitudeRead.{LatitudeRead}
-use Rattle.lonlat.specs.declared.LatitudeRead.TheVariants as lat
 use Rattle.lonlat.specs.declared.LongitudeRead.{LongitudeRead}
-use Rattle.lonlat.specs.declared.LongitudeRead.TheVariants as lon
+use Rattle.lonlat.specs.declared.LongitudeError.{LongitudeError}
+use Rattle.lonlat.specs.declared.LongitudeError.TheVariants.{Malformed, OutOfRange}
 use Rattle.lonlat.proofs.Texts.{latitude_text_length, latitude_text_first, longitude_text_length}
 use Rattle.lonlat.proofs.Theorems.{AngleFound, LatitudeFound, read_latitude_found, read_longitude_found, longitude_few, cut_whole, latitude_reads_cut, longitude_reads_cut}
 use Rattle.position.specs.declared.Place.{Place}
 use Rattle.position.specs.declared.PositionRead.{PositionRead}
 use Rattle.position.specs.Reach.{in_reach}
-use Rattle.position.specs.Position.{fixed_bytes, is_numeric, usually, is_uncompressed, refused_position, accepted_position, with_longitude, with_latitude, read_position_by, read_position, no_place, place_in_range, letters_agree, position_text, as_written}
+use Rattle.position.specs.Position.{fixed_bytes, is_numeric, usually, is_uncompressed, refused_position, accepted_position, place_of, with_longitude, with_latitude, read_position_by, read_position, no_place, place_in_range, letters_agree, position_text, as_written}
 use Rattle.position.specs.Page.{box_of}
 use Rattle.position.proofs.InnerEdge.{InnerEdge, inner_edge}
 use Rattle.position.proofs.Reach.{latitude_near, longitude_near, reach_near, reach_few, latitude_agrees, longitude_agrees}
@@ -32,27 +30,21 @@ use Rattle.position.proofs.Reach.{latitude_near, longitude_near, reach_near, rea
 abbrev pub is_position_refusal : ℕ → Bool
 is_position_refusal n = eqb n 7 || (eqb n 8 || (eqb n 9 || eqb n 10))
 
-abbrev place_of : List ℕ → Latitude → Longitude → ℕ → Bool → Bool → Place
-place_of s latitude longitude blanks south west =
-    record { latitude = latitude; longitude = longitude; blanks = blanks; table = get_or s 8 0; code = get_or s 18 0; south = south; west = west }
-
 module _ (P : PositionRead → Type 0) (s : List ℕ)
     (blank : (n : ℕ) → is_position_refusal n ≡ true → P (refused_position n))
-    (found : (latitude : Latitude) (longitude : Longitude) (blanks : ℕ) (south west x y : Bool) → LatitudeFound latitude blanks south
-    → AngleFound most_longitude west (width_of blanks) longitude.0
-    → P (accepted_position (place_of s latitude longitude blanks south west) x y)) where
-  longitude_cases : (latitude : Latitude) (blanks : ℕ) (south x : Bool) → LatitudeFound latitude blanks south
-      → (q : LongitudeRead) → read_longitude (take 9 (drop 9 s)) blanks ≡ q → P (with_longitude usually s latitude blanks south x q)
+    (found : (north : LatitudeRead) (east : LongitudeRead) → LatitudeFound north → AngleFound most_longitude east.west (width_of north.blanks) east.longitude.0
+    → P (accepted_position (place_of s north east) north.sixty east.sixty)) where
+  longitude_cases : (north : LatitudeRead) → LatitudeFound north
+      → (q : Result LongitudeRead LongitudeError) → read_longitude (take 9 (drop 9 s)) north.blanks ≡ q → P (with_longitude usually s north q)
   unfolding with_longitude longitude_number
-  longitude_cases latitude blanks south x l (lon.Read longitude west y) e = found latitude longitude blanks south west x y l (read_longitude_found longitude west y (take 9 (drop 9 s)) blanks e)
-  longitude_cases latitude blanks south x l lon.Refused e = blank 9 refl
-  longitude_cases latitude blanks south x l lon.OutOfRange e = absurd (longitude_few (take 9 (drop 9 s)) blanks l.few e)
+  longitude_cases north l (Ok east) e = found north east l (read_longitude_found east (take 9 (drop 9 s)) north.blanks e)
+  longitude_cases north l (Err Malformed) e = blank 9 refl
+  longitude_cases north l (Err OutOfRange) e = absurd (longitude_few (take 9 (drop 9 s)) north.blanks l.few e)
 
-  latitude_cases : (q : LatitudeRead) → read_latitude (take 8 s) ≡ q → P (with_latitude usually s q)
+  latitude_cases : (q : Option LatitudeRead) → read_latitude (take 8 s) ≡ q → P (with_latitude usually s q)
   unfolding with_latitude latitude_number
-  latitude_cases (lat.Read latitude blanks south x) e =
-      longitude_cases latitude blanks south x (read_latitude_found latitude blanks south x (take 8 s) e) (read_longitude (take 9 (drop 9 s)) blanks) refl
-  latitude_cases lat.Refused e = blank 8 refl
+  latitude_cases (Some north) e = longitude_cases north (read_latitude_found north (take 8 s) e) (read_longitude (take 9 (drop 9 s)) north.blanks) refl
+  latitude_cases None e = blank 8 refl
 
   position_cases : P (read_position s)
   unfolding read_position_by
@@ -76,13 +68,13 @@ pub record Answered (r : PositionRead) : Type 0 where
 refusal_not_zero : (n : ℕ) → is_position_refusal n ≡ true → n ≡ 0 → ⊥
 refusal_not_zero n e z = let k : is_position_refusal 0 ≡ true = rw z at e in let f : false ≡ true = k in false≢true f
 
-module _ (s : List ℕ) (latitude : Latitude) (longitude : Longitude) (blanks : ℕ) (south west : Bool)
-    (l : LatitudeFound latitude blanks south) (m : AngleFound most_longitude west (width_of blanks) longitude.0) where
-  found_near : place_in_range (place_of s latitude longitude blanks south west) ≡ true
+module _ (s : List ℕ) (north : LatitudeRead) (east : LongitudeRead)
+    (l : LatitudeFound north) (m : AngleFound most_longitude east.west (width_of north.blanks) east.longitude.0) where
+  found_near : place_in_range (place_of s north east) ≡ true
   unfolding place_in_range in_reach
-  found_near = rw (le-leb (nat_abs latitude.0) most_latitude l.angle.near, le-leb blanks 5 l.few, le-leb (nat_abs longitude.0) most_longitude m.near)
+  found_near = rw (le-leb (nat_abs north.latitude.0) most_latitude l.angle.near, le-leb north.blanks 5 l.few, le-leb (nat_abs east.longitude.0) most_longitude m.near)
 
-  found_agree : letters_agree (place_of s latitude longitude blanks south west) ≡ true
+  found_agree : letters_agree (place_of s north east) ≡ true
   unfolding letters_agree
   found_agree = rw (l.angle.side, m.side)
 
@@ -102,11 +94,11 @@ read_position_answered s =
       latitude_whole = refl;
       longitude_whole = refl;
     })
-    (λ latitude longitude blanks south west x y l m. record {
+    (λ north east l m. record {
       number = λ h. absurd (h refl);
       nothing = λ h. absurd (h refl);
-      near = λ z. found_near s latitude longitude blanks south west l m;
-      agree = found_agree s latitude longitude blanks south west l m;
+      near = λ z. found_near s north east l m;
+      agree = found_agree s north east l m;
       latitude_whole = l.angle.whole;
       longitude_whole = m.whole;
     })
@@ -172,11 +164,11 @@ module _ (n : List ℕ) (t : ℕ) (e : List ℕ) (c : ℕ) (rest : List ℕ) (ei
   whole_code = sym (get_or-drop 9 whole 9 0) ∙ ap (λ (l : List ℕ). get_or l 9 0) past_table ∙ get_or_at e c rest 0 9 nine
 
 -- a place read from text whose parts are known
-parts_read : (s : List ℕ) (latitude : Latitude) (longitude : Longitude) (blanks : ℕ) (south west x y : Bool) → is_uncompressed s ≡ true → fixed_bytes ≤ length s
-    → read_latitude (take 8 s) ≡ lat.Read latitude blanks south x → read_longitude (take 9 (drop 9 s)) blanks ≡ lon.Read longitude west y
-    → read_position s ≡ accepted_position (place_of s latitude longitude blanks south west) x y
+parts_read : (s : List ℕ) (north : LatitudeRead) (east : LongitudeRead) → is_uncompressed s ≡ true → fixed_bytes ≤ length s
+    → read_latitude (take 8 s) ≡ Some north → read_longitude (take 9 (drop 9 s)) north.blanks ≡ Ok east
+    → read_position s ≡ accepted_position (place_of s north east) north.sixty east.sixty
 unfolding read_position_by with_latitude with_longitude
-parts_read s latitude longitude blanks south west x y u l e f = rw (u, le-ltb (length s) fixed_bytes l, e, f)
+parts_read s north east u l e f = rw (u, le-ltb (length s) fixed_bytes l, e, f)
 
 numeric_digit : (s : List ℕ) (b : ℕ) → get_or s 0 0 ≡ b → is_digit b ≡ true → is_uncompressed s ≡ true
 unfolding is_uncompressed is_numeric
@@ -207,13 +199,13 @@ module _ (p : Place) (near : place_in_range p ≡ true) (comment : List ℕ) whe
   unfolding position_text whole s n e
   text_whole = append_assoc n (p.table ∷ e ++ (p.code ∷ [])) comment ∙ ap {B = List ℕ} (λ l. n ++ (p.table ∷ l)) (append_assoc e (p.code ∷ []) comment)
 
-  north_read : read_latitude (take 8 s) ≡ lat.Read (record { 0 = cut_angle p.blanks p.latitude.0 }) p.blanks (is_minus p.latitude.0) false
+  north_read : read_latitude (take 8 s) ≡ Some (latitude_read (cut_angle p.blanks p.latitude.0) p.blanks (is_minus p.latitude.0) false)
   unfolding s n
   north_read =
       ap read_latitude (whole_north n p.table e p.code comment eight nine)
       ∙ latitude_reads_cut p.latitude.0 p.blanks few (reach_near most_latitude (nat_abs p.latitude.0) p.blanks (latitude_near p near))
 
-  east_read : read_longitude (take 9 (drop 9 s)) p.blanks ≡ lon.Read (record { 0 = cut_angle p.blanks p.longitude.0 }) (is_minus p.longitude.0) false
+  east_read : read_longitude (take 9 (drop 9 s)) p.blanks ≡ Ok (longitude_read (cut_angle p.blanks p.longitude.0) (is_minus p.longitude.0) false)
   unfolding s e
   east_read =
       ap (λ (l : List ℕ). read_longitude l p.blanks) (whole_east n p.table e p.code comment eight nine)
@@ -229,7 +221,7 @@ module _ (p : Place) (near : place_in_range p ≡ true) (comment : List ℕ) whe
   unfolding s
   position_reads_cut =
       rw text_whole
-      (parts_read s _ _ p.blanks (is_minus p.latitude.0) (is_minus p.longitude.0) false false starts (whole_long n p.table e p.code comment eight nine) north_read east_read
+      (parts_read s _ _ starts (whole_long n p.table e p.code comment eight nine) north_read east_read
       ∙ rw (whole_table n p.table e p.code comment eight nine, whole_code n p.table e p.code comment eight nine))
 
   -- as the place itself with the letters that are written, where both angles are multiples of that width

@@ -2,17 +2,16 @@
 -- longitude, code byte, comment." The comment is what follows those 19 bytes. Order of refusals: "Position: 7, 10, 8, 9."; and strictly
 -- (document 02, R-8) 20 behind them.
 -- Assumes nothing.
-use Rattle.std.specs.Prelude.{ℕ, Bool, true, false, cond, not, ◌&&◌, ◌||◌, List, [], ◌∷◌, ◌++◌, length, take, drop, pos, ◌==◌, nat_lt, slice_index, unsigned_abs}
+use Rattle.std.specs.Prelude.{ℕ, Bool, true, false, cond, not, ◌&&◌, ◌||◌, List, [], ◌∷◌, ◌++◌, length, take, drop, Some, None, Option, Ok, Err, Result, pos, ◌==◌, nat_lt, slice_index, unsigned_abs}
 use Rattle.laws.specs.Bytes.{slash, backslash, is_digit, is_capital}
 use Rattle.numbers.specs.Sign.{is_minus, is_on}
 use Rattle.lonlat.specs.Angle.{most_latitude, most_longitude}
 use Rattle.lonlat.specs.Latitude.{read_latitude, latitude_number, latitude_text}
 use Rattle.lonlat.specs.Longitude.{read_longitude, longitude_number, longitude_text}
-use Rattle.lonlat.specs.declared.Latitude.{Latitude}
 use Rattle.lonlat.specs.declared.LatitudeRead.{LatitudeRead}
-use Rattle.lonlat.specs.declared.LatitudeRead.TheVariants as lat
 use Rattle.lonlat.specs.declared.LongitudeRead.{LongitudeRead}
-use Rattle.lonlat.specs.declared.LongitudeRead.TheVariants as lon
+use Rattle.lonlat.specs.declared.LongitudeError.{LongitudeError}
+use Rattle.lonlat.specs.declared.LongitudeError.TheVariants.{Malformed}
 use Rattle.position.specs.declared.Place.{Place}
 use Rattle.position.specs.declared.PositionRead.{PositionRead}
 use Rattle.position.specs.Reach.{in_reach}
@@ -73,25 +72,34 @@ accepted_position place latitude_sixty longitude_sixty = record {
   longitude_sixty = longitude_sixty;
 }
 
--- the place, with the symbol's bytes at their places, and the letters as they stood: "At 0 the side is the letter read, so the
--- record must carry both letters" (document 02, R-1). Strictly "minutes give 8, 9 .. after the digits and before the size test; the table
+-- the place of both angles, with the symbol's bytes at their places, and the letters as they stood: "At 0 the side is the letter
+-- read, so the record must carry both letters" (document 02, R-1)
+abbrev pub place_of : List ℕ → LatitudeRead → LongitudeRead → Place
+place_of s north east = record {
+  latitude = north.latitude;
+  longitude = east.longitude;
+  blanks = north.blanks;
+  table = slice_index s 8;
+  code = slice_index s 18;
+  south = north.south;
+  west = east.west;
+}
+
+-- that place, if both angles were read. Strictly "minutes give 8, 9 .. after the digits and before the size test; the table
 -- byte gives 20, last of all": minutes and size have one number, so that an angle that was read is judged as in that order.
-unfoldable pub with_longitude : Bool → List ℕ → Latitude → ℕ → Bool → Bool → LongitudeRead → PositionRead
-with_longitude strict s latitude blanks south latitude_sixty (lon.Read longitude west longitude_sixty) =
-    cond (is_over strict longitude_sixty) (refused_position (longitude_number lon.Refused))
+unfoldable pub with_longitude : Bool → List ℕ → LatitudeRead → Result LongitudeRead LongitudeError → PositionRead
+with_longitude strict s north (Ok east) =
+    cond (is_over strict east.sixty) (refused_position (longitude_number (Err Malformed)))
     (cond (is_off_table strict (slice_index s 8)) (refused_position table_number)
-    (accepted_position (record { latitude = latitude; longitude = longitude; blanks = blanks; table = slice_index s 8; code = slice_index s 18; south = south; west = west })
-    latitude_sixty
-    longitude_sixty))
-with_longitude strict s latitude blanks south latitude_sixty lon.Refused = refused_position (longitude_number lon.Refused)
-with_longitude strict s latitude blanks south latitude_sixty lon.OutOfRange = refused_position (longitude_number lon.OutOfRange)
+    (accepted_position (place_of s north east) north.sixty east.sixty))
+with_longitude strict s north (Err e) = refused_position (longitude_number (Err e))
 
 -- the latitude's blanks rule the longitude too; "Latitude is done before longitude begins"
-unfoldable pub with_latitude : Bool → List ℕ → LatitudeRead → PositionRead
-with_latitude strict s (lat.Read latitude blanks south sixty) =
-    cond (is_over strict sixty) (refused_position (latitude_number lat.Refused))
-    (with_longitude strict s latitude blanks south sixty (read_longitude (take 9 (drop 9 s)) blanks))
-with_latitude strict s lat.Refused = refused_position (latitude_number lat.Refused)
+unfoldable pub with_latitude : Bool → List ℕ → Option LatitudeRead → PositionRead
+with_latitude strict s (Some north) =
+    cond (is_over strict north.sixty) (refused_position (latitude_number None))
+    (with_longitude strict s north (read_longitude (take 9 (drop 9 s)) north.blanks))
+with_latitude strict s None = refused_position (latitude_number None)
 
 -- 7, 10, 8, 9, and strictly 20
 unfoldable pub read_position_by : Bool → List ℕ → PositionRead

@@ -13,7 +13,7 @@ ghost use Rattle.position.specs.Bounds.{from_dmh, degrees_of, degree_width, rang
 ghost use Rattle.position.specs.Page.{no_box, box_of};
 ghost use Rattle.position.specs.Private.{widest, box_around};
 
-use lonlat::{Latitude, LatitudeRead, Longitude, LongitudeRead};
+use lonlat::{Latitude, LatitudeRead, Longitude, LongitudeError};
 use std::num::wrapping_sub_u8;
 
 // Where something is: its angles, how many of their last digits are blank, its symbol, and whether its letters are S and W, also
@@ -146,25 +146,14 @@ pub fn is_off_table(strict: bool, table: u8) -> bool
     false
 }
 
-// Goes on with the longitude, behind a latitude with its blanks, its side, and whether its minutes are 60 or more.
-fn with_longitude(
-    s: &[u8],
-    latitude: Latitude,
-    blanks: u8,
-    south: bool,
-    sixty: bool,
-    strict: bool,
-) -> PositionRead
+// Goes on with the longitude, behind the latitude that was read.
+fn with_longitude(s: &[u8], north: LatitudeRead, strict: bool) -> PositionRead
     requires { fixed_bytes ≤ length s.now }
-    ensures { result ≡ with_longitude strict s.now latitude blanks south sixty (read_longitude (take 9 (drop 9 s.now)) blanks) }
+    ensures { result ≡ with_longitude strict s.now north (read_longitude (take 9 (drop 9 s.now)) north.blanks) }
 {
-    match lonlat::read_longitude(&s[9..18], blanks) {
-        LongitudeRead::Read {
-            longitude,
-            west,
-            sixty: longitude_sixty,
-        } => {
-            if is_over(strict, longitude_sixty) {
+    match lonlat::read_longitude(&s[9..18], north.blanks) {
+        Ok(east) => {
+            if is_over(strict, east.sixty) {
                 return refused_position(9);
             }
             if is_off_table(strict, s[8]) {
@@ -173,20 +162,20 @@ fn with_longitude(
             PositionRead {
                 refusal: 0,
                 place: Place {
-                    latitude,
-                    longitude,
-                    blanks,
+                    latitude: north.latitude,
+                    longitude: east.longitude,
+                    blanks: north.blanks,
                     table: s[8],
                     code: s[18],
-                    south,
-                    west,
+                    south: north.south,
+                    west: east.west,
                 },
-                latitude_sixty: sixty,
-                longitude_sixty,
+                latitude_sixty: north.sixty,
+                longitude_sixty: east.sixty,
             }
         }
-        LongitudeRead::Refused => refused_position(9),
-        LongitudeRead::OutOfRange => refused_position(15),
+        Err(LongitudeError::Malformed) => refused_position(9),
+        Err(LongitudeError::OutOfRange) => refused_position(15),
     }
 }
 
@@ -202,19 +191,9 @@ pub fn read_position(s: &[u8], strict: bool) -> PositionRead
     if s.len() < 19 {
         return refused_position(10);
     }
-    match lonlat::read_latitude(&s[0..8]) {
-        LatitudeRead::Read {
-            latitude,
-            blanks,
-            south,
-            sixty,
-        } => {
-            if is_over(strict, sixty) {
-                return refused_position(8);
-            }
-            with_longitude(s, latitude, blanks, south, sixty, strict)
-        }
-        LatitudeRead::Refused => refused_position(8),
+    match lonlat::read_latitude(&s[..8]) {
+        Some(north) if !is_over(strict, north.sixty) => with_longitude(s, north, strict),
+        _ => refused_position(8),
     }
 }
 

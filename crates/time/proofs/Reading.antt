@@ -1,6 +1,6 @@
 -- What each answer of the reader must show: a byte that is no digit makes a number of 100, and so no time.
 -- Assumes nothing.
-use Rattle.std.proofs.Common.{◌≡◌, ℕ, ◌+◌, ◌*◌, ◌%◌, ◌^◌, ◌<◌, ◌≤◌, Bool, true, false, cond, ◌&&◌, List, [], ◌∷◌, length, get_or, take, sym, refl, ap, ◌∙◌, subst, arith, eq-eqb, ne_eqb}
+use Rattle.std.proofs.Common.{◌≡◌, ℕ, ◌+◌, ◌*◌, ◌%◌, ◌^◌, ◌<◌, ◌≤◌, Bool, true, false, cond, ◌&&◌, List, [], ◌∷◌, length, get_or, take, sym, refl, ap, ◌∙◌, subst, arith, eq-eqb, ne_eqb, Some, None}
 use Rattle.laws.specs.Bytes.{digit0, is_digit}
 use Rattle.laws.specs.Lists.{every}
 use Rattle.laws.proofs.Lists.{elements_all}
@@ -8,7 +8,6 @@ use Rattle.laws.proofs.Tests.{and_first, and_second}
 use Rattle.numbers.specs.Numbers.{number_after, number_of}
 use Rattle.numbers.proofs.Counts.{digit_yes, digit_no, digit_value}
 use Rattle.time.specs.declared.Time.{Time}
-use Rattle.time.specs.declared.TimeRead.TheVariants.{Read, Refused}
 use Rattle.time.specs.Time.{is_time, time_of, time_in, read_time}
 use Rattle.time.specs.Private.{pair_of}
 use Rattle.time.proofs.Tests.{first_out, second_out, third_out}
@@ -88,7 +87,7 @@ module _ (a b c d e f g : ℕ) where
 
 -- ---- the answers
 
-pub time_length : (s : List ℕ) → (length s ≡ 7 → ⊥) → Refused ≡ read_time s
+pub time_length : (s : List ℕ) → (length s ≡ 7 → ⊥) → None ≡ read_time s
 unfolding read_time
 time_length s h = rw (ne_eqb (length s) 7 h)
 
@@ -105,10 +104,10 @@ module _ (s : List ℕ) (long : length s ≡ 7) (p q r : ℕ)
   as_bytes : u ≡ (every is_digit (take 6 s) && is_time (time_in s))
   as_bytes = told ∙ ap is_time by_pairs ∙ so.judged
 
-  pub time_read : u ≡ true → Read t ≡ read_time s
+  pub time_read : u ≡ true → Some t ≡ read_time s
   unfolding read_time
-  time_read e = rw (eq-eqb (length s) 7 long, ← as_bytes, e) (ap (λ (x : Time). Read x) (by_pairs ∙ so.said (sym (told ∙ ap is_time by_pairs) ∙ e)))
+  time_read e = rw (eq-eqb (length s) 7 long, ← as_bytes, e) (ap (λ (x : Time). Some x) (by_pairs ∙ so.said (sym (told ∙ ap is_time by_pairs) ∙ e)))
 
-  pub time_none : u ≡ false → Refused ≡ read_time s
+  pub time_none : u ≡ false → None ≡ read_time s
   unfolding read_time
   time_none e = rw (eq-eqb (length s) 7 long, ← as_bytes, e)

@@ -1,7 +1,7 @@
 -- What the definitions amount to: a time as written reads back, the seven bytes of a time that was read are those written of it, so
 -- zeros are kept, and what was read is in range.
 -- Assumes nothing.
-use Rattle.std.proofs.Common.{◌≡◌, ℕ, ◌<◌, Bool, true, false, ◌&&◌, eqb, List, [], ◌∷◌, length, get_or, take, sym, refl, ap, ◌∙◌, subst, ⊎_elim, arith, eq-eqb, eqb-true}
+use Rattle.std.proofs.Common.{◌≡◌, ℕ, ◌<◌, Bool, true, false, ◌&&◌, eqb, List, [], ◌∷◌, length, get_or, take, sym, refl, ap, ◌∙◌, subst, ⊎_elim, arith, eq-eqb, eqb-true, Some, None}
 use mathlib.Core.Bool.{or-true}
 use Rattle.laws.specs.Bytes.{is_digit}
 use Rattle.laws.specs.Lists.{every}
@@ -10,7 +10,6 @@ use Rattle.laws.proofs.Each.{every_at}
 use Rattle.laws.proofs.Tests.{and_first, and_second, passed, picked}
 use Rattle.numbers.specs.Numbers.{number_of}
 use Rattle.time.specs.declared.Time.{Time}
-use Rattle.time.specs.declared.TimeRead.TheVariants.{Read, Refused}
 use Rattle.time.specs.Time.{is_clock, no_time, is_no_time, is_time, is_present, time_bytes, time_of, time_in, read_time, seven_bytes, present_text, time_text, time_in_range}
 use Rattle.time.proofs.Tests.{Day, Clock, of_two_forms, no_letter, time_present, placed_on_day, placed_by_clock}
 use Rattle.time.proofs.Digits.{digits_back, seven_long, seven_digits, seven_say}
@@ -19,13 +18,13 @@ use Rattle.time.proofs.Digits.{digits_back, seven_long, seven_digits, seven_say}
 
 -- seven bytes that are written read as the time that their numbers make, where that is one
 seven_back : (first second third form : ℕ) → first < 100 → second < 100 → third < 100 → (t : Time) → time_of first second third form ≡ t → is_time t ≡ true
-    → read_time (seven_bytes first second third form) ≡ Read t
+    → read_time (seven_bytes first second third form) ≡ Some t
 unfolding read_time
 seven_back first second third form h k l t e p =
     rw (eq-eqb (length (seven_bytes first second third form)) time_bytes (seven_long first second third form), seven_digits first second third form, seven_say first second third form h k l, e, p)
 
 module _ (t : Time) (is : is_time t ≡ true) where
-  day_back : Day t → read_time (present_text t) ≡ Read t
+  day_back : Day t → read_time (present_text t) ≡ Some t
   unfolding present_text
   day_back d =
       rw d.no_clock
@@ -33,7 +32,7 @@ module _ (t : Time) (is : is_time t ≡ true) where
       (placed_on_day t.day t.hour t.minute t.form d.no_clock
       ∙ ap (λ (v : ℕ). record { day = t.day; hour = t.hour; minute = t.minute; second = v; form = t.form }) (sym d.no_second)) is)
 
-  clock_back : Clock t → read_time (present_text t) ≡ Read t
+  clock_back : Clock t → read_time (present_text t) ≡ Some t
   unfolding present_text
   clock_back c =
       rw c.letter
@@ -41,7 +40,7 @@ module _ (t : Time) (is : is_time t ≡ true) where
       (placed_by_clock t.hour t.minute t.second t.form c.letter
       ∙ ap (λ (v : ℕ). record { day = v; hour = t.hour; minute = t.minute; second = t.second; form = t.form }) (sym c.no_day)) is)
 
-  pub time_reads_back : read_time (time_text t) ≡ Read t
+  pub time_reads_back : read_time (time_text t) ≡ Some t
   unfolding time_text
   time_reads_back = rw (time_present t is) (⊎_elim day_back clock_back (of_two_forms t is))
 
@@ -78,10 +77,10 @@ record Said (s : List ℕ) (t : Time) : Type 0 where
   is : is_time (time_in s) ≡ true
   same : time_in s ≡ t
 
-said : (s : List ℕ) (t : Time) → read_time s ≡ Read t → Said s t
+said : (s : List ℕ) (t : Time) → read_time s ≡ Some t → Said s t
 unfolding read_time
 said s t e =
-    let g = passed (eqb (length s) time_bytes && (every is_digit (take 6 s) && is_time (time_in s))) (Read (time_in s)) Refused (Read t) none e in
+    let g = passed (eqb (length s) time_bytes && (every is_digit (take 6 s) && is_time (time_in s))) (Some (time_in s)) None (Some t) none e in
     let k = and_second (eqb (length s) time_bytes) _ g.0 in
     record {
       long = eqb-true (length s) time_bytes (and_first (eqb (length s) time_bytes) _ g.0);
@@ -90,13 +89,13 @@ said s t e =
       same = inside g.1;
     }
   where
-    none : Refused ≡ Read t → ⊥
+    none : None ≡ Some t → ⊥
     none q = let z : ◌≡◌ {A = ℕ} 0 1 = cc in omega arith
 
-    inside : Read (time_in s) ≡ Read t → time_in s ≡ t
+    inside : Some (time_in s) ≡ Some t → time_in s ≡ t
     inside q = cc
 
-module _ (s : List ℕ) (t : Time) (e : read_time s ≡ Read t) where
+module _ (s : List ℕ) (t : Time) (e : read_time s ≡ Some t) where
   -- what was read is a time, and so in range
   pub read_is_time : is_time t ≡ true
   read_is_time = sym (ap is_time (said s t e).same) ∙ (said s t e).is

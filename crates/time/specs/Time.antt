@@ -1,13 +1,11 @@
 -- A time in seven bytes (document 02, R-3; APRS 1.0.1, chapter 6): "day, hour, minute with `z` (UTC) or `/` (local), or hour, minute,
 -- second with `h` (UTC). Days 1 to 31, hours 0 to 23, minutes and seconds 0 to 59, two digits each, zeros kept."
 -- Assumes nothing.
-use Rattle.std.specs.Prelude.{ℕ, Bool, cond, not, ◌&&◌, ◌||◌, List, [], ◌∷◌, ◌++◌, length, take, drop, ◌==◌, nat_le, slice_index}
+use Rattle.std.specs.Prelude.{ℕ, Bool, cond, not, ◌&&◌, ◌||◌, List, [], ◌∷◌, ◌++◌, length, take, drop, Some, None, Option, ◌==◌, nat_le, slice_index}
 use Rattle.laws.specs.Bytes.{slash, small_h, small_z, within, is_digit}
 use Rattle.laws.specs.Lists.{every}
 use Rattle.numbers.specs.Numbers.{number_of, digits_of}
 use Rattle.time.specs.declared.Time.{Time}
-use Rattle.time.specs.declared.TimeRead.{TimeRead}
-use Rattle.time.specs.declared.TimeRead.TheVariants.{Read, Refused}
 
 -- ---- the letter
 
@@ -65,13 +63,13 @@ unfoldable pub time_in : List ℕ → Time
 time_in s = time_of (number_of (take 2 s)) (number_of (take 2 (drop 2 s))) (number_of (take 2 (drop 4 s))) (slice_index s 6)
 
 -- seven bytes, six digits first, that say a time
-unfoldable pub read_time : List ℕ → TimeRead
-read_time s = cond (length s == time_bytes && (every is_digit (take 6 s) && is_time (time_in s))) (Read (time_in s)) Refused
+unfoldable pub read_time : List ℕ → Option Time
+read_time s = cond (length s == time_bytes && (every is_digit (take 6 s) && is_time (time_in s))) (Some (time_in s)) None
 
 -- document 02's number: "17 for a bad time"
-unfoldable pub time_number : TimeRead → ℕ
-time_number (Read t) = 0
-time_number Refused = 17
+unfoldable pub time_number : Option Time → ℕ
+time_number (Some t) = 0
+time_number None = 17
 
 -- ---- written
 

@@ -20,13 +20,6 @@ pub struct Time {
     pub form: u8,
 }
 
-// What seven bytes read as.
-#[derive(Clone, Copy)]
-pub enum TimeRead {
-    Read(Time),
-    Refused,
-}
-
 // ---- nothing
 
 // No time.
@@ -163,17 +156,17 @@ pub fn time_of(first: u8, second: u8, third: u8, form: u8) -> Time
 }
 
 // Reads exactly seven bytes: six digits and `z`, `/` or `h`, each number in its range.
-pub fn read_time(s: &[u8]) -> TimeRead
+pub fn read_time(s: &[u8]) -> Option<Time>
     ensures { result ≡ read_time s.now }
 {
     if s.len() != 7 {
-        return TimeRead::Refused;
+        return None;
     }
     let t = time_of(pair(s[0], s[1]), pair(s[2], s[3]), pair(s[4], s[5]), s[6]);
     if is_time(t) {
-        return TimeRead::Read(t);
+        return Some(t);
     }
-    TimeRead::Refused
+    None
 }
 
 // ---- written

@@ -4,14 +4,14 @@ use Rattle.lonlat.proofs.Reading.{angle_none, angle_big, angle_of, angle_never}
 use Rattle.std.proofs.Common.{rules}
 use Rattle.lonlat.proofs.angle_in.Goals as goal
 
+pub returns-in_err-size : goal.returns-in_err-size
+returns-in_err-size c = search (rules, angle_none)
+
 pub returns-then-most-size : goal.returns-then-most-size
 returns-then-most-size c = search (rules, angle_big)
 
-pub returns-in-Is : goal.returns-in-Is
-returns-in-Is c = search (rules, back, angle_of)
+pub returns-in_err-angle : goal.returns-in_err-angle
+returns-in_err-angle c = search (rules, angle_never, c.in_ok-size.was)
 
-pub returns-in-Bad : goal.returns-in-Bad
-returns-in-Bad c = search (rules, angle_never)
-
-pub returns-in-NoDigit : goal.returns-in-NoDigit
-returns-in-NoDigit c = search (rules, angle_none)
+pub returns : goal.returns
+returns c = search (rules, back, angle_of, c.in_ok-size.was, c.in_ok-angle.was)

@@ -12,5 +12,5 @@ slice_bounds-blank-start c = search (rules, place_within)
 pub returns-then-blank : goal.returns-then-blank
 returns-then-blank c = search (rules, kept_yes)
 
-pub returns : goal.returns
-returns c = search (rules, kept_no)
+pub returns-else-blank : goal.returns-else-blank
+returns-else-blank c = search (rules, kept_no)

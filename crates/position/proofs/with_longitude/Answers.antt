@@ -1,5 +1,5 @@
 -- `with_longitude`: one answer for each of the longitude's, and for what a strict reader finds. Assumes nothing.
-use Rattle.position.proofs.Reading.{longitude_read, longitude_over, longitude_off_table, longitude_refused, longitude_out_lem}
+use Rattle.position.proofs.Reading.{longitude_found, longitude_over, longitude_off_table, longitude_refused, longitude_out_lem}
 use Rattle.std.proofs.Common.{rules}
 use Rattle.position.proofs.with_longitude.Goals as goal
 
@@ -10,10 +10,10 @@ pub returns-then-is_off_table : goal.returns-then-is_off_table
 returns-then-is_off_table c = search (rules, longitude_off_table)
 
 pub returns-else-is_off_table : goal.returns-else-is_off_table
-returns-else-is_off_table c = search (rules, longitude_read)
+returns-else-is_off_table c = search (rules, longitude_found)
 
-pub returns-in-Refused : goal.returns-in-Refused
-returns-in-Refused c = search (rules, longitude_refused)
+pub returns-in-Err-Malformed : goal.returns-in-Err-Malformed
+returns-in-Err-Malformed c = search (rules, longitude_refused)
 
-pub returns-in-OutOfRange : goal.returns-in-OutOfRange
-returns-in-OutOfRange c = search (rules, longitude_out_lem)
+pub returns-in-Err-OutOfRange : goal.returns-in-Err-OutOfRange
+returns-in-Err-OutOfRange c = search (rules, longitude_out_lem)
