@@ -1,7 +1,5 @@
 // A line of the table, `QUESTION => EXPECTED`. EXPECTED is the words of the answer that matter: they stand in it in that order, and
 // the first of them is its first. `refused`, as first word or as a value, stands for any refusal.
-use numbers::Count;
-
 // What is asked, and what the answer should be, which is nothing where there is no arrow.
 pub fn parts(s: &[u8]) -> (&[u8], &[u8]) {
     match s.windows(4).position(|part| part == b" => ".as_slice()) {
@@ -18,10 +16,7 @@ pub fn is_recorded(question: &[u8]) -> bool {
 // Whether a word starts with the number of a refusal, alone or before a colon.
 fn is_refusal(word: &[u8]) -> bool {
     let number = lines::cut(word, laws::find(word, b':'));
-    match numbers::read_count(number, u32::MAX) {
-        Count::Is(n) => n != 0,
-        Count::Over | Count::Bad => false,
-    }
+    numbers::read_count(number, u32::MAX).is_ok_and(|n| n != 0)
 }
 
 // Whether a word `name=value` of an answer is as it should be.

@@ -3,7 +3,7 @@ use crate::trim::split;
 use crate::{Setting, SettingError, Way};
 use lonlat::Longitude;
 use mic_e::{Course, Speed};
-use numbers::Count;
+use numbers::CountError;
 
 // Reads a setting, which has no spaces at either end.
 pub fn read(s: &[u8]) -> Result<Setting, SettingError> {
@@ -21,9 +21,9 @@ const MOST: u32 = 99999999;
 // Digits that stand for a number.
 fn number(s: &[u8]) -> Option<u32> {
     match numbers::read_count(s, MOST) {
-        Count::Is(n) => Some(n),
-        Count::Over => Some(MOST),
-        Count::Bad => None,
+        Ok(n) => Some(n),
+        Err(CountError::Over) => Some(MOST),
+        Err(CountError::Malformed) => None,
     }
 }
 
@@ -118,10 +118,7 @@ fn signed(text: &[u8], minus: bool) -> Option<Angle> {
 
 // The longitude of that size, west or east; in place of one past 180 degrees the first that is.
 fn longitude_of(size: u32, west: bool) -> Longitude {
-    match lonlat::longitude_of(size, west) {
-        lonlat::LongitudeMade::Made(longitude) => longitude,
-        lonlat::LongitudeMade::OutOfRange => Longitude(1080001),
-    }
+    lonlat::longitude_of(size, west).unwrap_or(Longitude(1080001))
 }
 
 // `dddmm.hh` in hundredths of a minute; minutes from 60 to 99 are more than a degree.

@@ -20,10 +20,8 @@ impl<'a> Iterator for Capture<'a> {
 
     fn next(&mut self) -> Option<&'a [u8]> {
         let rest = self.rest;
-        let lines::Line::At { start, end, next } = lines::line_at(rest, 0) else {
-            return None;
-        };
-        self.rest = &rest[next..];
-        Some(&rest[start..end])
+        let line = lines::line_at(rest, 0)?;
+        self.rest = &rest[line.next..];
+        Some(&rest[line.start..line.end])
     }
 }
