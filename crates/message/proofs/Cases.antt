@@ -10,7 +10,7 @@ use Rattle.laws.specs.Lists.{index_of, every, pad_to}
 use Rattle.numbers.specs.Numbers.{digit_of, digits_of, number_after, number_of}
 use Rattle.time.specs.declared.Time.{Time}
 use Rattle.time.specs.Time.{is_day, no_time, is_no_time, in_day, is_day_time, is_clock_time, is_time, time_of, time_in, read_time, seven_bytes, present_text, is_present, time_text}
-use Rattle.message.specs.declared.StatusRead.TheVariants.{Read, Refused}
+use Rattle.std.specs.Prelude.{Some, None}
 use Rattle.message.specs.Message.{is_text_byte, is_text, is_identifier, has_identifier, text_in, identifier_in, is_addressed, is_message, no_addressee, message_accepted, message_refused, read_message, addressee_text, identifier_text, message_text, identifier_refusal, message_refusal}
 use Rattle.message.specs.Status.{zulu_of, time_before, most_text, text_behind, status_of, read_status, status_text, is_status_time, is_status_text, status_text_refusal, status_refusal}
 
@@ -116,22 +116,22 @@ messages =
     }
 
 pub record StatusLines : Type 0 where
-  pub plain : read_status center ≡ Read no_time
+  pub plain : read_status center ≡ Some no_time
   pub plain_text : status_text no_time center ≡ center
-  pub timed : read_status (ninth small_z center) ≡ Read (ninth_at small_z)
+  pub timed : read_status (ninth small_z center) ≡ Some (ninth_at small_z)
   pub timed_text : status_text (ninth_at small_z) center ≡ ninth small_z center
   pub behind : text_behind (ninth_at small_z) (ninth small_z center) ≡ center
-  pub empty : read_status [] ≡ Read no_time
+  pub empty : read_status [] ≡ Some no_time
   -- what is no `z` time is text: local time, a clock's, day 0, a capital letter
-  pub local : read_status (ninth slash (xs 1)) ≡ Read no_time
-  pub clock : read_status evening ≡ Read no_time
-  pub no_day : read_status midnight ≡ Read no_time
-  pub no_capital : read_status (ninth capital_z (xs 1)) ≡ Read no_time
+  pub local : read_status (ninth slash (xs 1)) ≡ Some no_time
+  pub clock : read_status evening ≡ Some no_time
+  pub no_day : read_status midnight ≡ Some no_time
+  pub no_capital : read_status (ninth capital_z (xs 1)) ≡ Some no_time
   -- 62 bytes, or a time and 55
-  pub longest : read_status (xs 62) ≡ Read no_time
-  pub text_63 : read_status (xs 63) ≡ Refused
-  pub longest_timed : read_status (ninth small_z (xs 55)) ≡ Read (ninth_at small_z)
-  pub timed_56 : read_status (ninth small_z (xs 56)) ≡ Refused
+  pub longest : read_status (xs 62) ≡ Some no_time
+  pub text_63 : read_status (xs 63) ≡ None
+  pub longest_timed : read_status (ninth small_z (xs 55)) ≡ Some (ninth_at small_z)
+  pub timed_56 : read_status (ninth small_z (xs 56)) ≡ None
   -- 15 for another letter; 18 for a text that would read as a time; behind a time it may start with another
   pub local_time : status_refusal (ninth_at slash) center ≡ 15
   pub starts_timed : status_refusal no_time (ninth small_z (xs 1)) ≡ 18

@@ -8,7 +8,7 @@ use native.Mathlib.Omega.{arith}
 use lib.ListN.{length, take, drop, get_or, length-drop}
 use lib.Seq.{length-take-le}
 use borrow.Author.Rules.{part_to_end}
-use borrow.Author.Tests.{eq-eqb, ne_eqb, lt-ltb, le-ltb, not-true, not-false}
+use borrow.Author.Tests.{eq-eqb, ne_eqb, lt-ltb, le-ltb, not-true}
 use Rattle.laws.specs.Bytes.{colon, brace, within}
 use Rattle.laws.specs.Lists.{index_of}
 use Rattle.laws.proofs.Places.{index_le}
@@ -87,9 +87,9 @@ module _ (s : List ℕ) (r : MessageRead) where
         pub message_no_text : not u ≡ true → r ≡ message_refused → r ≡ read_message s
         message_no_text h e = refused (no_text (rest s) n first (sym told ∙ not-true u h)) e
 
-        module _ (fine : not u ≡ false) where
+        module _ (fine : u ≡ true) where
           text : is_text (take n (rest s)) ≡ true
-          text = sym told ∙ not-false u fine
+          text = sym told ∙ fine
 
           parts : (k : ℕ) → k ≡ length (rest s) - n - 1 → r ≡ message_accepted (take 9 s) n k
               → r ≡ message_accepted (take 9 s) (length (text_in (rest s))) (length (identifier_in (rest s)))

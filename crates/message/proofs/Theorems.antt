@@ -15,13 +15,11 @@ use Rattle.laws.specs.Bytes.{colon, brace, small_z}
 use Rattle.laws.specs.Lists.{index_of, every, pad_to}
 use Rattle.laws.proofs.Tests.{and_first, and_second, or_either, passed, picked}
 use Rattle.time.specs.declared.Time.{Time}
-use Rattle.time.specs.declared.TimeRead.TheVariants as time
 use Rattle.time.specs.Time.{no_time, is_no_time, is_time, is_present, time_bytes, read_time, time_text, time_in_range}
 use Rattle.time.proofs.Tests.{no_letter, time_present}
 use Rattle.time.proofs.Theorems.{time_reads_back, no_time_is, no_time_no_bytes, a_time_seven_bytes}
 use Rattle.message.specs.declared.MessageRead.{MessageRead}
-use Rattle.message.specs.declared.StatusRead.{StatusRead}
-use Rattle.message.specs.declared.StatusRead.TheVariants.{Read, Refused}
+use Rattle.std.specs.Prelude.{Option, Some, None}
 use Rattle.message.specs.Message.{addressee_bytes, is_text_byte, is_text, behind_colon, text_in, identifier_in, is_addressed, is_message, no_addressee, message_accepted, message_refused, read_message, addressee_text, identifier_text, message_text, identifier_refusal, message_refusal}
 use Rattle.message.specs.Status.{zulu_of, time_before, most_text, text_behind, status_of, read_status, status_number, status_text, is_status_time, is_status_text, status_text_refusal, status_refusal}
 use Rattle.message.proofs.Reading.{text_size}
@@ -287,27 +285,27 @@ module _ (t : Time) (text : List ℕ) where
     zulu_before p q = rw (take_at (time_text t) text time_bytes (a_time_seven_bytes t p), time_reads_back t p, q)
 
     -- its time is the one written
-    pub status_reads_back : read_status (status_text t text) ≡ Read t
+    pub status_reads_back : read_status (status_text t text) ≡ Some t
     status_reads_back = sym (status_read (status_text t text) t status_at_most_62 (sym (⊎_elim none_before (λ z. zulu_before z.0 z.1) (none_or_timed t timed))))
 
 -- ---- a status that was read is its parts
 
-module _ (s : List ℕ) (t : Time) (read : read_status s ≡ Read t) where
-  said : (leb (length (text_behind (time_before s) s)) (most_text (time_before s)) ≡ true) × (Read (time_before s) ≡ Read t)
+module _ (s : List ℕ) (t : Time) (read : read_status s ≡ Some t) where
+  said : (leb (length (text_behind (time_before s) s)) (most_text (time_before s)) ≡ true) × (Some (time_before s) ≡ Some t)
   unfolding read_status status_of
-  said = passed (leb (length (text_behind (time_before s) s)) (most_text (time_before s))) (Read (time_before s)) Refused (Read t) (λ q. let z : ◌≡◌ {A = ℕ} 0 1 = cc in omega arith) read
+  said = passed (leb (length (text_behind (time_before s) s)) (most_text (time_before s))) (Some (time_before s)) None (Some t) (λ q. cc) read
 
   time_is : time_before s ≡ t
   time_is = inside said.1
     where
-      inside : Read (time_before s) ≡ Read t → time_before s ≡ t
+      inside : Some (time_before s) ≡ Some t → time_before s ≡ t
       inside q = cc
 
   none_or_found : (t ≡ no_time) ⊎ Zulu s t
   none_or_found = subst (λ (u : Time). (u ≡ no_time) ⊎ Zulu s u) time_is (none_or_zulu s)
 
   -- a time that was read is that of the first seven bytes
-  pub read_status_time_of : (t ≡ no_time) ⊎ (read_time (take time_bytes s) ≡ time.Read t)
+  pub read_status_time_of : (t ≡ no_time) ⊎ (read_time (take time_bytes s) ≡ Some t)
   read_status_time_of = ⊎_elim (λ n. inl n) (λ z. inr (sym (ap read_time z.kept) ∙ time_reads_back t z.is)) none_or_found
 
   -- it has `z` and is in range, or is none
@@ -344,6 +342,6 @@ pub status_or_18 : (s : List ℕ) → (status_number (read_status s) ≡ 0) ⊎ 
 unfolding status_number
 status_or_18 s = go (read_status s)
   where
-    go : (r : StatusRead) → (status_number r ≡ 0) ⊎ (status_number r ≡ 18)
-    go (Read t) = inl refl
-    go Refused = inr refl
+    go : (r : Option Time) → (status_number r ≡ 0) ⊎ (status_number r ≡ 18)
+    go (Some t) = inl refl
+    go None = inr refl

@@ -3,6 +3,7 @@
 use mathlib.Core.Path.{◌≡◌}
 use mathlib.Core.Bool.{Bool}
 use mathlib.Core.List.{List}
+use Rattle.std.specs.Prelude.{Option}
 use Prim.Native.Nat.{ℕ}
 use Rattle.laws.specs.Lists.{zeros}
 use Rattle.laws.proofs.Unique.{one_value}
@@ -12,7 +13,6 @@ use Rattle.buffer.proofs.Wrote.{one_end}
 use Rattle.time.specs.declared.Time.{Time}
 use Rattle.time.specs.Time.{time_text}
 use Rattle.message.specs.declared.MessageRead.{MessageRead}
-use Rattle.message.specs.declared.StatusRead.{StatusRead}
 use Rattle.message.specs.Message.{is_text, read_message, addressee_text, identifier_text, message_text, identifier_refusal, message_refusal}
 use Rattle.message.specs.Status.{read_status, status_text, status_time_refusal, is_status_text, status_refusal}
 
@@ -28,7 +28,7 @@ unique_read_message s r r' = one_value r r' (read_message s)
 pub unique_front : (addressee r r' : List ℕ) → r ≡ addressee_text addressee → r' ≡ addressee_text addressee → r ≡ r'
 unique_front addressee r r' = one_value r r' (addressee_text addressee)
 
-pub unique_read_status : (s : List ℕ) (r r' : StatusRead) → r ≡ read_status s → r' ≡ read_status s → r ≡ r'
+pub unique_read_status : (s : List ℕ) (r r' : Option Time) → r ≡ read_status s → r' ≡ read_status s → r ≡ r'
 unique_read_status s r r' = one_value r r' (read_status s)
 
 pub unique_is_status_text : (t : Time) (text : List ℕ) (r r' : Bool) → r ≡ is_status_text t text → r' ≡ is_status_text t text → r ≡ r'

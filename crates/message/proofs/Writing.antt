@@ -1,15 +1,16 @@
 -- What each answer of the writers must show.
 -- Assumes nothing.
 use mathlib.Core.Path.{◌≡◌, refl, sym, ap, ◌∙◌}
-use mathlib.Core.Bool.{Bool, true, false, not, cond, ◌&&◌, ◌||◌, and-true, and-false, true≢false}
+use mathlib.Core.Bool.{Bool, true, false, not, cond, and-true, and-false, true≢false}
 use mathlib.Core.List.{List, [], ◌∷◌, ◌++◌}
 use Prim.Native.Nat.{ℕ, ◌<◌, ◌≤◌}
 use native.Mathlib.Omega.{arith}
 use lib.Dec.{eqb, leb}
 use lib.ListN.{length, take, replicate}
-use borrow.Author.Tests.{le-leb, lt-leb, not-true, not-false}
+use borrow.Author.Tests.{eq-eqb, ne_eqb, le-leb, lt-leb, not-true, not-false}
+use mathlib.Core.Logic.{◌⊎◌, ⊎_elim}
 use Rattle.laws.specs.Bytes.{brace, small_z}
-use Rattle.laws.proofs.Tests.{and_first, and_second, not_so, passed}
+use Rattle.laws.proofs.Tests.{not_so, passed}
 use Rattle.buffer.specs.declared.Answer.{Answer}
 use Rattle.buffer.specs.Wrote.{Wrote, ends, refused_by, done_by, over_by, wrote}
 use Rattle.buffer.proofs.Wrote.{refuses, writes, not_over}
@@ -102,31 +103,25 @@ module _ (addressee text identifier : List ℕ) (u : Bool) (told : u ≡ is_text
 -- ---- the time of a status
 
 module _ (t : Time) where
-  other_letter : (not (eqb t.form 0) && not (eqb t.form small_z)) ≡ true → is_status_time t ≡ false
+  other_letter : (t.form ≡ 0 → ⊥) → (t.form ≡ small_z → ⊥) → is_status_time t ≡ false
   unfolding is_status_time is_no_time
-  other_letter e =
-      rw (not-true (eqb t.form 0) (and_first (not (eqb t.form 0)) _ e), not-true (eqb t.form small_z) (and_second (not (eqb t.form 0)) _ e)) (and-false (is_time t))
+  other_letter n m = rw (ne_eqb t.form 0 n, ne_eqb t.form small_z m) (and-false (is_time t))
 
   -- without a letter there is no time
   no_letter_no_time : eqb t.form 0 ≡ true → is_time t ≡ false
   unfolding is_present
   no_letter_no_time e = not_so (is_time t) (λ p. true≢false (sym (time_present t p) ∙ rw e))
 
-  either_letter : (not (eqb t.form 0) && not (eqb t.form small_z)) ≡ false → is_status_time t ≡ time_in_range t
+  either_letter : (t.form ≡ 0) ⊎ (t.form ≡ small_z) → is_status_time t ≡ time_in_range t
   unfolding is_status_time time_in_range
-  either_letter e = go (eqb t.form 0) refl (eqb t.form small_z) refl e
-    where
-      go : (x : Bool) → eqb t.form 0 ≡ x → (y : Bool) → eqb t.form small_z ≡ y → (not x && not y) ≡ false → (is_no_time t || (is_time t && eqb t.form small_z)) ≡ (is_no_time t || is_time t)
-      go true p y q e = rw (no_letter_no_time p)
-      go false p true q e = rw (q, and-true (is_time t))
-      go false p false q e = absurd (true≢false e)
+  either_letter e = ⊎_elim (λ p. rw (no_letter_no_time (eq-eqb t.form 0 p))) (λ q. rw (eq-eqb t.form small_z q, and-true (is_time t))) e
 
 module _ (t : Time) (r : Answer) (out : List ℕ) where
-  pub letter_out : (not (eqb t.form 0) && not (eqb t.form small_z)) ≡ true → r ≡ refused_by 15 → ends r out ≡ wrote (status_time_refusal t) (time_text t) out
+  pub letter_out : (t.form ≡ 0 → ⊥) → (t.form ≡ small_z → ⊥) → r ≡ refused_by 15 → ends r out ≡ wrote (status_time_refusal t) (time_text t) out
   unfolding status_time_refusal
-  letter_out h e = rw e (refuses 15 _ (time_text t) out (rw (other_letter t h)) (λ q. omega arith))
+  letter_out n m e = rw e (refuses 15 _ (time_text t) out (rw (other_letter t n m)) (λ q. omega arith))
 
-  pub time_wrote : (not (eqb t.form 0) && not (eqb t.form small_z)) ≡ false → (out' : List ℕ) → ends r out' ≡ wrote (time_refusal t) (time_text t) out
+  pub time_wrote : (t.form ≡ 0) ⊎ (t.form ≡ small_z) → (out' : List ℕ) → ends r out' ≡ wrote (time_refusal t) (time_text t) out
       → ends r out' ≡ wrote (status_time_refusal t) (time_text t) out
   unfolding status_time_refusal time_refusal
   time_wrote h out' e = rw (either_letter t h) e

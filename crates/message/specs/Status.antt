@@ -1,21 +1,17 @@
 -- A status behind its type byte (document 02, R-5; APRS 1.0.1, chapter 16): "A status is up to 62 bytes, or a `z` time as in R-3 and up
 -- to 55. Seven bytes that form such a time are read as one; a timeless status whose text starts so is not written (18)."
 -- Assumes nothing.
-use Rattle.std.specs.Prelude.{ℕ, Bool, cond, not, ◌&&◌, ◌||◌, List, ◌++◌, length, take, drop, eqb, leb}
+use Rattle.std.specs.Prelude.{ℕ, Bool, cond, not, ◌&&◌, ◌||◌, List, ◌++◌, length, take, drop, eqb, leb, Option, Some, None}
 use Rattle.laws.specs.Bytes.{small_z}
 use Rattle.time.specs.declared.Time.{Time}
-use Rattle.time.specs.declared.TimeRead.{TimeRead}
-use Rattle.time.specs.declared.TimeRead.TheVariants as time
 use Rattle.time.specs.Time.{no_time, is_no_time, is_time, is_present, time_bytes, read_time, time_text}
-use Rattle.message.specs.declared.StatusRead.{StatusRead}
-use Rattle.message.specs.declared.StatusRead.TheVariants.{Read, Refused}
 
 -- ---- read
 
 -- "a `z` time": what was read, if it has that letter
-unfoldable pub zulu_of : TimeRead → Time
-zulu_of (time.Read t) = cond (eqb t.form small_z) t no_time
-zulu_of time.Refused = no_time
+unfoldable pub zulu_of : Option Time → Time
+zulu_of (Some t) = cond (eqb t.form small_z) t no_time
+zulu_of None = no_time
 
 -- the time that bytes start with, or none: "Seven bytes that form such a time are read as one"
 unfoldable pub time_before : List ℕ → Time
@@ -30,16 +26,16 @@ unfoldable pub text_behind : Time → List ℕ → List ℕ
 text_behind t s = drop (length (time_text t)) s
 
 -- the time and its text; a text that is too long is refused
-unfoldable pub status_of : Time → List ℕ → StatusRead
-status_of t text = cond (leb (length text) (most_text t)) (Read t) Refused
+unfoldable pub status_of : Time → List ℕ → Option Time
+status_of t text = cond (leb (length text) (most_text t)) (Some t) None
 
-unfoldable pub read_status : List ℕ → StatusRead
+unfoldable pub read_status : List ℕ → Option Time
 read_status s = status_of (time_before s) (text_behind (time_before s) s)
 
 -- document 02's number: "18 for a malformed message or status"
-unfoldable pub status_number : StatusRead → ℕ
-status_number (Read t) = 0
-status_number Refused = 18
+unfoldable pub status_number : Option Time → ℕ
+status_number (Some t) = 0
+status_number None = 18
 
 -- ---- written
 

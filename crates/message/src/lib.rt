@@ -3,13 +3,13 @@
 #![tactic(auto)]
 
 ghost use Rattle.std.specs.Prelude.{◌≡◌, ◌≤◌, length, take};
-ghost use Rattle.laws.specs.Lists.{zeros};
+ghost use Rattle.laws.specs.Lists.{every, zeros};
 ghost use Rattle.buffer.specs.Wrote.{ends, wrote};
 ghost use Rattle.time.specs.Time.{time_text};
 ghost use Rattle.message.specs.Message.{addressee_bytes, is_text_byte, is_text, message_accepted, message_refused, read_message, addressee_text, identifier_refusal, identifier_text, message_refusal, message_text};
 ghost use Rattle.message.specs.Status.{time_before, read_status, status_time_refusal, is_status_text, status_refusal, status_text};
 
-use time::{Time, TimeRead};
+use time::Time;
 
 // What the bytes of a message read as: how long its text is and how long its identifier, which is 0 where there is none, the
 // addressee's nine bytes, spaces and all, and the refusal's number or 0. The text starts at the place 10, the identifier one behind
@@ -23,56 +23,37 @@ pub struct MessageRead {
     pub refusal: u8,
 }
 
-// What the bytes of a status read as: its time, or none. The text is what follows the time.
-#[derive(Clone, Copy)]
-pub enum StatusRead {
-    Read(Time),
-    Refused,
-}
-
 // ---- what a message may hold
 
 // Whether there is no addressee, as in the other kinds. No test is left early, so that all bytes are tested at once.
 pub fn is_blank(addressee: [u8; 9]) -> bool
     ensures { result ≡ zeros addressee }
 {
-    let mut fine = true;
-    let mut i: usize = 0;
-    while i < 9 {
-        fine = fine & (addressee[i] == 0);
-        i += 1;
-    }
-    fine
+    addressee == [0; 9]
 }
 
 // Whether a byte may stand in a text.
+#[tactic(auto, unfolding(crate::specs::Message::is_text_byte))]
 fn is_text_byte(b: u8) -> bool
     ensures { result ≡ is_text_byte b }
 {
-    if b == b'|' {
-        return false;
-    }
-    if b == b'~' {
-        return false;
-    }
-    b != b'{'
+    !matches!(b, b'|' | b'~' | b'{')
+}
+
+// Whether each byte may stand in a text.
+#[tactic(auto, unfolding(laws::specs::Lists::every))]
+fn are_text_bytes(s: &[u8]) -> bool
+    ensures { result ≡ every is_text_byte s.now }
+{
+    s.iter().all(|b| is_text_byte(*b))
 }
 
 // Whether the bytes may be the text of a message.
+#[tactic(auto, unfolding(crate::specs::Message::is_text))]
 pub fn is_text(s: &[u8]) -> bool
     ensures { result ≡ is_text s.now }
 {
-    if 67 < s.len() {
-        return false;
-    }
-    let mut i: usize = 0;
-    while i < s.len() {
-        if !is_text_byte(s[i]) {
-            return false;
-        }
-        i += 1;
-    }
-    true
+    s.len() <= 67 && are_text_bytes(s)
 }
 
 // ---- a message read
@@ -82,10 +63,12 @@ fn message_in(s: &[u8], text: usize, identifier: usize) -> MessageRead
     requires { addressee_bytes ≤ length s.now }
     ensures { result ≡ message_accepted (take addressee_bytes s.now) text identifier }
 {
+    let mut addressee = [0; 9];
+    addressee.copy_from_slice(&s[..9]);
     MessageRead {
         text,
         identifier,
-        addressee: [s[0], s[1], s[2], s[3], s[4], s[5], s[6], s[7], s[8]],
+        addressee,
         refusal: 0,
     }
 }
@@ -106,10 +89,7 @@ fn malformed() -> MessageRead
 pub fn read_message(s: &[u8]) -> MessageRead
     ensures { result ≡ read_message s.now }
 {
-    if s.len() < 10 {
-        return malformed();
-    }
-    if s[9] != b':' {
+    if s.len() < 10 || s[9] != b':' {
         return malformed();
     }
     let rest = &s[10..];
@@ -117,17 +97,11 @@ pub fn read_message(s: &[u8]) -> MessageRead
     if !is_text(&rest[..n]) {
         return malformed();
     }
-    let behind = rest.len() - n;
-    if behind == 0 {
-        return message_in(s, n, 0);
+    match rest.len() - n {
+        0 => message_in(s, n, 0),
+        behind @ 2..=6 => message_in(s, n, behind - 1),
+        _ => malformed(),
     }
-    if behind == 1 {
-        return malformed();
-    }
-    if 6 < behind {
-        return malformed();
-    }
-    message_in(s, n, behind - 1)
 }
 
 // ---- a message written
@@ -136,31 +110,20 @@ pub fn read_message(s: &[u8]) -> MessageRead
 pub fn front(addressee: [u8; 9]) -> [u8; 10]
     ensures { result ≡ addressee_text addressee }
 {
-    [
-        addressee[0],
-        addressee[1],
-        addressee[2],
-        addressee[3],
-        addressee[4],
-        addressee[5],
-        addressee[6],
-        addressee[7],
-        addressee[8],
-        b':',
-    ]
+    let mut front = [b':'; 10];
+    front[..9].copy_from_slice(&addressee);
+    front
 }
 
 // Writes `{` and an identifier, or nothing where that is empty; one of more than five bytes is 18, a buffer without room 16.
 pub fn write_identifier(identifier: &[u8], out: &mut [u8]) -> buffer::Answer
     ensures { ends result out.new ≡ wrote (identifier_refusal identifier.now) (identifier_text identifier.now) out.old }
 {
-    if identifier.len() == 0 {
-        return buffer::done(0);
+    match identifier.len() {
+        0 => buffer::done(0),
+        1..=5 => buffer::write_two(6, b"{", identifier, out),
+        _ => buffer::refused(18),
     }
-    if 5 < identifier.len() {
-        return buffer::refused(18);
-    }
-    buffer::write_two(6, b"{", identifier, out)
 }
 
 // Writes a message, from the byte behind its type byte on. A text or an identifier that no message has is 18, a buffer without room 16.
@@ -190,30 +153,22 @@ pub fn write_message(
 fn time_before(s: &[u8]) -> Time
     ensures { result ≡ time_before s.now }
 {
-    if s.len() < 7 {
-        return time::blank();
-    }
-    let read = time::read_time(&s[..7]);
-    match read {
-        TimeRead::Refused => time::blank(),
-        TimeRead::Read(t) => {
-            if t.form == b'z' {
-                return t;
-            }
-            time::blank()
-        }
+    match time::read_time(&s[..s.len().min(7)]) {
+        Some(t) if t.form == b'z' => t,
+        _ => time::blank(),
     }
 }
 
 // Reads what stands behind the type byte of a status: a time, or none, and the text. Time and text have 62 bytes at most, as a text
-// without a time has.
-pub fn read_status(s: &[u8]) -> StatusRead
+// without a time has; else it is 18, none.
+pub fn read_status(s: &[u8]) -> Option<Time>
     ensures { result ≡ read_status s.now }
 {
     if 62 < s.len() {
-        return StatusRead::Refused;
+        None
+    } else {
+        Some(time_before(s))
     }
-    StatusRead::Read(time_before(s))
 }
 
 // ---- a status written
@@ -223,10 +178,10 @@ pub fn read_status(s: &[u8]) -> StatusRead
 pub fn write_status_time(t: Time, out: &mut [u8]) -> buffer::Answer
     ensures { ends result out.new ≡ wrote (status_time_refusal t) (time_text t) out.old }
 {
-    if (t.form != 0) & (t.form != b'z') {
-        return buffer::refused(15);
+    match t.form {
+        0 | b'z' => time::write_time(t, out),
+        _ => buffer::refused(15),
     }
-    time::write_time(t, out)
 }
 
 // Whether the bytes may be the text of a status with that time, or with none: where there is none, they may not start with one.
@@ -234,13 +189,10 @@ pub fn is_status_text(t: Time, text: &[u8]) -> bool
     ensures { result ≡ is_status_text t text.now }
 {
     if t.form != 0 {
-        return text.len() <= 55;
+        text.len() <= 55
+    } else {
+        text.len() <= 62 && time_before(text).form == 0
     }
-    if 62 < text.len() {
-        return false;
-    }
-    let before = time_before(text);
-    before.form == 0
 }
 
 // Writes a status, from the byte behind its type byte on. A time that no status has is 15, a text that it may not have 18, a buffer

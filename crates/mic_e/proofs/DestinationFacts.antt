@@ -1,6 +1,6 @@
 -- The destination as written reads as what it was written for.
 -- Assumes nothing.
-use Rattle.std.proofs.Common.{◌≡◌, ℕ, ◌%◌, ◌<◌, ◌≤◌, Bool, true, false, cond, ◌&&◌, eqb, ltb, List, [], ◌∷◌, length, get_or, ℤ, nat_abs, refl, ap, ◌∙◌, arith}
+use Rattle.std.proofs.Common.{◌≡◌, ℕ, ◌%◌, ◌<◌, ◌≤◌, Bool, true, false, cond, ◌&&◌, eqb, ltb, List, [], ◌∷◌, length, get_or, Some, ℤ, nat_abs, refl, ap, ◌∙◌, arith}
 use Rattle.laws.specs.Bytes.{capital_n, capital_s}
 use Rattle.laws.specs.Lists.{every}
 use Rattle.laws.proofs.Tests.{and_first, and_second, picked}
@@ -13,14 +13,14 @@ use Rattle.mic_e.specs.Character.{is_character, is_last, flag_bit}
 use Rattle.mic_e.specs.Longitude.{hundred_of}
 use Rattle.mic_e.specs.Message.{message_of, message_by, is_one, is_custom, is_standard, bits_of}
 use Rattle.mic_e.specs.Destination.{are_characters, text_in, destination_with, read_destination, characters_of, destination_bytes}
-use Rattle.mic_e.specs.declared.Bits.{Bits}
+use Rattle.mic_e.specs.declared.Bit.{Bit}
+use Rattle.mic_e.specs.declared.Bit.TheVariants.{Zero}
 use Rattle.mic_e.specs.declared.Message.{Message}
 use Rattle.mic_e.specs.declared.Message.TheVariants.{M0, M1, M2, M3, M4, M5, M6, C0, C1, C2, C3, C4, C5, C6, Emergency, Unknown}
-use Rattle.mic_e.specs.declared.DestinationRead.TheVariants.{Read}
 use Rattle.mic_e.proofs.CharacterFacts.{Carries, carries, bit_back, flag_last, flag_back, character_ascii, last_ascii}
 
 -- the bits of a message as written read as the message
-pub message_reads_back : (m : Message) → message_of (bits_of m).first (bits_of m).second (bits_of m).third ≡ m
+pub message_reads_back : (m : Message) → message_of (get_or (bits_of m) 0 Zero) (get_or (bits_of m) 1 Zero) (get_or (bits_of m) 2 Zero) ≡ m
 unfolding message_of message_by is_one is_custom is_standard bits_of
 message_reads_back M0 = refl
 message_reads_back M1 = refl
@@ -44,7 +44,7 @@ letter_back : (angle : ℤ) → cond (eqb (north_or_south angle) capital_n) capi
 unfolding north_or_south
 letter_back angle = picked (λ letter b. cond (eqb letter capital_n) capital_n capital_s ≡ letter) capital_s capital_n refl refl (is_minus angle)
 
-module _ (angle : ℤ) (blanks : ℕ) (few : blanks ≤ 5) (bits : Bits) (hundred west : Bool) where
+module _ (angle : ℤ) (blanks : ℕ) (few : blanks ≤ 5) (bits : List Bit) (hundred west : Bool) where
   t : List ℕ
   t = latitude_text angle blanks
 
@@ -62,14 +62,14 @@ module _ (angle : ℤ) (blanks : ℕ) (few : blanks ≤ 5) (bits : Bits) (hundre
   shown : (i : ℕ) → i < 6 → is_digit_or_blank (get_or (latitude_places t) i 0) ≡ true
   shown i h = ap (λ (p : List ℕ). is_digit_or_blank (get_or p i 0)) six ∙ blanked_at blanks (nat_abs angle) (omega arith) i h
 
-  c0 : Carries bits.first (get_or t 0 0)
-  c0 = carries bits.first (get_or t 0 0) (shown 0 (omega arith))
+  c0 : Carries (get_or bits 0 Zero) (get_or t 0 0)
+  c0 = carries (get_or bits 0 Zero) (get_or t 0 0) (shown 0 (omega arith))
 
-  c1 : Carries bits.second (get_or t 1 0)
-  c1 = carries bits.second (get_or t 1 0) (shown 1 (omega arith))
+  c1 : Carries (get_or bits 1 Zero) (get_or t 1 0)
+  c1 = carries (get_or bits 1 Zero) (get_or t 1 0) (shown 1 (omega arith))
 
-  c2 : Carries bits.third (get_or t 2 0)
-  c2 = carries bits.third (get_or t 2 0) (shown 2 (omega arith))
+  c2 : Carries (get_or bits 2 Zero) (get_or t 2 0)
+  c2 = carries (get_or bits 2 Zero) (get_or t 2 0) (shown 2 (omega arith))
 
   c3 : Carries (flag_bit (eqb (get_or t 7 0) capital_n)) (get_or t 3 0)
   c3 = carries (flag_bit (eqb (get_or t 7 0) capital_n)) (get_or t 3 0) (shown 3 (omega arith))
@@ -93,7 +93,7 @@ module _ (angle : ℤ) (blanks : ℕ) (few : blanks ≤ 5) (bits : Bits) (hundre
 
   reads : nat_abs angle ≤ most_latitude → nat_abs angle % width_of blanks ≡ 0
       → read_destination call
-      ≡ Read (record { latitude = record { 0 = angle }; message = message_of bits.first bits.second bits.third; blanks = blanks; south = is_minus angle; hundred = hundred; west = west; sixty = false })
+      ≡ Some (record { latitude = record { 0 = angle }; message = message_of (get_or bits 0 Zero) (get_or bits 1 Zero) (get_or bits 2 Zero); blanks = blanks; south = is_minus angle; hundred = hundred; west = west; sixty = false })
   unfolding read_destination destination_with call characters_of latitude_text
   reads near width =
       let e = latitude_of_text (blanked_places blanks (nat_abs angle)) (north_or_south angle) (blanked_six blanks (nat_abs angle) (omega arith)) in
@@ -103,7 +103,7 @@ module _ (angle : ℤ) (blanks : ℕ) (few : blanks ≤ 5) (bits : Bits) (hundre
 pub destination_reads_back : (latitude : ℤ) (blanks : ℕ) (m : Message) (longitude : ℤ)
     → nat_abs latitude ≤ most_latitude → blanks ≤ 5 → nat_abs latitude % width_of blanks ≡ 0
     → read_destination (destination_bytes latitude blanks m longitude)
-    ≡ Read (record { latitude = record { 0 = latitude }; message = m; blanks = blanks; south = is_minus latitude; hundred = hundred_of longitude; west = is_minus longitude; sixty = false })
+    ≡ Some (record { latitude = record { 0 = latitude }; message = m; blanks = blanks; south = is_minus latitude; hundred = hundred_of longitude; west = is_minus longitude; sixty = false })
 unfolding destination_bytes call t
 destination_reads_back latitude blanks m longitude near few width =
     reads latitude blanks few (bits_of m) (hundred_of longitude) (is_minus longitude) near width

@@ -1,5 +1,6 @@
 pub mod Turn
 pub mod Offset
+pub mod Classes
 pub mod Range
 pub mod Messages
 pub mod MotionFacts

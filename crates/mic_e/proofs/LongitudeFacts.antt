@@ -1,14 +1,13 @@
 -- What it takes for three bytes to read as a longitude, in plain arithmetic, both ways; and that the bytes as written,
 -- under the offset and side that go with them, do.
 -- Assumes nothing.
-use Rattle.std.proofs.Common.{◌≡◌, ℕ, ◌+◌, ◌-◌, ◌/◌, ◌%◌, ◌<◌, ◌≤◌, Bool, ltb, refl, ap, ◌∙◌, ⊎_elim, arith, ltb-false, ltb-true, le-ltb}
+use Rattle.std.proofs.Common.{◌≡◌, ℕ, ◌+◌, ◌-◌, ◌/◌, ◌%◌, ◌<◌, ◌≤◌, Bool, ltb, get_or, Some, None, refl, ap, ◌∙◌, ⊎_elim, arith, ltb-false, ltb-true, le-ltb}
 use Rattle.laws.proofs.Tests.{bool_cases, guard}
 use Rattle.lonlat.specs.Angle.{most_longitude}
 use Rattle.numbers.specs.Sign.{signed_of}
 use Rattle.lonlat.specs.declared.Longitude.{Longitude}
 use Rattle.mic_e.specs.Turn.{less_if}
 use Rattle.mic_e.specs.Longitude.{offset_of, wrapped, size_of, read_longitude, degrees_byte, hundred_for, minutes_byte, longitude_field}
-use Rattle.mic_e.specs.declared.LongitudeField.TheVariants.{Read, Refused}
 use Rattle.mic_e.proofs.Turn.{less_if_split, wrapped_plain, wrapped_mid, wrapped_high}
 use Rattle.mic_e.proofs.MotionFacts.{Bytes}
 
@@ -20,21 +19,21 @@ pub record Lies (size offset a b c : ℕ) : Type 0 where
   pub size_is : size_of offset a b c ≡ size
   pub size_to : size ≤ most_longitude
 
-apart : (l : Longitude) → Refused ≡ Read l → ⊥
-apart l e = let z : ◌≡◌ {A = ℕ} 0 1 = cc in omega arith
+apart : (l : Longitude) → None ≡ Some l → ⊥
+apart l e = cc
 
 module _ (hundred west : Bool) (a b c : ℕ) where
   -- what is read has the bytes' size, on that side
-  pub reads_lies : (l : Longitude) → read_longitude hundred west a b c ≡ Read l
+  pub reads_lies : (l : Longitude) → read_longitude hundred west a b c ≡ Some l
       → Lies (size_of (offset_of hundred) a b c) (offset_of hundred) a b c × (l.0 ≡ signed_of west (size_of (offset_of hundred) a b c))
   unfolding read_longitude
   reads_lies l e =
       let n = apart l in
-      let g₁ = guard (ltb a 28) Refused _ (Read l) n e in
-      let g₂ = guard (ltb b 28) Refused _ (Read l) n g₁.1 in
-      let g₃ = guard (ltb c 28) Refused _ (Read l) n g₂.1 in
-      let g₄ = guard (ltb 255 (a - 28 + offset_of hundred)) Refused _ (Read l) n g₃.1 in
-      let g₅ = guard (ltb most_longitude (size_of (offset_of hundred) a b c)) Refused _ (Read l) n g₄.1 in (
+      let g₁ = guard (ltb a 28) None _ (Some l) n e in
+      let g₂ = guard (ltb b 28) None _ (Some l) n g₁.1 in
+      let g₃ = guard (ltb c 28) None _ (Some l) n g₂.1 in
+      let g₄ = guard (ltb 255 (a - 28 + offset_of hundred)) None _ (Some l) n g₃.1 in
+      let g₅ = guard (ltb most_longitude (size_of (offset_of hundred) a b c)) None _ (Some l) n g₄.1 in (
         record {
           a_from = ltb-false _ _ g₁.0;
           b_from = ltb-false _ _ g₂.0;
@@ -46,10 +45,10 @@ module _ (hundred west : Bool) (a b c : ℕ) where
         same g₅.1,
       )
     where
-      same : Read (record { 0 = signed_of west (size_of (offset_of hundred) a b c) }) ≡ Read l → l.0 ≡ signed_of west (size_of (offset_of hundred) a b c)
+      same : Some (record { 0 = signed_of west (size_of (offset_of hundred) a b c) }) ≡ Some l → l.0 ≡ signed_of west (size_of (offset_of hundred) a b c)
       same q = let r : l ≡ record { 0 = signed_of west (size_of (offset_of hundred) a b c) } = cc in ap (λ (x : Longitude). x.0) r
 
-  pub lies_reads : (size : ℕ) → Lies size (offset_of hundred) a b c → read_longitude hundred west a b c ≡ Read (record { 0 = signed_of west size })
+  pub lies_reads : (size : ℕ) → Lies size (offset_of hundred) a b c → read_longitude hundred west a b c ≡ Some (record { 0 = signed_of west size })
   unfolding read_longitude
   lies_reads size h =
       rw (le-ltb a 28 h.a_from, le-ltb b 28 h.b_from, le-ltb c 28 h.c_from, le-ltb 255 (a - 28 + offset_of hundred) h.degrees_to, h.size_is, le-ltb most_longitude size h.size_to)
@@ -85,7 +84,7 @@ written_minutes m h =
     (bool_cases (ltb m 10))
 
 module _ (size : ℕ) (h : size < most_longitude) where
-  pub written_lies : Lies size (offset_of (hundred_for (size / 6000))) (longitude_field size).first (longitude_field size).second (longitude_field size).third
+  pub written_lies : Lies size (offset_of (hundred_for (size / 6000))) (get_or (longitude_field size) 0 0) (get_or (longitude_field size) 1 0) (get_or (longitude_field size) 2 0)
   unfolding longitude_field size_of
   written_lies =
       let d = written_degrees (size / 6000) (omega arith) in

@@ -4,7 +4,6 @@ use Rattle.std.proofs.Common.{◌≡◌, ℕ, zero, suc, ◌+◌, ◌-◌, ◌*�
 use mir.Val.{bool_byte}
 use Rattle.mic_e.specs.declared.Bit.{Bit}
 use Rattle.mic_e.specs.declared.Bit.TheVariants.{Zero, Custom, Standard}
-use Rattle.mic_e.specs.declared.Bits.{Bits}
 use Rattle.mic_e.specs.declared.Message.{Message}
 use Rattle.mic_e.specs.declared.Message.TheVariants.{M0, M1, M2, M3, M4, M5, M6, C0, C1, C2, C3, C4, C5, C6, Emergency, Unknown}
 use Rattle.mic_e.specs.Message.{is_custom, is_standard, is_one, message_by, message_of, bits, bits_of, message_number, messages, message_at}
@@ -157,7 +156,7 @@ written_by C6 = refl
 written_by Emergency = refl
 written_by Unknown = refl
 
-module _ (m : Message) (n : ℕ) (e : n ≡ message_number m) (r : Bits) where
+module _ (m : Message) (n : ℕ) (e : n ≡ message_number m) (r : List Bit) where
   written_is : cond (ltb n 7) (bits_in Standard (7 - n)) (cond (ltb n 15) (bits_in Custom (14 - n)) (bits Standard Custom Standard)) ≡ bits_of m
   written_is = rw e (written_by m)
 

@@ -1,14 +1,14 @@
 -- What it takes for three bytes to read as a speed and course, in plain arithmetic, both ways; and that the bytes as
 -- written do.
 -- Assumes nothing.
-use Rattle.std.proofs.Common.{◌≡◌, ℕ, ◌+◌, ◌-◌, ◌*◌, ◌/◌, ◌%◌, ◌<◌, ◌≤◌, ltb, ◌⊎◌, ap, inl, inr, ⊎_elim, arith, ltb-false, ltb-true, le-ltb}
+use Rattle.std.proofs.Common.{◌≡◌, ℕ, ◌+◌, ◌-◌, ◌*◌, ◌/◌, ◌%◌, ◌<◌, ◌≤◌, ltb, ◌⊎◌, List, get_or, Some, None, ap, inl, inr, ⊎_elim, arith, ltb-false, ltb-true, le-ltb}
 use Rattle.laws.proofs.Tests.{bool_cases, guard}
 use Rattle.mic_e.specs.Motion.{most_speed, most_course, knots, degrees, read_motion, tens_of, motion_field}
-use Rattle.mic_e.specs.declared.Field.{Field}
-use Rattle.mic_e.specs.declared.Speed.{Speed}
-use Rattle.mic_e.specs.declared.Course.{Course}
-use Rattle.mic_e.specs.declared.Motion.TheVariants.{Read, Refused}
+use Rattle.mic_e.specs.declared.Motion.{Motion}
 use Rattle.mic_e.proofs.Turn.{less_if_split}
+
+abbrev pub motion : ℕ → ℕ → Motion
+motion speed course = record { speed = record { 0 = speed }; course = record { 0 = course } }
 
 pub record Moves (speed course a b c : ℕ) : Type 0 where
   pub a_from : 28 ≤ a
@@ -19,20 +19,20 @@ pub record Moves (speed course a b c : ℕ) : Type 0 where
   pub course_is : degrees b c ≡ course
   pub course_to : course ≤ most_course
 
-apart : (v : Speed) (d : Course) → Refused ≡ Read v d → ⊥
-apart v d e = let z : ◌≡◌ {A = ℕ} 0 1 = cc in omega arith
+apart : (m : Motion) → None ≡ Some m → ⊥
+apart m e = cc
 
-pub reads_moves : (a b c : ℕ) (v : Speed) (d : Course) → read_motion a b c ≡ Read v d → Moves v.0 d.0 a b c
+pub reads_moves : (a b c : ℕ) (m : Motion) → read_motion a b c ≡ Some m → Moves m.speed.0 m.course.0 a b c
 unfolding read_motion
-reads_moves a b c v d e =
-    let n = apart v d in
-    let g₁ = guard (ltb a 28) Refused _ (Read v d) n e in
-    let g₂ = guard (ltb b 28) Refused _ (Read v d) n g₁.1 in
-    let g₃ = guard (ltb c 28) Refused _ (Read v d) n g₂.1 in
-    let g₄ = guard (ltb most_speed (knots a b)) Refused _ (Read v d) n g₃.1 in
-    let g₅ = guard (ltb most_course (degrees b c)) Refused _ (Read v d) n g₄.1 in
-    let s : knots a b ≡ v.0 = same_speed g₅.1 in
-    let t : degrees b c ≡ d.0 = same_course g₅.1 in
+reads_moves a b c m e =
+    let n = apart m in
+    let g₁ = guard (ltb a 28) None _ (Some m) n e in
+    let g₂ = guard (ltb b 28) None _ (Some m) n g₁.1 in
+    let g₃ = guard (ltb c 28) None _ (Some m) n g₂.1 in
+    let g₄ = guard (ltb most_speed (knots a b)) None _ (Some m) n g₃.1 in
+    let g₅ = guard (ltb most_course (degrees b c)) None _ (Some m) n g₄.1 in
+    let s : knots a b ≡ m.speed.0 = same_speed g₅.1 in
+    let t : degrees b c ≡ m.course.0 = same_course g₅.1 in
     let hs : knots a b ≤ most_speed = ltb-false _ _ g₄.0 in
     let ht : degrees b c ≤ most_course = ltb-false _ _ g₅.0 in
     record {
@@ -45,13 +45,16 @@ reads_moves a b c v d e =
       course_to = omega arith;
     }
   where
-    same_speed : Read (record { 0 = knots a b }) (record { 0 = degrees b c }) ≡ Read v d → knots a b ≡ v.0
-    same_speed q = let r : record { 0 = knots a b } ≡ v = cc in ap (λ (x : Speed). x.0) r
+    same : Some (motion (knots a b) (degrees b c)) ≡ Some m → motion (knots a b) (degrees b c) ≡ m
+    same q = cc
 
-    same_course : Read (record { 0 = knots a b }) (record { 0 = degrees b c }) ≡ Read v d → degrees b c ≡ d.0
-    same_course q = let r : record { 0 = degrees b c } ≡ d = cc in ap (λ (x : Course). x.0) r
+    same_speed : Some (motion (knots a b) (degrees b c)) ≡ Some m → knots a b ≡ m.speed.0
+    same_speed q = ap (λ (x : Motion). x.speed.0) (same q)
 
-pub moves_reads : (s t a b c : ℕ) → Moves s t a b c → read_motion a b c ≡ Read (record { 0 = s }) (record { 0 = t })
+    same_course : Some (motion (knots a b) (degrees b c)) ≡ Some m → degrees b c ≡ m.course.0
+    same_course q = ap (λ (x : Motion). x.course.0) (same q)
+
+pub moves_reads : (s t a b c : ℕ) → Moves s t a b c → read_motion a b c ≡ Some (motion s t)
 unfolding read_motion
 moves_reads s t a b c h =
     rw (le-ltb a 28 h.a_from, le-ltb b 28 h.b_from, le-ltb c 28 h.c_from, h.speed_is, h.course_is, le-ltb most_speed s h.speed_to, le-ltb most_course t h.course_to)
@@ -63,7 +66,7 @@ unfolding tens_of
 tens_cases s =
     ⊎_elim (λ e. inl (rw e, ltb-true _ _ e)) (λ e. inr (rw e, ltb-false _ _ e)) (bool_cases (ltb (s / 10) 20))
 
-pub written_moves : (s t : ℕ) → s ≤ most_speed → t ≤ most_course → Moves s t (motion_field s t).first (motion_field s t).second (motion_field s t).third
+pub written_moves : (s t : ℕ) → s ≤ most_speed → t ≤ most_course → Moves s t (get_or (motion_field s t) 0 0) (get_or (motion_field s t) 1 0) (get_or (motion_field s t) 2 0)
 unfolding motion_field knots degrees
 written_moves s t hs ht =
     let tens : ((tens_of s ≡ s / 10 + 80) × (s / 10 < 20)) ⊎ ((tens_of s ≡ s / 10) × (20 ≤ s / 10)) = tens_cases s in
@@ -83,10 +86,10 @@ written_moves s t hs ht =
     }
 
 -- the three are bytes
-pub record Bytes (f : Field) : Type 0 where
-  pub first_byte : f.first < 256
-  pub second_byte : f.second < 256
-  pub third_byte : f.third < 256
+pub record Bytes (f : List ℕ) : Type 0 where
+  pub first_byte : get_or f 0 0 < 256
+  pub second_byte : get_or f 1 0 < 256
+  pub third_byte : get_or f 2 0 < 256
 
 pub motion_bytes : (s t : ℕ) → s ≤ most_speed → t ≤ most_course → Bytes (motion_field s t)
 unfolding motion_field

@@ -1,22 +1,35 @@
--- The offset of 28: the bytes from 28 on are a class of 228, so of one of them 227 at most is left; a byte below 28 wraps.
+-- The offset of 28: what a byte stands for, and which bytes stand for nothing.
 -- Assumes nothing.
-use Rattle.std.proofs.Common.{◌≡◌, ℕ, ◌+◌, ◌-◌, ◌%◌, ◌^◌, ◌<◌, ◌≤◌, false, ltb, arith, le-ltb}
-use Rattle.laws.proofs.Tests.{within_low, within_below}
-use Rattle.laws.proofs.Classes.{in_class, not_in_class, class_place}
+use Rattle.std.proofs.Common.{◌≡◌, ℕ, ◌-◌, ◌<◌, ◌≤◌, Bool, true, false, cond, ltb, Some, None, refl, arith, ltb-false}
+use Rattle.mic_e.specs.Private.{reading}
 
--- d is the wrapped difference of a byte b
-module _ (b d : ℕ) (wraps : (d + 28) % 2 ^ 8 ≡ b) where
-  pub from_28 : d ≤ 227 → 28 ≤ b
-  from_28 h = within_low 28 255 b (in_class 28 255 228 b d wraps (omega arith) (omega arith) (omega arith))
+-- d is what b stands for
+module _ (b d : ℕ) (e : Some d ≡ reading b) where
+  read : (ltb b 28 ≡ false) × (d ≡ b - 28)
+  unfolding reading
+  read = go (ltb b 28) e
+    where
+      go : (t : Bool) → Some d ≡ cond t None (Some (b - 28)) → (t ≡ false) × (d ≡ b - 28)
+      go true q = cc
+      go false q = (refl, cc)
 
   -- the definition's test
-  pub taken : d ≤ 227 → ltb b 28 ≡ false
-  taken h = le-ltb b 28 (from_28 h)
+  pub taken : ltb b 28 ≡ false
+  taken = read.0
 
-  pub less_28 : d ≤ 227 → d ≡ b - 28
-  less_28 h = class_place 28 255 228 b d wraps (omega arith) (omega arith) (omega arith)
+  pub less_28 : d ≡ b - 28
+  less_28 = read.1
 
-  pub below_28 : 227 < d → d < 2 ^ 8 → b < 28
-  below_28 h byte = within_below 28 255 b (not_in_class 28 255 228 b d wraps (omega arith) (omega arith) (omega arith) byte) (omega arith)
+  pub from_28 : 28 ≤ b
+  from_28 = ltb-false b 28 taken
 
-pub ruleset offsets = (from_28, below_28)
+  pub most : b < 256 → d ≤ 227
+  most h = omega (arith, less_28)
+
+pub below_28 : (b : ℕ) → None ≡ reading b → ltb b 28 ≡ true
+unfolding reading
+below_28 b e = go (ltb b 28) e
+  where
+    go : (t : Bool) → None ≡ cond t None (Some (b - 28)) → t ≡ true
+    go true q = refl
+    go false q = cc

@@ -1,13 +1,11 @@
 -- The longitude of a Mic-E report (document 01, module 4): three bytes, the first of its information, under the offset
 -- and the side that its destination gives.
 -- Assumes nothing.
-use Rattle.std.specs.Prelude.{ℕ, ◌+◌, ◌-◌, ◌*◌, ◌/◌, ◌%◌, Bool, true, false, cond, ℤ, nat_le, nat_lt, unsigned_abs}
+use Rattle.std.specs.Prelude.{ℕ, ◌+◌, ◌-◌, ◌*◌, ◌/◌, ◌%◌, Bool, true, false, cond, List, [], ◌∷◌, ℤ, Option, Some, None, nat_le, nat_lt, unsigned_abs}
 use Rattle.lonlat.specs.Angle.{most_longitude}
+use Rattle.lonlat.specs.declared.Longitude.{Longitude}
 use Rattle.numbers.specs.Sign.{signed_of}
 use Rattle.mic_e.specs.Turn.{less_if}
-use Rattle.mic_e.specs.declared.Field.{Field}
-use Rattle.mic_e.specs.declared.LongitudeField.{LongitudeField}
-use Rattle.mic_e.specs.declared.LongitudeField.TheVariants.{Read, Refused}
 
 -- ---- read
 
@@ -24,19 +22,19 @@ unfoldable pub size_of : ℕ → ℕ → ℕ → ℕ → ℕ
 size_of offset a b c = 6000 * wrapped (a - 28 + offset) + 100 * less_if 60 (b - 28) + (c - 28)
 
 -- "Subtract 28 from each ..; below 28 is 12. Degrees plus offset over 255 is 12 .. The sum may not pass 1080000."
-unfoldable pub read_longitude : Bool → Bool → ℕ → ℕ → ℕ → LongitudeField
+unfoldable pub read_longitude : Bool → Bool → ℕ → ℕ → ℕ → Option Longitude
 read_longitude hundred west a b c =
-    cond (nat_lt a 28) Refused
-    (cond (nat_lt b 28) Refused
-    (cond (nat_lt c 28) Refused
-    (cond (nat_lt 255 (a - 28 + offset_of hundred)) Refused
-    (cond (nat_lt most_longitude (size_of (offset_of hundred) a b c)) Refused
-    (Read (record { 0 = signed_of west (size_of (offset_of hundred) a b c) }))))))
+    cond (nat_lt a 28) None
+    (cond (nat_lt b 28) None
+    (cond (nat_lt c 28) None
+    (cond (nat_lt 255 (a - 28 + offset_of hundred)) None
+    (cond (nat_lt most_longitude (size_of (offset_of hundred) a b c)) None
+    (Some (record { 0 = signed_of west (size_of (offset_of hundred) a b c) }))))))
 
 -- document 01's number
-unfoldable pub longitude_number : LongitudeField → ℕ
-longitude_number (Read longitude) = 0
-longitude_number Refused = 12
+unfoldable pub longitude_number : Option Longitude → ℕ
+longitude_number (Some longitude) = 0
+longitude_number None = 12
 
 -- ---- written
 
@@ -61,10 +59,6 @@ unfoldable pub minutes_byte : ℕ → ℕ
 minutes_byte m = cond (nat_lt m 10) (m + 60) m
 
 -- degrees, minutes and hundredths of a size, "add 28 to each"
-unfoldable pub longitude_field : ℕ → Field
+unfoldable pub longitude_field : ℕ → List ℕ
 longitude_field size =
-    record {
-      first = degrees_byte (size / 6000) + 28;
-      second = minutes_byte (size / 100 % 60) + 28;
-      third = size % 100 + 28;
-    }
+    (degrees_byte (size / 6000) + 28) ∷ (minutes_byte (size / 100 % 60) + 28) ∷ (size % 100 + 28) ∷ []

@@ -3,7 +3,6 @@
 use Rattle.std.specs.Prelude.{ℕ, Bool, true, false, cond, ◌&&◌, ◌||◌, List, [], ◌∷◌, slice_index_or}
 use Rattle.mic_e.specs.declared.Bit.{Bit}
 use Rattle.mic_e.specs.declared.Bit.TheVariants.{Zero, Custom, Standard}
-use Rattle.mic_e.specs.declared.Bits.{Bits}
 use Rattle.mic_e.specs.declared.Message.{Message}
 use Rattle.mic_e.specs.declared.Message.TheVariants.{M0, M1, M2, M3, M4, M5, M6, C0, C1, C2, C3, C4, C5, C6, Emergency, Unknown}
 
@@ -39,11 +38,11 @@ message_of x y z =
     (message_by (is_standard x || is_standard y || is_standard z) (is_one x) (is_one y) (is_one z))
 
 -- three bits by the characters that carry them
-abbrev pub bits : Bit → Bit → Bit → Bits
-bits x y z = record { first = x; second = y; third = z }
+abbrev pub bits : Bit → Bit → Bit → List Bit
+bits x y z = x ∷ y ∷ z ∷ []
 
 -- the three bits of a message as written; "Unknown is written standard, custom, standard"
-unfoldable pub bits_of : Message → Bits
+unfoldable pub bits_of : Message → List Bit
 bits_of M0 = bits Standard Standard Standard
 bits_of M1 = bits Standard Standard Zero
 bits_of M2 = bits Standard Zero Standard

@@ -1,10 +1,8 @@
 -- Speed and course of a Mic-E report (document 01, module 4): three bytes, the fourth to the sixth of its information.
 -- Assumes nothing.
-use Rattle.std.specs.Prelude.{ℕ, ◌+◌, ◌-◌, ◌*◌, ◌/◌, ◌%◌, Bool, cond, ◌||◌, nat_lt}
+use Rattle.std.specs.Prelude.{ℕ, ◌+◌, ◌-◌, ◌*◌, ◌/◌, ◌%◌, Bool, cond, ◌||◌, List, [], ◌∷◌, nat_lt, Option, Some, None}
 use Rattle.mic_e.specs.Turn.{less_if}
-use Rattle.mic_e.specs.declared.Field.{Field}
 use Rattle.mic_e.specs.declared.Motion.{Motion}
-use Rattle.mic_e.specs.declared.Motion.TheVariants.{Read, Refused}
 
 -- "at most 799"
 abbrev pub most_speed : ℕ
@@ -25,19 +23,19 @@ unfoldable pub degrees : ℕ → ℕ → ℕ
 degrees b c = less_if 400 (100 * ((b - 28) % 10) + (c - 28))
 
 -- "Subtract 28 from each ..; below 28 is 12"; then the speed's limit and the course's
-unfoldable pub read_motion : ℕ → ℕ → ℕ → Motion
+unfoldable pub read_motion : ℕ → ℕ → ℕ → Option Motion
 read_motion a b c =
-    cond (nat_lt a 28) Refused
-    (cond (nat_lt b 28) Refused
-    (cond (nat_lt c 28) Refused
-    (cond (nat_lt most_speed (knots a b)) Refused
-    (cond (nat_lt most_course (degrees b c)) Refused
-    (Read (record { 0 = knots a b }) (record { 0 = degrees b c }))))))
+    cond (nat_lt a 28) None
+    (cond (nat_lt b 28) None
+    (cond (nat_lt c 28) None
+    (cond (nat_lt most_speed (knots a b)) None
+    (cond (nat_lt most_course (degrees b c)) None
+    (Some (record { speed = record { 0 = knots a b }; course = record { 0 = degrees b c } }))))))
 
 -- document 01's number
-unfoldable pub motion_number : Motion → ℕ
-motion_number (Read speed course) = 0
-motion_number Refused = 12
+unfoldable pub motion_number : Option Motion → ℕ
+motion_number (Some motion) = 0
+motion_number None = 12
 
 -- ---- written
 
@@ -50,10 +48,6 @@ unfoldable pub tens_of : ℕ → ℕ
 tens_of speed = cond (nat_lt (speed / 10) 20) (speed / 10 + 80) (speed / 10)
 
 -- "fifth is 10 times units plus hundreds plus 4; add 28 to each"
-unfoldable pub motion_field : ℕ → ℕ → Field
+unfoldable pub motion_field : ℕ → ℕ → List ℕ
 motion_field speed course =
-    record {
-      first = tens_of speed + 28;
-      second = 10 * (speed % 10) + course / 100 + 4 + 28;
-      third = course % 100 + 28;
-    }
+    (tens_of speed + 28) ∷ (10 * (speed % 10) + course / 100 + 4 + 28) ∷ (course % 100 + 28) ∷ []

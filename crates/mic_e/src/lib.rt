@@ -2,7 +2,7 @@
 // information that carry longitude, speed, course and symbol. Angles are lonlat's, by its promise alone.
 #![tactic(auto)]
 
-ghost use Rattle.std.specs.Prelude.{◌≡◌, ◌+◌, ◌<◌, ◌≤◌, false, length, if◌then◌else◌, slice_index, unsigned_abs};
+ghost use Rattle.std.specs.Prelude.{◌≡◌, ◌<◌, ◌≤◌, false, map, length, if◌then◌else◌, slice_index, unsigned_abs};
 ghost use Rattle.laws.specs.Bytes.{capital_n, capital_s};
 ghost use Rattle.buffer.specs.Wrote.{ends, wrote};
 ghost use Rattle.lonlat.specs.Latitude.{read_latitude};
@@ -11,15 +11,14 @@ ghost use Rattle.numbers.specs.Sign.{sides_of};
 ghost use Rattle.mic_e.specs.Turn.{less_if};
 ghost use Rattle.mic_e.specs.Motion.{most_speed, most_course, read_motion, tens_of, motion_field};
 ghost use Rattle.mic_e.specs.Longitude.{offset_of, wrapped, read_longitude, longitude_field, degrees_byte, minutes_byte, hundred_for};
-ghost use Rattle.mic_e.specs.Message.{is_custom, is_standard, message_of, bits_of, message_number, message_at};
-ghost use Rattle.mic_e.specs.Private.{three_bits, bit_if_odd, bits_in};
+ghost use Rattle.mic_e.specs.Message.{message_of, bits_of, message_number, message_at};
+ghost use Rattle.mic_e.specs.Private.{reading, is_bit, three_bits, bit_if_odd, bits_in};
 ghost use Rattle.mic_e.specs.Character.{is_character, is_last, is_flagged, digit_of, bit_of, character_of, flag_bit};
 ghost use Rattle.mic_e.specs.Destination.{are_characters, text_in, destination_with, read_destination, characters_of, write_destination};
 ghost use Rattle.mic_e.specs.Information.{read_information, information_out, information_refusal, information_bytes};
 
-use lonlat::{Latitude, LatitudeRead, Longitude, LongitudeMade};
+use lonlat::{Latitude, LatitudeRead, Longitude};
 use numbers::Sides;
-use std::num::wrapping_sub_u8;
 
 // A speed in knots, at most 799.
 #[repr(C)]
@@ -31,26 +30,11 @@ pub struct Speed(pub u32);
 #[derive(Clone, Copy)]
 pub struct Course(pub u32);
 
-// Three bytes of information: a longitude or a motion.
-#[derive(Drop)]
-pub struct Field {
-    pub first: u8,
-    pub second: u8,
-    pub third: u8,
-}
-
-// What three bytes of motion read as; a refusal is 12.
-#[derive(Drop)]
-pub enum Motion {
-    Read(Speed, Course),
-    Refused,
-}
-
-// What three bytes of longitude read as; a refusal is 12.
-#[derive(Drop)]
-pub enum LongitudeField {
-    Read(Longitude),
-    Refused,
+// What three bytes of motion say.
+#[derive(Clone, Copy)]
+pub struct Motion {
+    pub speed: Speed,
+    pub course: Course,
 }
 
 // What the eight bytes say: the symbol's code byte stands before its table byte.
@@ -62,13 +46,6 @@ pub struct Information {
     pub course: Course,
     pub code: u8,
     pub table: u8,
-}
-
-// What a report's information reads as; a refusal is 12.
-#[derive(Drop)]
-pub enum InformationRead {
-    Read(Information),
-    Refused,
 }
 
 // The standard messages, the custom ones, and two more.
@@ -92,6 +69,26 @@ pub enum Message {
     Unknown,
 }
 
+// The messages in the order of their numbers.
+const MESSAGES: [Message; 16] = [
+    Message::M0,
+    Message::M1,
+    Message::M2,
+    Message::M3,
+    Message::M4,
+    Message::M5,
+    Message::M6,
+    Message::C0,
+    Message::C1,
+    Message::C2,
+    Message::C3,
+    Message::C4,
+    Message::C5,
+    Message::C6,
+    Message::Emergency,
+    Message::Unknown,
+];
+
 // What a destination says. `south` is the side as it was read, also of a latitude of 0; `sixty`, that the minutes are 60 or
 // more.
 #[derive(Drop)]
@@ -105,13 +102,6 @@ pub struct Destination {
     pub sixty: bool,
 }
 
-// What a destination reads as; a refusal is 11.
-#[derive(Drop)]
-pub enum DestinationRead {
-    Read(Destination),
-    Refused,
-}
-
 // The six characters, or zeros with the refusal 15.
 #[repr(C)]
 #[derive(Drop)]
@@ -121,56 +111,60 @@ pub struct DestinationWritten {
 }
 
 // The bit of a destination's character: 0, a custom 1 or a standard 1.
-#[derive(Clone, Copy)]
+#[derive(Clone, Copy, PartialEq)]
 enum Bit {
     Zero,
     Custom,
     Standard,
 }
 
-// The bits of the first three characters.
-#[derive(Drop)]
-struct Bits {
-    first: Bit,
-    second: Bit,
-    third: Bit,
+// ---- speed and course, read
+
+// What a byte stands for: 28 less. A byte below 28 stands for nothing: less 28, it wraps to more than 227.
+#[tactic(auto, unfolding(crate::specs::Private::reading))]
+fn reading(b: u8) -> Option<u32>
+    ensures { result ≡ reading b }
+{
+    let reading = b.wrapping_sub(28);
+    if reading <= 227 {
+        Some(reading as u32)
+    } else {
+        None
+    }
 }
 
 // v, with k off if it is k or more.
+#[tactic(auto, unfolding(crate::specs::Turn::less_if))]
 fn less_if(k: u32, v: u32) -> u32
     ensures { result ≡ less_if k v }
 {
     if k <= v { v - k } else { v }
 }
 
-// The speed and course of three bytes, the fourth to the sixth of the information. A byte below 28, less 28, wraps to more
-// than 227.
-pub fn read_motion(a: u8, b: u8, c: u8) -> Motion
+// The speed and course of three bytes, the fourth to the sixth of the information; none is a refusal, 12.
+pub fn read_motion(a: u8, b: u8, c: u8) -> Option<Motion>
     ensures { result ≡ read_motion a b c }
 {
-    let fourth = wrapping_sub_u8(a, 28) as u32;
-    if 227 < fourth {
-        return Motion::Refused;
-    }
-    let fifth = wrapping_sub_u8(b, 28) as u32;
-    if 227 < fifth {
-        return Motion::Refused;
-    }
-    let sixth = wrapping_sub_u8(c, 28) as u32;
-    if 227 < sixth {
-        return Motion::Refused;
-    }
+    let fourth = reading(a)?;
+    let fifth = reading(b)?;
+    let sixth = reading(c)?;
     let speed = less_if(800, 10 * fourth + fifth / 10);
     if 799 < speed {
-        return Motion::Refused;
+        return None;
     }
     let course = less_if(400, 100 * (fifth % 10) + sixth);
     if 360 < course {
-        return Motion::Refused;
+        return None;
     }
-    Motion::Read(Speed(speed), Course(course))
+    Some(Motion {
+        speed: Speed(speed),
+        course: Course(course),
+    })
 }
 
+// ---- longitude, read
+
+#[tactic(auto, unfolding(crate::specs::Longitude::offset_of))]
 fn offset_of(hundred: bool) -> u32
     ensures { result ≡ offset_of hundred }
 {
@@ -178,374 +172,241 @@ fn offset_of(hundred: bool) -> u32
 }
 
 // v, with 80 off if it is 180 to 189, and 190 off if it is 190 to 199.
+#[tactic(auto, unfolding(crate::specs::Longitude::wrapped))]
 fn wrap(v: u32) -> u32
     ensures { result ≡ wrapped v }
 {
-    if v < 180 {
-        return v;
+    match v {
+        180..=189 => v - 80,
+        190..=199 => v - 190,
+        _ => v,
     }
-    if v < 190 {
-        return v - 80;
-    }
-    if v < 200 {
-        return v - 190;
-    }
-    v
 }
 
-// The longitude of three bytes, under the offset and the side that the destination gave.
-pub fn read_longitude(hundred: bool, west: bool, a: u8, b: u8, c: u8) -> LongitudeField
+// The longitude of three bytes, under the offset and the side that the destination gave; none is a refusal, 12.
+pub fn read_longitude(hundred: bool, west: bool, a: u8, b: u8, c: u8) -> Option<Longitude>
     ensures { result ≡ read_longitude hundred west a b c }
 {
-    let degrees = wrapping_sub_u8(a, 28) as u32;
-    if 227 < degrees {
-        return LongitudeField::Refused;
-    }
-    let minutes = wrapping_sub_u8(b, 28) as u32;
-    if 227 < minutes {
-        return LongitudeField::Refused;
-    }
-    let hundredths = wrapping_sub_u8(c, 28) as u32;
-    if 227 < hundredths {
-        return LongitudeField::Refused;
-    }
+    let degrees = reading(a)?;
+    let minutes = reading(b)?;
+    let hundredths = reading(c)?;
     let with_offset = degrees + offset_of(hundred);
     if 255 < with_offset {
-        return LongitudeField::Refused;
+        return None;
     }
     let size = 6000 * wrap(with_offset) + 100 * less_if(60, minutes) + hundredths;
-    let made = lonlat::longitude_of(size, west);
-    match made {
-        LongitudeMade::Made(longitude) => LongitudeField::Read(longitude),
-        LongitudeMade::OutOfRange => LongitudeField::Refused,
-    }
+    lonlat::longitude_of(size, west)
 }
 
+// ---- both, written
+
 // The tens of knots as written, before 28 is added.
+#[tactic(auto, unfolding(crate::specs::Motion::tens_of))]
 fn tens_of(speed: u32) -> u32
     ensures { result ≡ tens_of speed }
 {
-    if speed / 10 < 20 {
-        return speed / 10 + 80;
-    }
-    speed / 10
+    let tens = speed / 10;
+    if tens < 20 { tens + 80 } else { tens }
 }
 
 // The three bytes of a speed and course.
-fn motion_field(speed: u32, course: u32) -> Field
+fn motion_field(speed: u32, course: u32) -> [u8; 3]
     requires { (speed ≤ most_speed) × (course ≤ most_course) }
     ensures { result ≡ motion_field speed course }
 {
     let tens = tens_of(speed);
     let second = (10 * (speed % 10) + course / 100 + 4 + 28) as u8;
-    Field {
-        first: (tens + 28) as u8,
-        second,
-        third: (course % 100 + 28) as u8,
-    }
+    [(tens + 28) as u8, second, (course % 100 + 28) as u8]
 }
 
 // The degrees as written, before 28 is added.
+#[tactic(auto, unfolding(crate::specs::Longitude::degrees_byte))]
 fn degrees_byte(d: u32) -> u32
     ensures { result ≡ degrees_byte d }
 {
-    if d < 10 {
-        return d + 90;
+    match d {
+        0..=9 => d + 90,
+        10..=99 => d,
+        100..=109 => d - 20,
+        _ => d - 100,
     }
-    if d < 100 {
-        return d;
-    }
-    if d < 110 {
-        return d - 20;
-    }
-    d - 100
 }
 
 // The minutes as written, before 28 is added.
+#[tactic(auto, unfolding(crate::specs::Longitude::minutes_byte))]
 fn minutes_byte(m: u32) -> u32
     ensures { result ≡ minutes_byte m }
 {
-    if m < 10 {
-        return m + 60;
-    }
-    m
+    if m < 10 { m + 60 } else { m }
 }
 
 // The three bytes of a longitude's size, which the offset `takes_hundred` of its degrees goes with.
-fn longitude_field(size: u32) -> Field
+fn longitude_field(size: u32) -> [u8; 3]
     requires { size < most_longitude }
     ensures { result ≡ longitude_field size }
 {
     let degrees = degrees_byte(size / 6000);
     let minutes = minutes_byte(size / 100 % 60);
-    Field {
-        first: (degrees + 28) as u8,
-        second: (minutes + 28) as u8,
-        third: (size % 100 + 28) as u8,
-    }
+    [
+        (degrees + 28) as u8,
+        (minutes + 28) as u8,
+        (size % 100 + 28) as u8,
+    ]
 }
 
 // Whether degrees are written under the offset 100.
+#[tactic(auto, unfolding(crate::specs::Longitude::hundred_for))]
 fn takes_hundred(d: u32) -> bool
     ensures { result ≡ hundred_for d }
 {
-    if d < 10 {
-        return true;
-    }
-    if d < 100 {
-        return false;
-    }
-    true
+    !matches!(d, 10..=99)
 }
 
-// Whether a character shows a digit or a blank: `0-9`, `A-L`, `P-Z`. A class is tested by the difference from its first byte: wrapped,
-// it is below the class's width for the bytes of the class alone.
+// ---- the characters of a destination. A class is tested by the difference from its first byte: wrapped, it is below the class's
+// width for the bytes of the class alone.
+
+// Whether a character shows a digit or a blank: `0-9`, `A-L`, `P-Z`.
+#[tactic(auto, unfolding(crate::specs::Character::is_character))]
 fn is_character(c: u8) -> bool
     ensures { result ≡ is_character c }
 {
-    if wrapping_sub_u8(c, b'0') < 10 {
-        return true;
-    }
-    if wrapping_sub_u8(c, b'A') < 12 {
-        return true;
-    }
-    wrapping_sub_u8(c, b'P') < 11
+    c.wrapping_sub(b'0') < 10 || c.wrapping_sub(b'A') < 12 || c.wrapping_sub(b'P') < 11
 }
 
 // Whether it may stand among the last three: `A-K` may not.
+#[tactic(auto, unfolding(crate::specs::Character::is_last))]
 fn is_last(c: u8) -> bool
     ensures { result ≡ is_last c }
 {
-    if wrapping_sub_u8(c, b'A') < 11 {
-        return false;
-    }
-    is_character(c)
+    is_character(c) && !(c.wrapping_sub(b'A') < 11)
 }
 
 // The digit or blank that a character shows: `0-9`, `A-J` and `P-Y` are digits.
+#[tactic(auto, unfolding(crate::specs::Character::digit_of))]
 fn digit_of(c: u8) -> u8
     ensures { result ≡ digit_of c }
 {
-    if wrapping_sub_u8(c, b'0') < 10 {
-        return c;
+    if c.wrapping_sub(b'0') < 10 {
+        c
+    } else if c.wrapping_sub(b'A') < 10 {
+        c - b'A' + b'0'
+    } else if c.wrapping_sub(b'P') < 10 {
+        c - b'P' + b'0'
+    } else {
+        b' '
     }
-    if wrapping_sub_u8(c, b'A') < 10 {
-        return c - b'A' + b'0';
-    }
-    if wrapping_sub_u8(c, b'P') < 10 {
-        return c - b'P' + b'0';
-    }
-    b' '
 }
 
 // The bit of a character: `A-K` is custom, `P-Z` standard.
+#[tactic(auto, unfolding(crate::specs::Character::bit_of))]
 fn bit_of(c: u8) -> Bit
     ensures { result ≡ bit_of c }
 {
-    if wrapping_sub_u8(c, b'A') < 11 {
-        return Bit::Custom;
+    if c.wrapping_sub(b'A') < 11 {
+        Bit::Custom
+    } else if c.wrapping_sub(b'P') < 11 {
+        Bit::Standard
+    } else {
+        Bit::Zero
     }
-    if wrapping_sub_u8(c, b'P') < 11 {
-        return Bit::Standard;
-    }
-    Bit::Zero
 }
 
 // The character of a bit and a digit; of any other byte than a digit, the bit's blank.
+#[tactic(auto, unfolding(crate::specs::Character::character_of))]
 fn character_of(bit: Bit, d: u8) -> u8
     ensures { result ≡ character_of bit d }
 {
-    if wrapping_sub_u8(d, b'0') < 10 {
-        return match bit {
-            Bit::Zero => d,
-            Bit::Custom => d - b'0' + b'A',
-            Bit::Standard => d - b'0' + b'P',
-        };
-    }
-    match bit {
-        Bit::Zero => b'L',
-        Bit::Custom => b'K',
-        Bit::Standard => b'Z',
-    }
+    let (zero, blank) = match bit {
+        Bit::Zero => (b'0', b'L'),
+        Bit::Custom => (b'A', b'K'),
+        Bit::Standard => (b'P', b'Z'),
+    };
+    let digit = d.wrapping_sub(b'0');
+    if digit < 10 { zero + digit } else { blank }
 }
+
+// ---- messages
 
 // The number of a message.
 pub fn message_number(m: Message) -> u8
     ensures { result ≡ message_number m }
 {
-    match m {
-        Message::M0 => 0,
-        Message::M1 => 1,
-        Message::M2 => 2,
-        Message::M3 => 3,
-        Message::M4 => 4,
-        Message::M5 => 5,
-        Message::M6 => 6,
-        Message::C0 => 7,
-        Message::C1 => 8,
-        Message::C2 => 9,
-        Message::C3 => 10,
-        Message::C4 => 11,
-        Message::C5 => 12,
-        Message::C6 => 13,
-        Message::Emergency => 14,
-        Message::Unknown => 15,
-    }
+    m as u8
 }
 
 // The message of a number; above 15, Unknown.
 pub fn message_at(n: u8) -> Message
     ensures { result ≡ message_at n }
 {
-    if 15 < n {
-        return Message::Unknown;
-    }
-    let messages = [
-        Message::M0,
-        Message::M1,
-        Message::M2,
-        Message::M3,
-        Message::M4,
-        Message::M5,
-        Message::M6,
-        Message::C0,
-        Message::C1,
-        Message::C2,
-        Message::C3,
-        Message::C4,
-        Message::C5,
-        Message::C6,
-        Message::Emergency,
-        Message::Unknown,
-    ];
-    let i = n as usize;
-    messages[i]
+    let found = MESSAGES.get(n as usize);
+    found.copied().unwrap_or(Message::Unknown)
 }
 
-fn is_custom(b: Bit) -> bool
-    ensures { result ≡ is_custom b }
+// Which of three bits are that one, as a number.
+fn number_of(bit: Bit, x: Bit, y: Bit, z: Bit) -> u8
+    ensures { result ≡ three_bits (is_bit bit x) (is_bit bit y) (is_bit bit z) }
 {
-    match b {
-        Bit::Zero => false,
-        Bit::Custom => true,
-        Bit::Standard => false,
-    }
-}
-
-fn is_standard(b: Bit) -> bool
-    ensures { result ≡ is_standard b }
-{
-    match b {
-        Bit::Zero => false,
-        Bit::Custom => false,
-        Bit::Standard => true,
-    }
-}
-
-// Three bits as a number.
-fn number_of(x: bool, y: bool, z: bool) -> u8
-    ensures { result ≡ three_bits x y z }
-{
-    4 * (x as u8) + 2 * (y as u8) + (z as u8)
-}
-
-fn standard_bits(x: Bit, y: Bit, z: Bit) -> u8
-    ensures { result ≡ three_bits (is_standard x) (is_standard y) (is_standard z) }
-{
-    number_of(is_standard(x), is_standard(y), is_standard(z))
-}
-
-fn custom_bits(x: Bit, y: Bit, z: Bit) -> u8
-    ensures { result ≡ three_bits (is_custom x) (is_custom y) (is_custom z) }
-{
-    number_of(is_custom(x), is_custom(y), is_custom(z))
+    4 * ((x == bit) as u8) + 2 * ((y == bit) as u8) + ((z == bit) as u8)
 }
 
 // The message of the first three characters' bits: 111 down to 001 are M0 to M6, if standard, and C0 to C6.
 fn message_of(x: Bit, y: Bit, z: Bit) -> Message
     ensures { result ≡ message_of x y z }
 {
-    let standard = standard_bits(x, y, z);
-    let custom = custom_bits(x, y, z);
+    let standard = number_of(Bit::Standard, x, y, z);
+    let custom = number_of(Bit::Custom, x, y, z);
     if standard == 0 {
-        return message_at(14 - custom);
+        message_at(14 - custom)
+    } else if custom == 0 {
+        message_at(7 - standard)
+    } else {
+        Message::Unknown
     }
-    if custom == 0 {
-        return message_at(7 - standard);
-    }
-    Message::Unknown
 }
 
 // The bit where the number is odd, else 0.
+#[tactic(auto, unfolding(crate::specs::Private::bit_if_odd))]
 fn bit_if_odd(bit: Bit, n: u8) -> Bit
     ensures { result ≡ bit_if_odd bit n }
 {
-    if n % 2 == 1 {
-        return bit;
-    }
-    Bit::Zero
+    if n % 2 == 1 { bit } else { Bit::Zero }
 }
 
 // The three bits of a number, each 1 of them that bit.
-fn bits_in(bit: Bit, n: u8) -> Bits
+#[tactic(auto, unfolding(crate::specs::Private::bits_in))]
+fn bits_in(bit: Bit, n: u8) -> [Bit; 3]
     ensures { result ≡ bits_in bit n }
 {
-    let first = bit_if_odd(bit, n / 4);
-    let second = bit_if_odd(bit, n / 2);
-    let third = bit_if_odd(bit, n);
-    Bits {
-        first,
-        second,
-        third,
-    }
+    [n / 4, n / 2, n].map(|n| bit_if_odd(bit, n))
 }
 
 // The bits of a message as written.
-fn bits_of(m: Message) -> Bits
+fn bits_of(m: Message) -> [Bit; 3]
     ensures { result ≡ bits_of m }
 {
-    let n = message_number(m);
-    if n < 7 {
-        return bits_in(Bit::Standard, 7 - n);
-    }
-    if n < 15 {
-        return bits_in(Bit::Custom, 14 - n);
-    }
-    Bits {
-        first: Bit::Standard,
-        second: Bit::Custom,
-        third: Bit::Standard,
+    match message_number(m) {
+        n @ 0..=6 => bits_in(Bit::Standard, 7 - n),
+        n @ 7..=14 => bits_in(Bit::Custom, 14 - n),
+        _ => [Bit::Standard, Bit::Custom, Bit::Standard],
     }
 }
 
+// ---- a destination, read
+
 // Whether each of six characters may stand at its place.
-fn are_characters(call: &[u8]) -> bool
-    requires { length call.now ≡ 6 }
+#[tactic(auto, unfolding(crate::specs::Destination::are_characters))]
+fn are_characters(call: &[u8; 6]) -> bool
     ensures { result ≡ are_characters call.now }
 {
-    if !is_character(call[0]) {
-        return false;
-    }
-    if !is_character(call[1]) {
-        return false;
-    }
-    if !is_character(call[2]) {
-        return false;
-    }
-    if !is_last(call[3]) {
-        return false;
-    }
-    if !is_last(call[4]) {
-        return false;
-    }
-    is_last(call[5])
+    let [a, b, c, d, e, f] = *call;
+    is_character(a) && is_character(b) && is_character(c) && is_last(d) && is_last(e) && is_last(f)
 }
 
 // The flag of one of the last three characters: `P-Z`.
 fn is_flagged(c: u8) -> bool
     ensures { result ≡ is_flagged c }
 {
-    wrapping_sub_u8(c, b'P') < 11
+    c.wrapping_sub(b'P') < 11
 }
 
 // The letter of the latitude.
@@ -555,100 +416,90 @@ fn letter_of(c: u8) -> u8
     if is_flagged(c) { b'N' } else { b'S' }
 }
 
+// The digits and blanks that six characters show.
+fn digits_of(call: &[u8; 6]) -> [u8; 6]
+    ensures { result ≡ map digit_of call.now }
+{
+    call.map(|c| digit_of(c))
+}
+
 // The text of the latitude that six characters carry.
-fn text_in(call: &[u8]) -> [u8; 8]
-    requires { length call.now ≡ 6 }
+fn text_in(call: &[u8; 6]) -> [u8; 8]
     ensures { result ≡ text_in call.now }
 {
-    let a = digit_of(call[0]);
-    let b = digit_of(call[1]);
-    let c = digit_of(call[2]);
-    let d = digit_of(call[3]);
-    let e = digit_of(call[4]);
-    let f = digit_of(call[5]);
-    let letter = letter_of(call[3]);
-    [a, b, c, d, b'.', e, f, letter]
+    let [a, b, c, d, e, f] = digits_of(call);
+    [a, b, c, d, b'.', e, f, letter_of(call[3])]
 }
 
 // The message of the first three characters.
-fn message_in(call: &[u8]) -> Message
-    requires { length call.now ≡ 6 }
+fn message_in(call: &[u8; 6]) -> Message
     ensures { result ≡ message_of (bit_of (slice_index call.now 0)) (bit_of (slice_index call.now 1)) (bit_of (slice_index call.now 2)) }
 {
     message_of(bit_of(call[0]), bit_of(call[1]), bit_of(call[2]))
 }
 
 // The destination of six characters that may stand at their places.
-fn destination_in(call: &[u8]) -> DestinationRead
-    requires { length call.now ≡ 6 }
+fn destination_in(call: &[u8; 6]) -> Option<Destination>
     ensures { result ≡ destination_with call.now (read_latitude (text_in call.now)) }
 {
-    let text = text_in(call);
-    let read = lonlat::read_latitude(&text);
-    match read {
-        LatitudeRead::Read {
-            latitude,
-            blanks,
-            south,
-            sixty,
-        } => DestinationRead::Read(Destination {
-            latitude,
-            message: message_in(call),
-            blanks,
-            south,
-            hundred: is_flagged(call[4]),
-            west: is_flagged(call[5]),
-            sixty,
-        }),
-        LatitudeRead::Refused => DestinationRead::Refused,
-    }
+    let LatitudeRead {
+        latitude,
+        blanks,
+        south,
+        sixty,
+    } = lonlat::read_latitude(&text_in(call))?;
+    Some(Destination {
+        latitude,
+        message: message_in(call),
+        blanks,
+        south,
+        hundred: is_flagged(call[4]),
+        west: is_flagged(call[5]),
+        sixty,
+    })
 }
 
-// The destination of six call characters; the SSID is no part of them.
-pub fn read_destination(call: &[u8]) -> DestinationRead
+// The destination of six call characters, of which the SSID is none; none is a refusal, 11.
+pub fn read_destination(call: &[u8]) -> Option<Destination>
     ensures { result ≡ read_destination call.now }
 {
-    if call.len() != 6 {
-        return DestinationRead::Refused;
-    }
+    let call = call.try_into().ok()?;
     if are_characters(call) {
-        return destination_in(call);
+        destination_in(call)
+    } else {
+        None
     }
-    DestinationRead::Refused
 }
 
-// The character of a flag and a digit or blank.
-fn flagged(flag: bool, d: u8) -> u8
-    ensures { result ≡ character_of (flag_bit flag) d }
+// ---- a destination, written
+
+// The bit of a flag: a standard 1, or 0.
+#[tactic(auto, unfolding(crate::specs::Character::flag_bit))]
+fn flag_bit(flag: bool) -> Bit
+    ensures { result ≡ flag_bit flag }
 {
-    if flag {
-        return character_of(Bit::Standard, d);
-    }
-    character_of(Bit::Zero, d)
+    if flag { Bit::Standard } else { Bit::Zero }
 }
 
 // The six characters of a latitude's text, the message's bits and the longitude's flags.
-fn characters(text: [u8; 8], bits: Bits, hundred: bool, west: bool) -> [u8; 6]
+fn characters(text: [u8; 8], bits: [Bit; 3], hundred: bool, west: bool) -> [u8; 6]
     ensures { result ≡ characters_of text bits hundred west }
 {
-    let first = bits.first;
-    let second = bits.second;
-    let third = bits.third;
-    let a = character_of(first, text[0]);
-    let b = character_of(second, text[1]);
-    let c = character_of(third, text[2]);
-    let d = flagged(text[7] == b'N', text[3]);
-    let e = flagged(hundred, text[5]);
-    let f = flagged(west, text[6]);
-    [a, b, c, d, e, f]
+    [
+        character_of(bits[0], text[0]),
+        character_of(bits[1], text[1]),
+        character_of(bits[2], text[2]),
+        character_of(flag_bit(text[7] == b'N'), text[3]),
+        character_of(flag_bit(hundred), text[5]),
+        character_of(flag_bit(west), text[6]),
+    ]
 }
 
 // A longitude taken apart.
 fn sides_of(longitude: Longitude) -> Sides
     ensures { result ≡ sides_of longitude.0 }
 {
-    let angle = longitude.0;
-    numbers::parts(angle)
+    numbers::parts(longitude.0)
 }
 
 // The destination of a latitude with its blanks, a message and a longitude, whose offset and side it carries; or 15.
@@ -675,84 +526,63 @@ pub fn write_destination(
             refusal: answer.refusal,
         };
     }
-    let bits = bits_of(message);
     let hundred = takes_hundred(sides.size / 6000);
-    let bytes = characters(text, bits, hundred, sides.minus);
+    let bytes = characters(text, bits_of(message), hundred, sides.minus);
     DestinationWritten { bytes, refusal: 0 }
 }
 
+// ---- the information
+
 // The information of what follows the type byte, under the offset and the side that the destination gave; its comment is
-// the rest, from the ninth byte on.
-pub fn read_information(s: &[u8], hundred: bool, west: bool) -> InformationRead
+// the rest, from the ninth byte on. None is a refusal, 12.
+pub fn read_information(s: &[u8], hundred: bool, west: bool) -> Option<Information>
     ensures { result ≡ read_information s.now hundred west }
 {
-    if s.len() < 8 {
-        return InformationRead::Refused;
-    }
-    let field = read_longitude(hundred, west, s[0], s[1], s[2]);
-    let LongitudeField::Read(longitude) = field else {
-        return InformationRead::Refused;
+    let &[a, b, c, d, e, f, code, table, ..] = s else {
+        return None;
     };
-    let motion = read_motion(s[3], s[4], s[5]);
-    match motion {
-        Motion::Read(speed, course) => InformationRead::Read(Information {
-            longitude,
-            speed,
-            course,
-            code: s[6],
-            table: s[7],
-        }),
-        Motion::Refused => InformationRead::Refused,
-    }
+    let longitude = read_longitude(hundred, west, a, b, c)?;
+    let Motion { speed, course } = read_motion(d, e, f)?;
+    Some(Information {
+        longitude,
+        speed,
+        course,
+        code,
+        table,
+    })
 }
 
 // A longitude's distance from 0.
 fn size_of(longitude: Longitude) -> u32
     ensures { result ≡ unsigned_abs longitude.0 }
 {
-    let sides = sides_of(longitude);
-    sides.size
+    sides_of(longitude).size
 }
 
-// Whether the information, whose longitude has that size, is out of the range that a writer takes.
-fn is_out(size: u32, i: Information) -> bool
-    requires { size ≡ unsigned_abs i.longitude.0 }
+// Whether the information is out of the range that a writer takes.
+#[tactic(auto, unfolding(crate::specs::Information::information_out, crate::specs::Longitude::longitude_out, crate::specs::Motion::motion_out))]
+fn is_out(i: Information) -> bool
     ensures { result ≡ information_out i }
 {
-    let speed = i.speed.0;
-    let course = i.course.0;
-    if 1080000 <= size {
-        return true;
-    }
-    if 799 < speed {
-        return true;
-    }
-    360 < course
+    1080000 <= size_of(i.longitude) || 799 < i.speed.0 || 360 < i.course.0
 }
 
-// The eight bytes of information whose longitude has that size.
-fn information_bytes(size: u32, i: Information) -> [u8; 8]
-    requires { (size ≡ unsigned_abs i.longitude.0) × (information_out i ≡ false) }
+// The eight bytes of information that is in range.
+fn information_bytes(i: Information) -> [u8; 8]
+    requires { information_out i ≡ false }
     ensures { result ≡ information_bytes i }
 {
-    let speed = i.speed.0;
-    let course = i.course.0;
-    let l = longitude_field(size);
-    let m = motion_field(speed, course);
-    [
-        l.first, l.second, l.third, m.first, m.second, m.third, i.code, i.table,
-    ]
+    let [a, b, c] = longitude_field(size_of(i.longitude));
+    let [d, e, f] = motion_field(i.speed.0, i.course.0);
+    [a, b, c, d, e, f, i.code, i.table]
 }
 
 // Writes the eight bytes to the front of out, or answers 15 or 16 and leaves it alone.
 pub fn write_information(i: Information, out: &mut [u8]) -> buffer::Answer
     ensures { ends result out.new ≡ wrote (information_refusal i) (information_bytes i) out.old }
 {
-    let longitude = i.longitude;
-    let size = size_of(longitude);
-    if is_out(size, i) {
+    if is_out(i) {
         return buffer::refused(15);
     }
-    let bytes = information_bytes(size, i);
-    buffer::write(&bytes, out)
+    buffer::write(&information_bytes(i), out)
 }

@@ -1,7 +1,7 @@
--- The nine bytes one by one, and the colon. Assumes nothing.
-use Rattle.message.proofs.Bytes.{nine_and_colon}
-use borrow.Author.Rules.{rules}
+-- The nine bytes, and the colon. Assumes nothing.
+use Rattle.message.specs.Message.{addressee_text}
 use Rattle.message.proofs.front.Goals as goal
 
 pub returns : goal.returns
-returns c = search (rules, nine_and_colon, rules)
+unfolding addressee_text
+returns c = rw c.copy_from_slice.ensures.after

@@ -1,20 +1,15 @@
--- Seven bytes, and then what they read as. Assumes nothing.
-use Rattle.laws.proofs.Lists.{part_length}
-use Rattle.message.proofs.Status.{before_short, before_refused, before_other, before_zulu}
-use borrow.Author.Rules.{rules}
+-- What the first seven bytes read as, or all there are. Assumes nothing.
+use Rattle.std.proofs.Common.{refl}
+use Rattle.message.proofs.Status.{before_refused, before_other, before_zulu}
 use Rattle.message.proofs.time_before.Goals as goal
+use Rattle.message.proofs.time_before.Goals.{in_default-via-in-Some+else-t-eq122, in_default-via-in_default}
 
-pub returns-then-s-lt7 : goal.returns-then-s-lt7
-returns-then-s-lt7 c = search (rules, before_short)
+pub returns-in-Some : goal.returns-in-Some
+returns-in-Some c = before_zulu c.args.s.now c.min.result c.min.ensures _ c.in-Some.t c.in-Some.ensures c.if-t-eq122.true refl
 
-pub slice_bounds-read_time-end : goal.slice_bounds-read_time-end
-slice_bounds-read_time-end c = search (rules, part_length)
-
-pub returns-then-t-eq122 : goal.returns-then-t-eq122
-returns-then-t-eq122 c = search (rules, before_zulu)
-
-pub returns-in-Refused : goal.returns-in-Refused
-returns-in-Refused c = search (rules, before_refused)
-
-pub returns-else-t-eq122 : goal.returns-else-t-eq122
-returns-else-t-eq122 c = search (rules, before_other)
+pub returns-in_default : goal.returns-in_default
+returns-in_default c =
+    elim c.in_default.branch [
+      | in_default-via-in-Some+else-t-eq122 w ↦ before_other c.args.s.now c.min.result c.min.ensures _ _ w.in-Some.ensures w.if-t-eq122.false c.blank.ensures
+      | in_default-via-in_default w ↦ before_refused c.args.s.now c.min.result c.min.ensures _ w.in_default.ensures c.blank.ensures
+    ]

@@ -3,11 +3,11 @@ use Rattle.mic_e.proofs.Messages.{standard_bits, custom_bits, unknown_bits}
 use Rattle.std.proofs.Common.{rules}
 use Rattle.mic_e.proofs.bits_of.Goals as goal
 
-pub returns-then-n-lt7 : goal.returns-then-n-lt7
-returns-then-n-lt7 c = search (rules, standard_bits)
+pub returns-in-0-to-6 : goal.returns-in-0-to-6
+returns-in-0-to-6 c = search (rules, standard_bits)
 
-pub returns-then-n-lt15 : goal.returns-then-n-lt15
-returns-then-n-lt15 c = search (rules, custom_bits)
+pub returns-in-7-to-14 : goal.returns-in-7-to-14
+returns-in-7-to-14 c = search (rules, custom_bits)
 
-pub returns : goal.returns
-returns c = search (rules, unknown_bits)
+pub returns-in_default : goal.returns-in_default
+returns-in_default c = search (rules, unknown_bits)

@@ -1,20 +1,10 @@
--- `is_last` tests the class that is refused, and then whether it is a character. Assumes nothing.
-use Rattle.std.proofs.Common.{◌≡◌, Bool, true, false, not, ◌&&◌, rules}
-use mathlib.Core.Bool.{and-false, and-true}
-use Rattle.laws.proofs.Classes.{classes}
+-- `is_last` tests whether it is a character, and the class that is refused. Assumes nothing.
+use Rattle.std.proofs.Common.{rules}
+use Rattle.laws.proofs.Picks.{picks}
+use Rattle.mic_e.proofs.Classes.{classes}
 use Rattle.mic_e.specs.Character.{is_last}
 use Rattle.mic_e.proofs.is_last.Goals as goal
 
-refused : (a b : Bool) → b ≡ true → false ≡ (a && not b)
-refused a b e = rw (e, and-false a)
-
-left : (u a b : Bool) → u ≡ a → b ≡ false → u ≡ (a && not b)
-left u a b e f = rw (e, f, and-true a)
-
-pub returns-then-wrapping_sub_u8-lt11 : goal.returns-then-wrapping_sub_u8-lt11
+pub returns-then-is_character : goal.returns-then-is_character
 unfolding is_last
-returns-then-wrapping_sub_u8-lt11 c = search (rules, refused, classes)
-
-pub returns : goal.returns
-unfolding is_last
-returns c = search (rules, left, classes)
+returns-then-is_character c = search (rules, picks, classes)

@@ -1,10 +1,9 @@
--- `message_at`: the messages in their order, and Unknown behind them. Assumes nothing.
-use Rattle.mic_e.proofs.Messages.{past_messages, among_messages}
+-- `message_at`: what stands in the table at the number, or Unknown. Assumes nothing.
 use Rattle.std.proofs.Common.{rules}
+use Rattle.std.proofs.lemmas.Option.{unwrap_or-slice_get}
+use Rattle.mic_e.specs.Message.{message_at}
 use Rattle.mic_e.proofs.message_at.Goals as goal
 
-pub returns-then-n-gt15 : goal.returns-then-n-gt15
-returns-then-n-gt15 c = search (rules, past_messages)
-
 pub returns : goal.returns
-returns c = search (rules, among_messages)
+unfolding message_at
+returns c = search (rules, unwrap_or-slice_get)

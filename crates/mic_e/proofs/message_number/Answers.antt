@@ -1,67 +1,30 @@
--- `message_number`: each arm is a line of `message_number`. Assumes nothing.
+-- `message_number`: a message's number is its place among the variants. Assumes nothing.
+use Rattle.std.proofs.Common.{◌≡◌, refl}
+use denote.Enum.Declared.{tag_of}
 use Rattle.mic_e.specs.Message.{message_number}
+use Rattle.mic_e.specs.contracts.Message.{the_type}
+use Rattle.mic_e.specs.declared.Message.{Message}
+use Rattle.mic_e.specs.declared.Message.TheVariants.{M0, M1, M2, M3, M4, M5, M6, C0, C1, C2, C3, C4, C5, C6, Emergency, Unknown}
 use Rattle.mic_e.proofs.message_number.Goals as goal
 
-pub returns-in-M0 : goal.returns-in-M0
+tag_is : (m : Message) → tag_of the_type m ≡ message_number m
 unfolding message_number
-returns-in-M0 c = rw c.in-M0.is
+tag_is M0 = refl
+tag_is M1 = refl
+tag_is M2 = refl
+tag_is M3 = refl
+tag_is M4 = refl
+tag_is M5 = refl
+tag_is M6 = refl
+tag_is C0 = refl
+tag_is C1 = refl
+tag_is C2 = refl
+tag_is C3 = refl
+tag_is C4 = refl
+tag_is C5 = refl
+tag_is C6 = refl
+tag_is Emergency = refl
+tag_is Unknown = refl
 
-pub returns-in-M1 : goal.returns-in-M1
-unfolding message_number
-returns-in-M1 c = rw c.in-M1.is
-
-pub returns-in-M2 : goal.returns-in-M2
-unfolding message_number
-returns-in-M2 c = rw c.in-M2.is
-
-pub returns-in-M3 : goal.returns-in-M3
-unfolding message_number
-returns-in-M3 c = rw c.in-M3.is
-
-pub returns-in-M4 : goal.returns-in-M4
-unfolding message_number
-returns-in-M4 c = rw c.in-M4.is
-
-pub returns-in-M5 : goal.returns-in-M5
-unfolding message_number
-returns-in-M5 c = rw c.in-M5.is
-
-pub returns-in-M6 : goal.returns-in-M6
-unfolding message_number
-returns-in-M6 c = rw c.in-M6.is
-
-pub returns-in-C0 : goal.returns-in-C0
-unfolding message_number
-returns-in-C0 c = rw c.in-C0.is
-
-pub returns-in-C1 : goal.returns-in-C1
-unfolding message_number
-returns-in-C1 c = rw c.in-C1.is
-
-pub returns-in-C2 : goal.returns-in-C2
-unfolding message_number
-returns-in-C2 c = rw c.in-C2.is
-
-pub returns-in-C3 : goal.returns-in-C3
-unfolding message_number
-returns-in-C3 c = rw c.in-C3.is
-
-pub returns-in-C4 : goal.returns-in-C4
-unfolding message_number
-returns-in-C4 c = rw c.in-C4.is
-
-pub returns-in-C5 : goal.returns-in-C5
-unfolding message_number
-returns-in-C5 c = rw c.in-C5.is
-
-pub returns-in-C6 : goal.returns-in-C6
-unfolding message_number
-returns-in-C6 c = rw c.in-C6.is
-
-pub returns-in-Emergency : goal.returns-in-Emergency
-unfolding message_number
-returns-in-Emergency c = rw c.in-Emergency.is
-
-pub returns-in-Unknown : goal.returns-in-Unknown
-unfolding message_number
-returns-in-Unknown c = rw c.in-Unknown.is
+pub returns : goal.returns
+returns c = tag_is c.args.m

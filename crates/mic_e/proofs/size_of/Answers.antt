@@ -6,4 +6,4 @@ use Rattle.mic_e.proofs.size_of.Goals as goal
 
 pub returns : goal.returns
 unfolding sides_of
-returns c = ap (λ (s : Sides). s.size) c.sides_of-sides.ensures
+returns c = ap (λ (s : Sides). s.size) c.sides_of.ensures

@@ -11,7 +11,7 @@ use Rattle.numbers.specs.declared.Sides.{Sides}
 use Rattle.mic_e.specs.Longitude.{longitude_out, hundred_for, hundred_of}
 use Rattle.mic_e.specs.Message.{bits_of}
 use Rattle.mic_e.specs.Destination.{characters_of, destination_bytes, destination_refusal, write_destination}
-use Rattle.mic_e.specs.declared.Bits.{Bits}
+use Rattle.mic_e.specs.declared.Bit.{Bit}
 use Rattle.mic_e.specs.declared.Message.{Message}
 use Rattle.buffer.proofs.Answers.{refusal_is, bytes_are}
 use Rattle.lonlat.proofs.Texts.{latitude_text_length}
@@ -49,7 +49,7 @@ module _ (lat lon : ℤ) (blanks : ℕ) (m : Message) (s : Sides) (es : s ≡ si
         bytes_are r o (latitude_text lat blanks) (replicate 8 0) (latitude_refusal lat blanks) e k (omega arith)
         ∙ rw (l, append-nil)
 
-    done : (bits : Bits) (hundred : Bool) (bytes : List ℕ) → r.refusal ≡ 0 → bits ≡ bits_of m → hundred ≡ hundred_for (s.size / 6000)
+    done : (bits : List Bit) (hundred : Bool) (bytes : List ℕ) → r.refusal ≡ 0 → bits ≡ bits_of m → hundred ≡ hundred_for (s.size / 6000)
         → bytes ≡ characters_of o bits hundred s.minus → record { refusal = 0; bytes = bytes } ≡ write_destination lat blanks m lon
     unfolding write_destination destination_bytes hundred_of sides_of
     done bits hundred bytes z p q w = rw (whole, z, w, q, p, text z, es)

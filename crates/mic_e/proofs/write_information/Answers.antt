@@ -22,8 +22,8 @@ module _ (i : Information) (out : List ℕ) (t : Bool) (e : t ≡ information_ou
 pub returns-then-is_out : goal.returns-then-is_out
 returns-then-is_out c = search (rules, refused)
 
-pub information_bytes-bytes-requires : goal.information_bytes-bytes-requires
-information_bytes-bytes-requires c = (search rules, search (rules, inside))
+pub information_bytes-requires : goal.information_bytes-requires
+information_bytes-requires c = search (rules, inside)
 
 pub returns : goal.returns
 returns c = search (rules, written)
