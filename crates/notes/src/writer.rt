@@ -1,7 +1,7 @@
 // What the standard's own writer sends: the three bytes of a motion or of a longitude, and the offset and the direction that
 // go with a longitude.
 use lonlat::{Latitude, Longitude};
-use mic_e::{Course, DestinationRead, Information, Message, Speed};
+use mic_e::{Course, Information, Message, Speed};
 use settings::Way;
 
 // The eight bytes of information, or zeros where the writer refuses.
@@ -30,13 +30,7 @@ pub fn way_of(longitude: Longitude) -> Option<Way> {
     if written.refusal != 0 {
         return None;
     }
-    match mic_e::read_destination(&written.bytes) {
-        DestinationRead::Read(d) => Some(Way {
-            hundred: d.hundred,
-            west: d.west,
-        }),
-        DestinationRead::Refused => None,
-    }
+    mic_e::read_destination(&written.bytes).map(Way::from)
 }
 
 // The field of a longitude, if that is sent in this way.

@@ -10,7 +10,7 @@ mod wrong;
 
 pub use given::arguments;
 use lonlat::Longitude;
-use mic_e::{Course, Speed};
+use mic_e::{Course, Destination, Speed};
 pub use trim::{bare, tidy};
 pub use words::read;
 pub use wrong::SettingError;
@@ -20,6 +20,15 @@ pub use wrong::SettingError;
 pub struct Way {
     pub hundred: bool,
     pub west: bool,
+}
+
+impl From<Destination> for Way {
+    fn from(destination: Destination) -> Way {
+        Way {
+            hundred: destination.hundred,
+            west: destination.west,
+        }
+    }
 }
 
 // A speed and course, or a longitude and the way that it is sent.

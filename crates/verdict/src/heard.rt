@@ -27,15 +27,9 @@ pub fn mic_e(packet: &[u8], kind: Kind) -> Option<Heard<'_>> {
     let read = header::read_any_length(packet);
     let to = read.header.to;
     let text = to.text;
-    let call = lines::cut(&text, to.call_len as usize);
-    match mic_e::read_destination(call) {
-        mic_e::DestinationRead::Read(d) => Some(Heard {
-            body: lines::tail(packet, read.body),
-            way: Way {
-                hundred: d.hundred,
-                west: d.west,
-            },
-        }),
-        mic_e::DestinationRead::Refused => None,
-    }
+    let destination = mic_e::read_destination(lines::cut(&text, to.call_len as usize))?;
+    Some(Heard {
+        body: lines::tail(packet, read.body),
+        way: Way::from(destination),
+    })
 }
