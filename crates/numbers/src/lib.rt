@@ -138,6 +138,7 @@ fn spell(n: u64, text: &mut [u8]) -> usize
 {
     let mut at: usize = 20;
     let mut rest = n;
+    // Kept: a `while`, since there are as many turns as the number has digits.
     while 10 <= rest {
         at -= 1;
         text[at] = b'0' + (rest % 10) as u8;
