@@ -6,16 +6,19 @@
 mod line;
 mod tally;
 
+use buffer::Pieces;
 use std::io::{self, Write};
 use stream::{Failure, Input, Output};
 use tally::Tally;
 
 // The answer to a question, at the front of room.
 fn ask<'a>(question: &[u8], room: &'a mut [u8]) -> &'a [u8] {
-    match requests::answer(question, true, room, 0) {
-        0 => b"bad request",
-        n => lines::cut(room, n),
+    let mut answer = Pieces::new(room);
+    if requests::answer(question, true, &mut answer).is_none() {
+        return b"bad request";
     }
+    let used = answer.len;
+    lines::cut(room, used)
 }
 
 // Writes a line of two parts.
