@@ -247,13 +247,13 @@ fn identifier_of<'a>(kind: Kind, word: &[u8], room: &'a mut [u8]) -> Option<&'a 
 
 // The sides of letters, south and west: a kind with a position has two letters, another none.
 fn sides(kind: Kind, letters: [u8; 2]) -> Option<(bool, bool)> {
-    let has_any = letters != [b'-', b'-'];
-    let has_both = !letters.contains(&b'-');
-    if has_position(kind) && !has_both || !has_position(kind) && has_any {
-        return None;
-    }
+    let fit = if has_position(kind) {
+        !letters.contains(&b'-')
+    } else {
+        letters == [b'-', b'-']
+    };
     let [latitude, longitude] = letters;
-    Some((latitude == b'S', longitude == b'W'))
+    fit.then_some((latitude == b'S', longitude == b'W'))
 }
 
 // An addressee. Where none was given that is nine spaces in a message, and none in another kind. None is nine zeros, so another kind

@@ -13,15 +13,16 @@ fn put(b: BoundsAnswer, page: PageBox, reply: &mut Reply) {
 }
 
 // `[SIDE]`, the angle's letter: whether it is the second of two; left out, it is the angle's own, which at 0 is the first.
-fn side(angle: i32, words: Words, letters: [u8; 2]) -> Option<bool> {
-    if words.is_over() {
+fn side(angle: i32, asked: Words, letters: [u8; 2]) -> Option<bool> {
+    if asked.is_over() {
         return Some(angle < 0);
     }
-    let [letter] = words.rest() else {
-        return None;
-    };
-    let place = letters.iter().position(|l| l == letter)?;
-    Some(place == 1)
+    let [first, second] = letters;
+    match asked.rest() {
+        [letter] if *letter == first => Some(false),
+        [letter] if *letter == second => Some(true),
+        _ => None,
+    }
 }
 
 // `B ANGLE BLANKS LIMIT [SIDE]`
