@@ -4,95 +4,76 @@
 #![tactic(auto)]
 
 mod line;
-mod tell;
+mod tally;
 
-use std::io::{Error, Stdin, Stdout};
-use tell::Tally;
+use buffer::Pieces;
+use std::io::{self, Write};
+use stream::{Failure, Input, Output};
+use tally::Tally;
 
-// The answer to a question, at the front of out.
-fn ask(question: &[u8], out: &mut [u8]) -> usize {
-    let n = requests::answer(question, true, out, 0);
-    if n == 0 {
-        return buffer::put(b"bad request", out, 0);
+// The answer to a question, at the front of room.
+fn ask<'a>(question: &[u8], room: &'a mut [u8]) -> &'a [u8] {
+    let mut answer = Pieces::new(room);
+    if requests::answer(question, true, &mut answer).is_none() {
+        return b"bad request";
     }
-    n
+    let used = answer.len;
+    lines::cut(room, used)
 }
 
-// Asks what one line asks, and compares.
-fn compare(t: Tally, s: &[u8], out: &mut [u8]) -> Tally {
-    let question = line::question(s);
-    let mut answer = [0u8; 8192];
-    let n = ask(question, &mut answer);
-    let got = lines::cut(&answer, n);
-    if line::agrees(line::expected(s), got) {
-        return tell::right(t, question, line::is_recorded(s), out);
+// Writes a line of two parts.
+fn write_line(first: &[u8], second: &[u8], out: &mut impl Write) -> io::Result<()> {
+    out.write_all(first)?;
+    out.write_all(second)?;
+    out.write_all(b"\n")
+}
+
+// Asks what one line asks, and compares. One that is as it should be gets a line, but for a recorded answer; one that is not two: what
+// it should be, of a line that is too long its beginning, and what it is.
+fn compare(s: &[u8], tally: &mut Tally, out: &mut impl Write) -> io::Result<()> {
+    let (question, expected) = line::parts(s);
+    let mut room = [0; 8192];
+    let answer = ask(question, &mut room);
+    let agrees = line::agrees(expected, answer);
+    tally.count(agrees);
+    if !agrees {
+        write_line(b"WRONG ", lines::cut(s, 8192), out)?;
+        return write_line(b"  is ", answer, out);
     }
-    tell::wrong(t, s, got, out)
+    if line::is_recorded(question) {
+        return Ok(());
+    }
+    write_line(b"ok ", question, out)
 }
 
 // A line of the table; an empty one is passed over, and a heading, which starts with `#`, is printed as it stands.
-fn take(t: Tally, s: &[u8], out: &mut [u8]) -> Tally {
-    if s.len() == 0 {
-        return t;
-    }
-    if line::starts(s, b"#") {
-        let mut u = t;
-        u.used = tell::line(b"", s, out, t.used);
-        return u;
-    }
-    compare(t, s, out)
-}
-
-// The same once there is room for what it prints.
-fn turn(to: Stdout, t: Tally, s: &[u8], out: &mut [u8]) -> Tally {
-    let o = stream::with_room(to, out, t.used);
-    let mut u = t;
-    u.used = o.used;
-    u.lost = o.lost;
-    if o.lost.is_some() {
-        return u;
-    }
-    take(u, s, out)
-}
-
-// The totals, and all that is not written yet.
-fn finish(to: Stdout, failed: Option<Error>, t: Tally, out: &mut [u8]) {
-    if let Some(e) = failed {
-        stream::fail(b"unread", e);
-        return;
-    }
-    if let Some(e) = t.lost {
-        stream::fail(b"unwritten", e);
-        return;
-    }
-    let used = tell::totals(t, out);
-    if let Some(e) = stream::flush(to, out, used).lost {
-        stream::fail(b"unwritten", e);
+fn take(s: &[u8], tally: &mut Tally, out: &mut impl Write) -> io::Result<()> {
+    match s {
+        [] => Ok(()),
+        [b'#', ..] => write_line(b"", s, out),
+        _ => compare(s, tally, out),
     }
 }
 
-fn run(from: Stdin, to: Stdout, input: &mut [u8], out: &mut [u8]) {
-    let mut s = stream::start();
-    let mut t = tell::none();
-    let mut turns: u64 = 0xffff_ffff_ffff_ffff;
-    while 0 < turns {
-        turns -= 1;
-        s = stream::next(from, 8192, input, s);
-        if !s.line {
-            finish(to, s.failed, t, out);
-            return;
-        }
-        t = turn(to, t, stream::in_hand(input, s), out);
-        if t.lost.is_some() {
-            finish(to, None, t, out);
-            return;
-        }
+fn run(rt: HostRuntime) -> Result<(), Failure> {
+    let mut read = [0; 65536];
+    let mut held = [0; 65536];
+    let mut input = Input::new(rt.stdin(), &mut read);
+    let mut out = Output::new(rt.stdout(), &mut held);
+    let mut tally = Tally::default();
+    for _ in 0..u64::MAX {
+        let Some(line) = input.next_line(8192).map_err(Failure::Unread)? else {
+            break;
+        };
+        out.make_room().map_err(Failure::Unwritten)?;
+        take(line, &mut tally, &mut out).map_err(Failure::Unwritten)?;
     }
-    finish(to, s.failed, t, out);
+    writeln!(out, "{tally}").map_err(Failure::Unwritten)?;
+    out.flush().map_err(Failure::Unwritten)
 }
 
 fn main(rt: HostRuntime) {
-    let mut input = io::large_buffer();
-    let mut out = io::large_buffer();
-    run(rt.stdin(), rt.stdout(), &mut input, &mut out);
+    if let Err(failure) = run(rt) {
+        let _ = eprintln!(rt; "{failure}");
+    }
 }

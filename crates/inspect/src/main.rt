@@ -2,51 +2,36 @@
 // standard error, by a word at the start of the line that ./tusselgro turns into a status: `unread` or `unwritten`.
 #![tactic(auto)]
 
-use std::io::{Error, Stdin, Stdout};
+use buffer::Pieces;
+use std::io::{Read, Write};
+use stream::{Failure, Input, Output};
 
-// Puts the line that answers a request behind the first `at` bytes of out.
-fn answer(request: &[u8], out: &mut [u8], at: usize) -> usize {
-    let end = requests::answer(request, false, out, at);
-    if end == at {
-        return buffer::put(b"bad request\n", out, at);
+// Puts the line that answers a request.
+fn answer(request: &[u8], out: &mut Pieces) {
+    if requests::answer(request, false, out).is_none() {
+        out.put(b"bad request");
     }
-    buffer::put_byte(b'\n', out, end)
+    out.put_byte(b'\n');
 }
 
-// Writes what is left once all requests are answered.
-fn finish(to: Stdout, failed: Option<Error>, out: &[u8], used: usize) {
-    if let Some(e) = failed {
-        stream::fail(b"unread", e);
-        return;
+// Answers each request of an input.
+fn run(input: &mut Input<'_, impl Read>, out: &mut Output<'_, impl Write>) -> Result<(), Failure> {
+    for _ in 0..u64::MAX {
+        let Some(request) = input.next_line(4096).map_err(Failure::Unread)? else {
+            break;
+        };
+        out.make_room().map_err(Failure::Unwritten)?;
+        answer(request, &mut out.pieces);
     }
-    if let Some(e) = stream::flush(to, out, used).lost {
-        stream::fail(b"unwritten", e);
-    }
-}
-
-fn run(from: Stdin, to: Stdout, input: &mut [u8], out: &mut [u8]) {
-    let mut s = stream::start();
-    let mut used: usize = 0;
-    let mut turns: u64 = 0xffff_ffff_ffff_ffff;
-    while 0 < turns {
-        turns -= 1;
-        s = stream::next(from, 4096, input, s);
-        if !s.line {
-            finish(to, s.failed, out, used);
-            return;
-        }
-        let o = stream::with_room(to, out, used);
-        if let Some(e) = o.lost {
-            stream::fail(b"unwritten", e);
-            return;
-        }
-        used = answer(stream::in_hand(input, s), out, o.used);
-    }
-    finish(to, s.failed, out, used);
+    out.flush().map_err(Failure::Unwritten)
 }
 
 fn main(rt: HostRuntime) {
-    let mut input = io::large_buffer();
-    let mut out = io::large_buffer();
-    run(rt.stdin(), rt.stdout(), &mut input, &mut out);
+    let mut read = [0; 65536];
+    let mut held = [0; 65536];
+    let mut input = Input::new(rt.stdin(), &mut read);
+    let mut out = Output::new(rt.stdout(), &mut held);
+    if let Err(failure) = run(&mut input, &mut out) {
+        let _ = eprintln!(rt; "{failure}");
+    }
 }

@@ -1,68 +1,63 @@
 // Callsigns read and written: their text, and their address in a frame.
 use callsign::{AddressWritten, Callsign, Field};
+use words::{Reply, Words};
 
 // The refusal, or 0 and the callsign.
-fn called(refusal: u8, c: Callsign, out: &mut [u8], at: usize) -> usize {
-    let end = words::refusal(refusal, out, at);
-    if refusal != 0 {
-        return end;
+fn called(refusal: u8, c: Callsign, reply: &mut Reply) {
+    reply.refusal(refusal);
+    if refusal == 0 {
+        reply.call(b" call=", c);
     }
-    words::call(b" call=", c, true, out, end)
 }
 
 // `callsign TEXT`
-pub fn text(s: &[u8], out: &mut [u8], at: usize) -> usize {
+pub fn text(s: &[u8], reply: &mut Reply) {
     let r = callsign::read_text(s);
-    let c = r.call;
-    let mut end = called(r.refusal, c, out, at);
-    end = words::count(b" starred=", r.starred as usize, out, end);
-    words::count(b" zero=", c.had_zero_ssid as usize, out, end)
+    called(r.refusal, r.call, reply);
+    reply.count(b" starred=", usize::from(r.starred));
+    reply.count(b" zero=", usize::from(r.call.had_zero_ssid));
 }
 
 // `address BYTES`
-pub fn address(s: &[u8], out: &mut [u8], at: usize) -> usize {
+pub fn address(s: &[u8], reply: &mut Reply) {
     let r = callsign::read_address(s);
-    let mut end = called(r.refusal, r.call, out, at);
-    end = words::count(b" heard=", r.heard as usize, out, end);
-    words::count(b" last=", r.last as usize, out, end)
+    called(r.refusal, r.call, reply);
+    reply.count(b" heard=", usize::from(r.heard));
+    reply.count(b" last=", usize::from(r.last));
 }
 
-// An address in hexadecimal.
-fn packed(w: AddressWritten, out: &mut [u8], at: usize) -> usize {
-    let end = words::refusal(w.refusal, out, at);
-    if w.refusal != 0 {
-        return end;
+// The refusal, or 0 and an address in hexadecimal.
+fn packed(w: AddressWritten, reply: &mut Reply) {
+    reply.refusal(w.refusal);
+    if w.refusal == 0 {
+        reply.hex(b" address=", &w.bytes);
     }
-    let bytes = w.bytes;
-    words::labelled(b" address=", &bytes, false, out, end)
 }
 
 // `to TEXT`: the address of the callsign that the text reads as, as a destination
-pub fn to(s: &[u8], out: &mut [u8], at: usize) -> usize {
+pub fn to(s: &[u8], reply: &mut Reply) {
     let c = callsign::read_text(s).call;
-    packed(
-        callsign::write_address(c, Field::Destination, false),
-        out,
-        at,
-    )
+    packed(callsign::write_address(c, Field::Destination, false), reply);
 }
 
 // `from TEXT`, `last-from TEXT`: as a source
-pub fn from(s: &[u8], last: bool, out: &mut [u8], at: usize) -> usize {
+pub fn from(s: &[u8], last: bool, reply: &mut Reply) {
     let c = callsign::read_text(s).call;
-    packed(callsign::write_address(c, Field::Source, last), out, at)
+    packed(callsign::write_address(c, Field::Source, last), reply);
 }
 
 // `last-hop TEXT`: as the last hop, heard
-pub fn last_hop(s: &[u8], out: &mut [u8], at: usize) -> usize {
+pub fn last_hop(s: &[u8], reply: &mut Reply) {
     let c = callsign::read_text(s).call;
-    packed(callsign::write_address(c, Field::Hop(true), true), out, at)
+    packed(callsign::write_address(c, Field::Hop(true), true), reply);
 }
 
-// A callsign by its text and lengths, written.
-fn written(bytes: &[u8], call_len: u8, ssid_len: u8, out: &mut [u8], at: usize) -> usize {
+// `spelled CALL_LEN SSID_LEN BYTES`: a callsign by its text and lengths, written
+pub fn spelled(mut asked: Words, reply: &mut Reply) -> Option<()> {
+    let call_len = asked.byte()?;
+    let ssid_len = asked.byte()?;
     let mut text = [0u8; 16];
-    buffer::write(bytes, &mut text);
+    buffer::write(asked.rest(), &mut text);
     let c = Callsign {
         text,
         call_len,
@@ -71,19 +66,6 @@ fn written(bytes: &[u8], call_len: u8, ssid_len: u8, out: &mut [u8], at: usize) 
     };
     let mut line = [0u8; 32];
     let w = callsign::write_text(c, false, &mut line);
-    words::written(w, &line, out, at)
-}
-
-// `spelled CALL_LEN SSID_LEN BYTES`
-pub fn spelled(s: &[u8], out: &mut [u8], at: usize) -> usize {
-    let t = lines::rest(s);
-    let n = words::byte(lines::first(s));
-    let k = words::byte(lines::first(t));
-    if 255 < n {
-        return at;
-    }
-    if 255 < k {
-        return at;
-    }
-    written(lines::rest(t), n as u8, k as u8, out, at)
+    reply.written(w, &line);
+    Some(())
 }

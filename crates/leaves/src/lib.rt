@@ -1,5 +1,5 @@
 // The leaves asked: angles, callsigns, lists of fields and times, each with its answer in words. Part of the programs inspect and
-// bench.
+// bench. A question that is none answers None, and puts nothing.
 #![tactic(auto)]
 
 mod angles;

@@ -6,28 +6,28 @@ mod longitude;
 mod writer;
 
 use settings::Setting;
+use std::io::{Result, Write};
 
-// The field that the standard's own writer sends for a setting; zeros, which are no field, where there is none.
-pub fn sent(asked: Setting) -> [u8; 3] {
+// The field that the standard's own writer sends for a setting, if it sends that one.
+pub fn sent(asked: Setting) -> Option<[u8; 3]> {
     match asked {
-        Setting::Moving(speed, course) => writer::motion(speed, course),
-        Setting::Lying(angle, hundred, west) => writer::longitude(angle, hundred, west),
-        _ => [0; 3],
+        Setting::Moving(speed, course) => Some(writer::motion(speed, course)),
+        Setting::Lying(longitude, way) => writer::longitude(longitude, way),
     }
 }
 
-// What stands above the table of a setting, behind the first `at` bytes of out.
-pub fn above(asked: Setting, out: &mut [u8], at: usize) -> usize {
+// Writes what stands above the table of a setting.
+pub fn above(asked: Setting, out: &mut impl Write) -> Result<()> {
     match asked {
-        Setting::Lying(angle, hundred, west) => longitude::above(angle, hundred, west, out, at),
-        _ => at,
+        Setting::Moving(_, _) => Ok(()),
+        Setting::Lying(longitude, way) => longitude::above(longitude, way, out),
     }
 }
 
-// What stands below it.
-pub fn below(asked: Setting, out: &mut [u8], at: usize) -> usize {
+// Writes what stands below it.
+pub fn below(asked: Setting, out: &mut impl Write) -> Result<()> {
     match asked {
-        Setting::Lying(angle, hundred, west) => longitude::below(angle, hundred, west, out, at),
-        _ => at,
+        Setting::Moving(_, _) => Ok(()),
+        Setting::Lying(longitude, way) => longitude::below(longitude, way, out),
     }
 }

@@ -3,95 +3,81 @@
 // at the start of the line that ./tusselgro turns into a status.
 #![tactic(auto)]
 
-mod table;
+use page::{Columns, Page};
+use std::io::{self, Write};
+use stream::{Failure, Output};
+use verdict::{Line, Tally};
 
-use settings::Setting;
-use std::io::Stdout;
-use verdict::Tally;
+// Writes the setting, a row for each Mic-E packet of a capture, and the line that counts.
+fn print(page: Page<'_>, capture: &[u8], out: &mut Output<'_, impl Write>) -> io::Result<Tally> {
+    writeln!(out, "{}", page.setting)?;
+    writeln!(out, " line{}", page::HEADING)?;
+    let mut tally = Tally::default();
+    for (number, text) in (1..).zip(stream::lines(capture)) {
+        let line = Line::of(text, page);
+        tally.count(line);
+        if let Line::MicE(field, verdict) = line {
+            out.make_room()?;
+            writeln!(out, "{number:5}{}   {verdict}", Columns(field))?;
+        }
+    }
+    writeln!(out, "{tally}")?;
+    out.flush()?;
+    Ok(tally)
+}
 
 // Says no where a packet is not on the page, or there is none.
-fn judge(packets: usize, on_page: usize) {
-    if packets == 0 {
-        io::write_all(2, b"refused: there is no Mic-E packet\n");
-        return;
+fn judge(tally: Tally) -> Result<(), Failure> {
+    if tally.packets == 0 {
+        return Err(Failure::Refused("there is no Mic-E packet"));
     }
-    if on_page < packets {
-        io::write_all(2, b"refused: not every Mic-E packet is on the page\n");
+    if tally.on_page < tally.packets {
+        return Err(Failure::Refused("not every Mic-E packet is on the page"));
     }
+    Ok(())
 }
 
-// Writes what is left, the line that counts behind it, and judges.
-fn finish(to: Stdout, t: Tally, out: &mut [u8]) {
-    let end = table::end(t, out);
-    if let Some(e) = stream::flush(to, out, end).lost {
-        stream::fail(b"unwritten", e);
-        return;
-    }
-    judge(t.packets, t.on_page);
-}
-
-// Holds a capture against the page of a setting, whose fields are those of found.
-fn answer(to: Stdout, asked: Setting, found: &[u8], capture: &[u8]) {
-    let mut out = io::large_buffer();
-    let used = table::begin(asked, &mut out);
-    let t = table::rows(to, verdict::page_of(asked), found, capture, &mut out, used);
-    if let Some(e) = t.lost {
-        stream::fail(b"unwritten", e);
-        return;
-    }
-    finish(to, t, &mut out);
-}
-
-// Reads the capture, and holds it against the page.
-fn read(rt: HostRuntime, asked: Setting, found: &[u8]) {
-    let mut input = io::large_buffer();
-    let s = stream::read_all(rt.stdin(), &mut input);
-    if let Some(e) = s.failed {
-        stream::fail(b"unread", e);
-        return;
-    }
-    if s.more {
-        io::write_all(
-            2,
-            b"refused: the capture is over 65,536 bytes; split it at ends of lines\n",
-        );
-        return;
-    }
-    answer(rt.stdout(), asked, found, lines::cut(&input, s.held));
-}
-
-// Finds the page of a setting.
-fn find(rt: HostRuntime, text: &[u8]) {
-    let asked = settings::read(text);
-    let mut found = io::buffer();
-    let listed = page::list(asked, &mut found);
-    if listed.refusal != 0 {
-        page::tell(1, text, asked);
-        return;
-    }
-    read(rt, asked, verdict::first(&found, listed.reported));
+// Reads the capture, and holds it against a page.
+fn check(rt: HostRuntime, page: Page<'_>) -> Result<(), Failure> {
+    let mut input = [0; 65536];
+    let mut held = [0; 65536];
+    let capture = stream::read_all(&mut rt.stdin(), &mut input)
+        .map_err(Failure::Unread)?
+        .ok_or(Failure::Refused("the capture is over 65,536 bytes; split it at ends of lines"))?;
+    let mut out = Output::new(rt.stdout(), &mut held);
+    judge(print(page, capture, &mut out).map_err(Failure::Unwritten)?)
 }
 
 // A single setting, and not none.
-fn start(rt: HostRuntime, text: &[u8]) {
-    if text.len() == 0 {
-        io::write_all(2, b"usage: there is no setting\n");
-        return;
+fn start(rt: HostRuntime, text: &[u8]) -> Result<(), Failure> {
+    if text.is_empty() {
+        return Err(Failure::Usage("there is no setting"));
     }
-    if laws::find(text, b'\n') < text.len() {
-        io::write_all(2, b"usage: one setting at a time\n");
-        return;
+    if text.contains(&b'\n') {
+        return Err(Failure::Usage("one setting at a time"));
     }
-    find(rt, text);
+    let mut room = [0; 4096];
+    match Page::of(text, &mut room) {
+        Ok(page) => check(rt, page),
+        Err(error) => {
+            page::tell(&rt, 1, text, error);
+            Ok(())
+        }
+    }
+}
+
+fn run(rt: HostRuntime) -> Result<(), Failure> {
+    let mut words = [0; 4096];
+    let used = settings::arguments(&rt, &mut words);
+    if used == words.len() {
+        return Err(Failure::Usage("the setting is over 4,095 bytes"));
+    }
+    settings::tidy(&mut words);
+    start(rt, settings::bare(lines::cut(&words, used)))
 }
 
 fn main(rt: HostRuntime) {
-    let mut words = io::buffer();
-    let n = settings::arguments(rt, &mut words);
-    if n == 4096 {
-        io::write_all(2, b"usage: the setting is over 4,095 bytes\n");
-        return;
+    if let Err(failure) = run(rt) {
+        let _ = eprintln!(rt; "{failure}");
     }
-    settings::tidy(&mut words);
-    start(rt, settings::bare(lines::cut(&words, n)));
 }

@@ -1,67 +1,53 @@
 // Request B: the bounds of an angle as floats, and its box on the page.
 use lonlat::{Latitude, Longitude};
-use numbers::Number;
 use position::{BoundsAnswer, PageBox};
+use words::{Reply, Words};
 
-fn put_bounds(b: BoundsAnswer, page: PageBox, out: &mut [u8], at: usize) -> usize {
-    let mut end = words::count(b"", b.refusal as usize, out, at);
-    end = words::float(b.bounds.lower, out, end);
-    end = words::float(b.bounds.upper, out, end);
-    end = words::number(b" ", page.from, out, end);
-    end = words::number(b" ", page.to, out, end);
-    words::count(b" box=", page.refusal as usize, out, end)
+fn put(b: BoundsAnswer, page: PageBox, reply: &mut Reply) {
+    reply.refusal(b.refusal);
+    reply.float(b.bounds.lower);
+    reply.float(b.bounds.upper);
+    reply.number(b" ", page.from);
+    reply.number(b" ", page.to);
+    reply.count(b" box=", usize::from(page.refusal));
 }
 
-// `[SIDE]`, with the space before it: 0 for the one letter, 1 for the other, 2 for any other text; left out, the angle's own, which
-// at 0 is the one.
-fn side(angle: i32, s: &[u8], one: &[u8], other: &[u8]) -> u8 {
-    if s.len() == 0 {
-        return (angle < 0) as u8;
+// `[SIDE]`, the angle's letter: whether it is the second of two; left out, it is the angle's own, which at 0 is the first.
+fn side(angle: i32, asked: Words, letters: [u8; 2]) -> Option<bool> {
+    if asked.is_over() {
+        return Some(angle < 0);
     }
-    words::either(lines::tail(s, 1), one, other)
-}
-
-fn latitude(angle: i32, blanks: u8, side: u8, out: &mut [u8], at: usize) -> usize {
-    if 1 < side {
-        return at;
+    let [first, second] = letters;
+    match asked.rest() {
+        [letter] if *letter == first => Some(false),
+        [letter] if *letter == second => Some(true),
+        _ => None,
     }
-    let bounds = position::latitude_bounds(Latitude(angle), blanks);
-    let page = position::latitude_box(Latitude(angle), blanks, side == 1);
-    put_bounds(bounds, page, out, at)
-}
-
-fn longitude(angle: i32, blanks: u8, side: u8, out: &mut [u8], at: usize) -> usize {
-    if 1 < side {
-        return at;
-    }
-    let bounds = position::longitude_bounds(Longitude(angle), blanks);
-    let page = position::longitude_box(Longitude(angle), blanks, side == 1);
-    put_bounds(bounds, page, out, at)
-}
-
-// `LIMIT [SIDE]`, the end of `B ANGLE BLANKS LIMIT [SIDE]`
-fn bounds_of(angle: i32, blanks: u8, s: &[u8], out: &mut [u8], at: usize) -> usize {
-    let which = words::either(lines::first(s), b"lat", b"lon");
-    let t = words::behind(s);
-    if which == 0 {
-        return latitude(angle, blanks, side(angle, t, b"N", b"S"), out, at);
-    }
-    if which == 1 {
-        return longitude(angle, blanks, side(angle, t, b"E", b"W"), out, at);
-    }
-    at
 }
 
 // `B ANGLE BLANKS LIMIT [SIDE]`
-pub fn answer(s: &[u8], out: &mut [u8], at: usize) -> usize {
-    let read = numbers::read_number(lines::first(s));
-    let Number::Is(angle) = read else {
-        return at;
+pub fn answer(mut asked: Words, reply: &mut Reply) -> Option<()> {
+    let angle = asked.number()?;
+    let blanks = asked.byte()?;
+    let (bounds, page) = match asked.next()? {
+        b"lat" => {
+            let south = side(angle, asked, [b'N', b'S'])?;
+            let latitude = Latitude(angle);
+            (
+                position::latitude_bounds(latitude, blanks),
+                position::latitude_box(latitude, blanks, south),
+            )
+        }
+        b"lon" => {
+            let west = side(angle, asked, [b'E', b'W'])?;
+            let longitude = Longitude(angle);
+            (
+                position::longitude_bounds(longitude, blanks),
+                position::longitude_box(longitude, blanks, west),
+            )
+        }
+        _ => return None,
     };
-    let s = lines::rest(s);
-    let blanks = words::byte(lines::first(s));
-    if 255 < blanks {
-        return at;
-    }
-    bounds_of(angle, blanks as u8, lines::rest(s), out, at)
+    put(bounds, page, reply);
+    Some(())
 }

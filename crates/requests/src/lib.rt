@@ -1,124 +1,102 @@
 // Any function asked by a line of text, and its answer in words: part of the programs inspect and bench. An answer starts with a
-// number, 0 or the refusal's; words `name=value` follow, but for lists, bounds and rows.
+// number, 0 or the refusal's; words `name=value` follow, but for lists, bounds and rows. A question that is none answers None, and
+// puts nothing.
 #![tactic(auto)]
 
 mod bounds;
 mod read;
 mod write;
 
-use words::Bytes;
+use buffer::Pieces;
+use words::{Reply, Words};
 
-// The questions. Those of docs/INSPECT.md, whose bytes are in hexadecimal:
-//   T, F, ST, SF, M, L, B, W
-// and the bench's own, whose bytes are plain, `%` and two hexadecimal digits for one that is not printed:
-//   text LINE, frame BYTES               as T and F; long N LINE: a line filled up with x to N bytes
-//   row NUMBER LINE                      the listing's row
-//   strict-text LINE, strict-frame BYTES, strict-row NUMBER LINE   the same by the strict entry
-//   latitude TEXT, longitude BLANKS TEXT read
-//   latitude-text ANGLE BLANKS, longitude-text ANGLE, information LONGITUDE SPEED COURSE   written
-//   motions SPEED COURSE ROOM, longitudes ANGLE OFFSET SIDE ROOM   as M and L, field by field
-//   callsign TEXT, address BYTES         read
-//   spelled CALL_LEN SSID_LEN BYTES      a callsign by its parts, written
-//   to, from, last-from, last-hop TEXT   the callsign's address as destination, source, last source, heard last hop
-//   time TEXT                            read
-//   time-text DAY HOUR MINUTE SECOND FORM   written; FORM is the byte behind the digits, %00 for no time
-fn question(word: &[u8]) -> usize {
-    words::place(
-        word,
-        b"T F ST SF M L B W text frame long row strict-text strict-frame strict-row latitude longitude latitude-text longitude-text information motions longitudes callsign address spelled to from last-from last-hop time time-text",
-    )
-}
-
-fn of_inspect(k: usize, s: &[u8], out: &mut [u8], at: usize) -> usize {
-    match k {
-        0 => read::answer(s, false, false, out, at),
-        1 => read::answer(s, true, false, out, at),
-        2 => read::answer(s, false, true, out, at),
-        3 => read::answer(s, true, true, out, at),
-        4 => leaves::motions(s, false, out, at),
-        5 => leaves::longitudes(s, false, out, at),
-        6 => bounds::answer(s, out, at),
-        _ => write::answer(s, out, at),
-    }
-}
-
-fn of_packets(k: usize, s: &[u8], out: &mut [u8], at: usize) -> usize {
-    match k {
-        8 => read::shown(s, false, false, true, out, at),
-        9 => read::shown(s, true, false, true, out, at),
-        10 => read::long(s, out, at),
-        11 => read::row(s, false, out, at),
-        12 => read::shown(s, false, true, true, out, at),
-        13 => read::shown(s, true, true, true, out, at),
-        _ => read::row(s, true, out, at),
-    }
-}
-
-fn of_angles(k: usize, s: &[u8], out: &mut [u8], at: usize) -> usize {
-    match k {
-        15 => leaves::latitude(s, out, at),
-        16 => leaves::longitude(s, out, at),
-        17 => leaves::latitude_text(s, out, at),
-        18 => leaves::longitude_text(s, out, at),
-        19 => leaves::information(s, out, at),
-        20 => leaves::motions(s, true, out, at),
-        _ => leaves::longitudes(s, true, out, at),
-    }
-}
-
-fn of_callsigns(k: usize, s: &[u8], out: &mut [u8], at: usize) -> usize {
-    match k {
-        22 => leaves::text(s, out, at),
-        23 => leaves::address(s, out, at),
-        24 => leaves::spelled(s, out, at),
-        25 => leaves::to(s, out, at),
-        26 => leaves::from(s, false, out, at),
-        27 => leaves::from(s, true, out, at),
-        _ => leaves::last_hop(s, out, at),
-    }
-}
-
-fn of_times(k: usize, s: &[u8], out: &mut [u8], at: usize) -> usize {
-    match k {
-        29 => leaves::time(s, out, at),
-        30 => leaves::time_text(s, out, at),
-        _ => at,
-    }
-}
-
-// The answer to one of the bench's own questions.
-fn of_bench(k: usize, s: &[u8], out: &mut [u8], at: usize) -> usize {
-    let mut bytes = io::buffer();
-    let read = words::plain(s, &mut bytes);
-    let Bytes::Are(n) = read else {
-        return at;
-    };
-    let s = lines::cut(&bytes, n);
-    if k < 15 {
-        return of_packets(k, s, out, at);
-    }
-    if k < 22 {
-        return of_angles(k, s, out, at);
-    }
-    if k < 29 {
-        return of_callsigns(k, s, out, at);
-    }
-    of_times(k, s, out, at)
-}
-
-// Puts the answer to a request behind the first `at` bytes of out, and answers the place after it; none, and so the place `at`
-// itself, to a request that is none. Those of docs/INSPECT.md alone are answered, or all.
-pub fn answer(request: &[u8], all: bool, out: &mut [u8], at: usize) -> usize {
+// Puts the answer to a request, of at most 4,096 bytes. The questions of docs/INSPECT.md alone are answered, whose bytes are in
+// hexadecimal, or the bench's own too.
+pub fn answer(request: &[u8], all: bool, out: &mut Pieces) -> Option<()> {
     if 4096 < request.len() {
-        return at;
+        return None;
     }
-    let k = question(lines::first(request));
-    let rest = lines::rest(request);
-    if k < 8 {
-        return of_inspect(k, rest, out, at);
+    let mut asked = Words::of(request);
+    let question = asked.next()?;
+    let mut reply = Reply::behind(out, false);
+    match question {
+        b"T" => read::answer(asked.rest(), false, false, &mut reply),
+        b"F" => read::answer(asked.rest(), true, false, &mut reply),
+        b"ST" => read::answer(asked.rest(), false, true, &mut reply),
+        b"SF" => read::answer(asked.rest(), true, true, &mut reply),
+        b"M" => leaves::motions(asked, &mut reply),
+        b"L" => leaves::longitudes(asked, &mut reply),
+        b"B" => bounds::answer(asked, &mut reply),
+        b"W" => write::answer(asked, &mut reply),
+        _ if all => of_bench(question, asked.rest(), &mut reply),
+        _ => None,
     }
-    if all {
-        return of_bench(k, rest, out, at);
+}
+
+// ---- the bench's own questions
+
+// Their bytes are plain, `%` and two hexadecimal digits for one that is not printed.
+fn of_bench(question: &[u8], spelled: &[u8], reply: &mut Reply) -> Option<()> {
+    let mut room = [0u8; 4096];
+    let text = words::plain(spelled, &mut room)?;
+    reply.plain = true;
+    of_packets(question, text, reply)
+}
+
+// `text LINE`, `frame BYTES` as T and F; `row NUMBER LINE`, the listing's row; the same by the strict entry; `long N LINE`, a line filled
+// up with x to N bytes.
+fn of_packets(question: &[u8], text: &[u8], reply: &mut Reply) -> Option<()> {
+    match question {
+        b"text" => read::shown(text, false, false, reply),
+        b"frame" => read::shown(text, true, false, reply),
+        b"long" => read::long(Words::of(text), reply)?,
+        b"row" => read::row(Words::of(text), false, reply)?,
+        b"strict-text" => read::shown(text, false, true, reply),
+        b"strict-frame" => read::shown(text, true, true, reply),
+        b"strict-row" => read::row(Words::of(text), true, reply)?,
+        _ => return of_angles(question, text, reply),
     }
-    at
+    Some(())
+}
+
+// `latitude TEXT`, `longitude BLANKS TEXT` read; `latitude-text ANGLE BLANKS`, `longitude-text ANGLE`, `information LONGITUDE SPEED
+// COURSE` written; `motions SPEED COURSE ROOM`, `longitudes ANGLE OFFSET SIDE ROOM` as M and L, field by field.
+fn of_angles(question: &[u8], text: &[u8], reply: &mut Reply) -> Option<()> {
+    match question {
+        b"latitude" => leaves::latitude(text, reply),
+        b"longitude" => leaves::longitude(Words::of(text), reply)?,
+        b"latitude-text" => leaves::latitude_text(Words::of(text), reply)?,
+        b"longitude-text" => leaves::longitude_text(text, reply)?,
+        b"information" => leaves::information(Words::of(text), reply)?,
+        b"motions" => leaves::motions(Words::of(text), reply)?,
+        b"longitudes" => leaves::longitudes(Words::of(text), reply)?,
+        _ => return of_callsigns(question, text, reply),
+    }
+    Some(())
+}
+
+// `callsign TEXT`, `address BYTES` read; `spelled CALL_LEN SSID_LEN BYTES`, a callsign by its parts, written; `to`, `from`, `last-from`,
+// `last-hop TEXT`, the callsign's address as destination, source, last source, heard last hop.
+fn of_callsigns(question: &[u8], text: &[u8], reply: &mut Reply) -> Option<()> {
+    match question {
+        b"callsign" => leaves::text(text, reply),
+        b"address" => leaves::address(text, reply),
+        b"spelled" => leaves::spelled(Words::of(text), reply)?,
+        b"to" => leaves::to(text, reply),
+        b"from" => leaves::from(text, false, reply),
+        b"last-from" => leaves::from(text, true, reply),
+        b"last-hop" => leaves::last_hop(text, reply),
+        _ => return of_times(question, text, reply),
+    }
+    Some(())
+}
+
+// `time TEXT` read; `time-text DAY HOUR MINUTE SECOND FORM` written, FORM the byte behind the digits, %00 for no time.
+fn of_times(question: &[u8], text: &[u8], reply: &mut Reply) -> Option<()> {
+    match question {
+        b"time" => leaves::time(text, reply),
+        b"time-text" => leaves::time_text(Words::of(text), reply)?,
+        _ => return None,
+    }
+    Some(())
 }

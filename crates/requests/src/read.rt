@@ -1,53 +1,40 @@
 // A line or a frame read and shown; and the listing's row of a line.
-use numbers::Count;
-use words::Bytes;
+use words::{Reply, Words};
 
 // What a line, or a frame, reads as, as usually or strictly.
-pub fn shown(
-    line: &[u8],
-    framed: bool,
-    strict: bool,
-    plain: bool,
-    out: &mut [u8],
-    at: usize,
-) -> usize {
+pub fn shown(line: &[u8], framed: bool, strict: bool, reply: &mut Reply) {
     let read = packet::read(line, framed, strict);
     if read.refusal != 0 {
-        return words::refusal(read.refusal, out, at);
+        reply.refusal(read.refusal);
+        return;
     }
-    show::record(read.record, line, plain, out, at)
+    show::record(read.record, line, reply);
 }
 
 // `T HEX` and `F HEX`; strictly `ST HEX` and `SF HEX`
-pub fn answer(s: &[u8], framed: bool, strict: bool, out: &mut [u8], at: usize) -> usize {
-    let mut bytes = [0u8; 2048];
-    let read = words::hex(s, &mut bytes);
-    let Bytes::Are(n) = read else {
-        return at;
-    };
-    shown(lines::cut(&bytes, n), framed, strict, false, out, at)
+pub fn answer(digits: &[u8], framed: bool, strict: bool, reply: &mut Reply) -> Option<()> {
+    let mut room = [0u8; 2048];
+    let bytes = words::hex(digits, &mut room)?;
+    shown(bytes, framed, strict, reply);
+    Some(())
 }
 
 // `long N LINE`: a line filled up with x to N bytes.
-pub fn long(s: &[u8], out: &mut [u8], at: usize) -> usize {
-    let read = numbers::read_count(lines::first(s), 1024);
-    let Count::Is(n) = read else {
-        return at;
-    };
+pub fn long(mut asked: Words, reply: &mut Reply) -> Option<()> {
+    let n = asked.count_to(1024)?;
     let mut bytes = [b'x'; 1024];
-    buffer::write(lines::rest(s), &mut bytes);
-    shown(lines::cut(&bytes, n as usize), false, false, true, out, at)
+    buffer::write(asked.rest(), &mut bytes);
+    shown(lines::cut(&bytes, n as usize), false, false, reply);
+    Some(())
 }
 
 // `row NUMBER LINE` and `strict-row NUMBER LINE`: what the writer answers, and the row without its LF.
-pub fn row(s: &[u8], strict: bool, out: &mut [u8], at: usize) -> usize {
-    let read = numbers::read_count(lines::first(s), 0xffff_ffff);
-    let Count::Is(number) = read else {
-        return at;
-    };
+pub fn row(mut asked: Words, strict: bool, reply: &mut Reply) -> Option<()> {
+    let number = asked.count_to(u32::MAX)? as usize;
     let mut bytes = [0u8; 256];
-    let w = row::write_row(number as usize, lines::rest(s), strict, &mut bytes);
-    let mut end = words::refusal(w.refusal, out, at);
-    end = buffer::put_byte(b' ', out, end);
-    buffer::put(lines::cut(&bytes, laws::find(&bytes, b'\n')), out, end)
+    let w = row::write_row(number, asked.rest(), strict, &mut bytes);
+    reply.refusal(w.refusal);
+    reply.put(b" ");
+    reply.put(lines::cut(&bytes, laws::find(&bytes, b'\n')));
+    Some(())
 }

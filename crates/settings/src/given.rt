@@ -1,32 +1,33 @@
 // The program's arguments, as one text.
-use std::env::{Env, FillError};
+ghost use Rattle.std.specs.Prelude.{◌≤◌, length};
 
-// Whether there is an argument i.
-pub fn is_given(rt: HostRuntime, i: usize) -> bool {
-    let mut word = [0u8; 1];
-    !matches!(rt.arg(i, &mut word), Err(FillError::NotPresent))
-}
+use std::env::Env;
 
-// Puts argument i and a space behind the first `at` bytes of input. Where it does not fit, all of input counts as used.
-fn add(rt: HostRuntime, i: usize, input: &mut [u8], at: usize) -> usize {
-    let most = input.len();
-    if most < at {
-        return most;
-    }
-    match rt.arg(i, &mut input[at..]) {
-        Ok(n) => buffer::put_byte(b' ', input, at + n),
-        Err(_) => most,
-    }
-}
-
-// Puts the arguments to the front of input; answers how many bytes they are.
-pub fn arguments(rt: HostRuntime, input: &mut [u8]) -> usize {
-    let mut at: usize = 0;
+// Puts the arguments to the front of input, a space behind each; answers how many bytes they are. Where one does not fit, all of input
+// counts as used.
+pub fn arguments(rt: &impl Env, input: &mut [u8]) -> usize {
+    let mut used = 0;
     for i in 1..usize::MAX {
-        if !is_given(rt, i) {
-            return at;
+        if !stream::is_given(rt, i) {
+            break;
         }
-        at = add(rt, i, input, at);
+        used = add(rt, i, input, used);
     }
-    at
+    used
+}
+
+// Puts argument i behind the bytes that are used.
+fn add(rt: &impl Env, i: usize, input: &mut [u8], used: usize) -> usize
+    requires { used ≤ length input.old }
+    ensures { result ≤ length input.new }
+{
+    let most = input.len();
+    let free = &mut input[used..];
+    match rt.arg(i, free) {
+        Ok(n) if n < free.len() => {
+            free[n] = b' ';
+            used + n + 1
+        }
+        _ => most,
+    }
 }

@@ -10,147 +10,118 @@ use mic_e::Message;
 use packet::Record;
 use position::Place;
 use time::Time;
+use words::Reply;
 
 // The answer 0 and the kind.
-fn kind(k: Kind, out: &mut [u8], at: usize) -> usize {
-    match k {
-        Kind::Unknown => buffer::put(b"0 unknown", out, at),
-        Kind::Position => buffer::put(b"0 position", out, at),
-        Kind::MicE => buffer::put(b"0 mic-e", out, at),
-        Kind::Message => buffer::put(b"0 message", out, at),
-        Kind::Status => buffer::put(b"0 status", out, at),
+fn kind(k: Kind, reply: &mut Reply) {
+    reply.put(match k {
+        Kind::Unknown => b"0 unknown",
+        Kind::Position => b"0 position",
+        Kind::MicE => b"0 mic-e",
+        Kind::Message => b"0 message",
+        Kind::Status => b"0 status",
+    });
+}
+
+// One hop: a Q element by its bare name, a callsign with a star behind it if it was heard.
+fn hop(h: Hop, reply: &mut Reply) {
+    if h.kind == header::Q_ELEMENT {
+        let text = h.call.text;
+        reply.put(lines::cut(&text, callsign::text_len(h.call)));
+        return;
+    }
+    reply.call(b"", h.call);
+    if h.kind == header::HEARD {
+        reply.put(b"*");
     }
 }
 
-// One hop, a comma before it unless it is the first: a Q element by its bare name, a callsign with a star behind it if it was heard.
-fn hop(h: Hop, first: bool, plain: bool, out: &mut [u8], at: usize) -> usize {
-    let named = h.kind == header::Q_ELEMENT;
-    let heard = h.kind == header::HEARD;
-    let comma = lines::cut(b",", !first as usize);
-    let end = words::call(comma, h.call, plain | named, out, at);
-    buffer::put(lines::cut(b"*", heard as usize), out, end)
-}
-
-fn hops(label: &[u8], path: Path, plain: bool, out: &mut [u8], at: usize) -> usize {
-    let mut end = buffer::put(label, out, at);
-    if path.count == 0 {
-        return buffer::put_byte(b'-', out, end);
+// The hops with a comma between two, or a dash for none.
+fn path(label: &[u8], p: Path, reply: &mut Reply) {
+    reply.put(label);
+    if p.count == 0 {
+        reply.put(b"-");
     }
-    let mut i: usize = 0;
-    while i < 8 {
-        if path.count <= i {
-            return end;
+    for (i, h) in p.hops.iter().take(p.count).enumerate() {
+        if 0 < i {
+            reply.put(b",");
         }
-        let h = path.hops[i];
-        end = hop(h, i == 0, plain, out, end);
-        i += 1;
+        hop(*h, reply);
     }
-    end
 }
 
-// Callsigns and hops of the outermost header.
-fn header(h: Header, plain: bool, out: &mut [u8], at: usize) -> usize {
-    let from = h.from;
-    let to = h.to;
-    let path = h.path;
-    let mut end = words::call(b" from=", from, plain, out, at);
-    end = words::call(b" to=", to, plain, out, end);
-    hops(b" hops=", path, plain, out, end)
+// Callsigns and hops of a header, each behind its label.
+fn header(h: Header, labels: [&[u8]; 3], reply: &mut Reply) {
+    let [from, to, hops] = labels;
+    reply.call(from, h.from);
+    reply.call(to, h.to);
+    path(hops, h.path, reply);
 }
 
 // Latitude, longitude and blanks.
-fn place(p: Place, out: &mut [u8], at: usize) -> usize {
-    let mut end = words::number(b" lat=", p.latitude.0, out, at);
-    end = words::number(b" lon=", p.longitude.0, out, end);
-    words::count(b" blanks=", p.blanks as usize, out, end)
+fn place(p: Place, reply: &mut Reply) {
+    reply.number(b" lat=", p.latitude.0);
+    reply.number(b" lon=", p.longitude.0);
+    reply.count(b" blanks=", usize::from(p.blanks));
 }
 
 // The symbol, and the flag: a position that takes messages, or current Mic-E.
-fn symbol(p: Place, flag: bool, out: &mut [u8], at: usize) -> usize {
-    let mut end = words::count(b" table=", p.table as usize, out, at);
-    end = words::count(b" code=", p.code as usize, out, end);
-    words::count(b" flag=", flag as usize, out, end)
-}
-
-fn message(m: Message, out: &mut [u8], at: usize) -> usize {
-    let n = mic_e::message_number(m);
-    if n < 14 {
-        let names = b"M0M1M2M3M4M5M6C0C1C2C3C4C5C6";
-        let from = (n as usize) * 2;
-        return buffer::put(lines::cut(lines::tail(names, from), 2), out, at);
-    }
-    if n == 14 {
-        return buffer::put(b"emergency", out, at);
-    }
-    buffer::put(b"unknown", out, at)
+fn symbol(p: Place, flag: bool, reply: &mut Reply) {
+    reply.count(b" table=", usize::from(p.table));
+    reply.count(b" code=", usize::from(p.code));
+    reply.count(b" flag=", usize::from(flag));
 }
 
 // What a Mic-E report says; no other kind does.
-fn message_of(k: Kind, m: Message, out: &mut [u8], at: usize) -> usize {
-    let end = buffer::put(b" message=", out, at);
-    match k {
-        Kind::MicE => message(m, out, end),
-        _ => buffer::put_byte(b'-', out, end),
-    }
+#[tactic(auto, unfolding(mic_e::specs::Message::message_number))]
+fn message(k: Kind, m: Message, reply: &mut Reply) {
+    reply.put(b" message=");
+    reply.put(match k {
+        Kind::MicE => words::MESSAGES[usize::from(mic_e::message_number(m))],
+        _ => b"-",
+    });
 }
 
 // Speed and course.
-fn motion(r: Report, out: &mut [u8], at: usize) -> usize {
-    let end = words::count(b" speed=", r.speed.0 as usize, out, at);
-    words::count(b" course=", r.course.0 as usize, out, end)
+fn motion(r: Report, reply: &mut Reply) {
+    reply.count(b" speed=", r.speed.0 as usize);
+    reply.count(b" course=", r.course.0 as usize);
 }
 
 // The place and length of a part of the input.
-fn span(label: &[u8], s: Span, out: &mut [u8], at: usize) -> usize {
-    let end = words::count(label, s.at, out, at);
-    words::count(b"+", s.len, out, end)
+fn span(label: &[u8], s: Span, reply: &mut Reply) {
+    reply.count(label, s.at);
+    reply.count(b"+", s.len);
 }
 
 // What stands behind the header.
-fn body(b: Body, out: &mut [u8], at: usize) -> usize {
-    let p = b.place;
-    let report = b.report;
-    let k = b.kind;
-    let word = report.message;
-    let mut end = place(p, out, at);
-    end = symbol(p, b.messaging | report.current, out, end);
-    end = message_of(k, word, out, end);
-    end = motion(report, out, end);
-    span(b" comment=", b.comment, out, end)
+fn body(b: Body, reply: &mut Reply) {
+    place(b.place, reply);
+    symbol(b.place, b.messaging || b.report.current, reply);
+    message(b.kind, b.report.message, reply);
+    motion(b.report, reply);
+    span(b" comment=", b.comment, reply);
 }
 
 // ---- written again
 
 // What a writer answered, and what it wrote.
-fn written(
-    label: &[u8],
-    w: buffer::Answer,
-    bytes: &[u8],
-    plain: bool,
-    out: &mut [u8],
-    at: usize,
-) -> usize {
-    let end = words::count(label, w.refusal as usize, out, at);
-    if w.refusal != 0 {
-        return buffer::put(b":-", out, end);
+fn written(label: &[u8], w: buffer::Answer, bytes: &[u8], reply: &mut Reply) {
+    reply.count(label, usize::from(w.refusal));
+    if w.refusal == 0 {
+        reply.bytes(b":", lines::cut(bytes, w.reported));
+    } else {
+        reply.put(b":-");
     }
-    words::labelled(b":", lines::cut(bytes, w.reported), plain, out, end)
 }
 
 // The record written again, both ways, with the comment, or the text and the identifier, that it was read with.
-fn again(
-    r: Record,
-    comment: &[u8],
-    identifier: &[u8],
-    plain: bool,
-    out: &mut [u8],
-    at: usize,
-) -> usize {
+fn again(r: Record, comment: &[u8], identifier: &[u8], reply: &mut Reply) {
     let mut bytes = [0u8; 512];
     let w = packet::write_text(r, comment, identifier, &mut bytes);
-    let end = written(b" text=", w, &bytes, plain, out, at);
+    written(b" text=", w, &bytes, reply);
     let w = packet::write_frame(r, comment, identifier, &mut bytes);
-    written(b" frame=", w, &bytes, plain, out, end)
+    written(b" frame=", w, &bytes, reply);
 }
 
 fn part(s: Span, line: &[u8]) -> &[u8] {
@@ -159,111 +130,93 @@ fn part(s: Span, line: &[u8]) -> &[u8] {
 
 // ---- words of the change requests, in their order
 
-fn sides(p: Place, out: &mut [u8], at: usize) -> usize {
-    let end = words::side(p.south, b"N", b"S", out, at);
-    words::side(p.west, b"E", b"W", out, end)
-}
-
 // The letters of both angles, as they were read; only a kind with a position has them.
-fn letters(k: Kind, p: Place, out: &mut [u8], at: usize) -> usize {
-    let end = buffer::put(b" letters=", out, at);
+fn letters(k: Kind, p: Place, reply: &mut Reply) {
+    reply.put(b" letters=");
     match k {
-        Kind::Position => sides(p, out, end),
-        Kind::MicE => sides(p, out, end),
-        _ => buffer::put(b"--", out, end),
+        Kind::Position | Kind::MicE => {
+            reply.side(p.south, b"N", b"S");
+            reply.side(p.west, b"E", b"W");
+        }
+        _ => reply.put(b"--"),
     }
 }
 
 // 1 where the text of a callsign had the SSID `0`.
-fn zero(c: Callsign, out: &mut [u8], at: usize) -> usize {
-    words::side(c.had_zero_ssid, b"0", b"1", out, at)
-}
-
-fn hop_zeros(path: Path, out: &mut [u8], at: usize) -> usize {
-    let mut end = at;
-    let mut i: usize = 0;
-    while i < 8 {
-        if path.count <= i {
-            return end;
-        }
-        let h = path.hops[i];
-        end = zero(h.call, out, end);
-        i += 1;
-    }
-    end
+fn zero(c: Callsign, reply: &mut Reply) {
+    reply.side(c.had_zero_ssid, b"0", b"1");
 }
 
 // A digit for the source, one for the destination and one for each hop.
-fn zeros(label: &[u8], h: Header, out: &mut [u8], at: usize) -> usize {
-    let mut end = buffer::put(label, out, at);
-    end = zero(h.from, out, end);
-    end = zero(h.to, out, end);
-    hop_zeros(h.path, out, end)
+fn zeros(label: &[u8], h: Header, reply: &mut Reply) {
+    reply.put(label);
+    zero(h.from, reply);
+    zero(h.to, reply);
+    for hop in h.path.hops.iter().take(h.path.count) {
+        zero(hop.call, reply);
+    }
 }
 
 // The time as a packet has it; a dash for none.
-fn time(t: Time, out: &mut [u8], at: usize) -> usize {
+fn time(t: Time, reply: &mut Reply) {
     let mut text = [0u8; 7];
     let w = time::write_time(t, &mut text);
-    words::labelled(b" time=", lines::cut(&text, w.reported), true, out, at)
+    reply.put(b" time=");
+    reply.put(if w.reported == 0 {
+        b"-"
+    } else {
+        lines::cut(&text, w.reported)
+    });
 }
 
-// How many bytes of an addressee stand before the spaces that it ends in.
-fn unpadded(addressee: [u8; 9]) -> usize {
-    let mut n: usize = 9;
-    while 0 < n {
-        if addressee[n - 1] != b' ' {
-            return n;
-        }
-        n -= 1;
+// A text without the spaces that it ends in.
+fn unpadded(padded: &[u8]) -> &[u8] {
+    let mut text = padded;
+    while let [front @ .., b' '] = text {
+        text = front;
     }
-    n
+    text
 }
 
 // The addressee without those spaces; only a message has one.
-fn addressee(k: Kind, a: [u8; 9], plain: bool, out: &mut [u8], at: usize) -> usize {
-    let n = unpadded(a);
-    match k {
-        Kind::Message => words::labelled(b" addressee=", lines::cut(&a, n), plain, out, at),
-        _ => buffer::put(b" addressee=-", out, at),
-    }
+fn addressee(k: Kind, addressee: [u8; 9], reply: &mut Reply) {
+    reply.bytes(
+        b" addressee=",
+        match k {
+            Kind::Message => unpadded(&addressee),
+            _ => b"",
+        },
+    );
 }
 
 // The words of a header and a body.
-fn requested(h: Header, b: Body, plain: bool, out: &mut [u8], at: usize) -> usize {
-    let k = b.kind;
-    let a = b.addressee;
-    let mut end = letters(k, b.place, out, at);
-    end = zeros(b" zeros=", h, out, end);
-    end = time(b.time, out, end);
-    end = addressee(k, a, plain, out, end);
-    span(b" id=", b.identifier, out, end)
+fn requested(h: Header, b: Body, reply: &mut Reply) {
+    letters(b.kind, b.place, reply);
+    zeros(b" zeros=", h, reply);
+    time(b.time, reply);
+    addressee(b.kind, b.addressee, reply);
+    span(b" id=", b.identifier, reply);
 }
 
 // How many packets are inside, and the innermost header, which is blank where there is none. The words of a later request go behind
 // them.
-fn inside(inner: u8, h: Header, plain: bool, out: &mut [u8], at: usize) -> usize {
-    let from = h.from;
-    let to = h.to;
-    let path = h.path;
-    let mut end = words::count(b" inner=", inner as usize, out, at);
-    end = words::call(b" inner-from=", from, plain, out, end);
-    end = words::call(b" inner-to=", to, plain, out, end);
-    end = hops(b" inner-hops=", path, plain, out, end);
-    zeros(b" inner-zeros=", h, out, end)
+fn inside(inner: u8, h: Header, reply: &mut Reply) {
+    reply.count(b" inner=", usize::from(inner));
+    header(h, [b" inner-from=", b" inner-to=", b" inner-hops="], reply);
+    zeros(b" inner-zeros=", h, reply);
 }
 
 // A record in words, from the answer 0 on.
-pub fn record(r: Record, line: &[u8], plain: bool, out: &mut [u8], at: usize) -> usize {
-    let h = r.header;
-    let b = r.body;
-    let k = b.kind;
-    let text = part(b.comment, line);
-    let identifier = part(b.identifier, line);
-    let mut end = kind(k, out, at);
-    end = header(h, plain, out, end);
-    end = body(b, out, end);
-    end = again(r, text, identifier, plain, out, end);
-    end = requested(h, b, plain, out, end);
-    inside(r.inner, r.innermost, plain, out, end)
+pub fn record(r: Record, line: &[u8], reply: &mut Reply) {
+    kind(r.body.kind, reply);
+    header(r.header, [b" from=", b" to=", b" hops="], reply);
+    body(r.body, reply);
+    again(
+        r,
+        part(r.body.comment, line),
+        part(r.body.identifier, line),
+        reply,
+    );
+    requested(r.header, r.body, reply);
+    inside(r.inner, r.innermost, reply);
 }

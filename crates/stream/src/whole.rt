@@ -1,72 +1,28 @@
-// Standard input read whole, and a read that fails told from its end.
-use std::io::{Error, Read, Stdin};
+// An input read whole.
+ghost use Rattle.std.specs.Prelude.{◌≤◌, length, IfOk};
 
-// What was read: how many bytes, whether there is more, and why a read failed, if one did.
-#[derive(Clone, Copy)]
-pub struct Whole {
-    pub held: usize,
-    pub more: bool,
-    pub failed: Option<Error>,
-}
+use std::io::{Read, Result};
 
-// Reads once behind the bytes held.
-fn fill(mut from: Stdin, input: &mut [u8], held: usize) -> Whole {
-    let mut s = Whole {
-        held,
-        more: false,
-        failed: None,
-    };
-    if input.len() <= held {
-        return s;
-    }
-    match from.read(&mut input[held..]) {
-        Ok(n) => {
-            s.more = 0 < n;
-            s.held = held + n;
+// Reads until buffer is full or the input ends; answers how many bytes that are, at the front of buffer.
+pub fn read_full(from: &mut impl Read, buffer: &mut [u8]) -> Result<usize>
+    ensures { IfOk result (λ held. held ≤ length buffer.new) }
+{
+    let mut held = 0;
+    while held < buffer.len() {
+        let n = from.read(&mut buffer[held..])?;
+        if n == 0 {
+            break;
         }
-        Err(e) => s.failed = Some(e),
+        held += n;
     }
-    s
+    Ok(held)
 }
 
-// Reads until input is full, standard input ends or a read fails. Each turn reads a byte at least.
-pub fn gather(from: Stdin, input: &mut [u8]) -> Whole {
-    let mut s = Whole {
-        held: 0,
-        more: true,
-        failed: None,
-    };
-    let mut turns = input.len();
-    while 0 < turns {
-        turns -= 1;
-        s = fill(from, input, s.held);
-        if !s.more {
-            return s;
-        }
+// All bytes of an input, in buffer; none where they are more than that holds.
+pub fn read_all<'a>(from: &mut impl Read, buffer: &'a mut [u8]) -> Result<Option<&'a [u8]>> {
+    let held = read_full(from, buffer)?;
+    if held == buffer.len() && read_full(from, &mut [0])? != 0 {
+        return Ok(None);
     }
-    s
-}
-
-// What stands behind an input of `room` bytes of which so many are held: something only if it is full.
-fn beyond(from: Stdin, room: usize, held: usize) -> Whole {
-    let mut one = [0u8; 1];
-    if held < room {
-        return Whole {
-            held: 0,
-            more: false,
-            failed: None,
-        };
-    }
-    gather(from, &mut one)
-}
-
-// Reads all of standard input, and looks whether there is more than input holds.
-pub fn read_all(from: Stdin, input: &mut [u8]) -> Whole {
-    let read = gather(from, input);
-    let rest = beyond(from, input.len(), read.held);
-    Whole {
-        held: read.held,
-        more: 0 < rest.held,
-        failed: read.failed.or(rest.failed),
-    }
+    Ok(Some(&buffer[..held]))
 }

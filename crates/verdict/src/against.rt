@@ -1,85 +1,44 @@
 // A packet held against a page.
-use settings::Setting;
+use page::Page;
+use settings::{Setting, Way};
+use std::fmt;
+use std::fmt::{Display, Formatter};
 
-// What a page asks of a packet beside its field: where that starts, counted from the type byte; and for a longitude the offset
-// and the direction.
-#[derive(Clone, Copy)]
-pub struct Page {
-    pub field: usize,
-    pub lying: bool,
-    pub hundred: bool,
-    pub west: bool,
-}
-
-pub fn page_of(asked: Setting) -> Page {
-    match asked {
-        Setting::Lying(_, hundred, west) => Page {
-            field: 1,
-            lying: true,
-            hundred,
-            west,
-        },
-        _ => Page {
-            field: 4,
-            lying: false,
-            hundred: false,
-            west: false,
-        },
-    }
-}
-
-// The first n fields of found, or all.
-pub fn first(found: &[u8], n: usize) -> &[u8] {
-    if found.len() / 3 < n {
-        return found;
-    }
-    lines::cut(found, 3 * n)
-}
-
-// The field at a place of a line; zeros, which are no field, where the line ends before.
-pub fn field_at(line: &[u8], at: usize) -> [u8; 3] {
-    let s = lines::tail(line, at);
-    if s.len() < 3 {
-        return [0; 3];
-    }
-    [s[0], s[1], s[2]]
-}
-
-// Whether a field is one of those found.
-fn is_found(field: [u8; 3], found: &[u8]) -> bool {
-    let mut i: usize = 0;
-    while i < found.len() / 3 {
-        let here = field_at(found, 3 * i);
-        if check::same(&here, &field) {
-            return true;
-        }
-        i += 1;
-    }
-    false
-}
-
-// Whether a packet with that offset and direction is one of the page's.
-fn is_under(page: Page, hundred: bool, west: bool) -> bool {
-    if page.lying {
-        return (hundred == page.hundred) & (west == page.west);
-    }
-    true
-}
-
-// What is said of a packet. Elsewhere: under the offset (whether it is 100) and the direction (whether it is west) of its own.
+// What is said of a packet. Elsewhere: its destination says another way than the page's.
 #[derive(Clone, Copy)]
 pub enum Verdict {
     OnPage,
     NotOnPage,
-    Elsewhere(bool, bool),
+    Elsewhere(Way),
 }
 
-pub fn verdict_of(page: Page, found: &[u8], field: [u8; 3], hundred: bool, west: bool) -> Verdict {
-    if !is_under(page, hundred, west) {
-        return Verdict::Elsewhere(hundred, west);
+// The field of a body that a page asks for; zeros, which are no field, where the body ends before.
+pub fn field_of(page: Page<'_>, body: &[u8]) -> [u8; 3] {
+    let at = match page.setting {
+        Setting::Lying(_, _) => 1,
+        Setting::Moving(_, _) => 4,
+    };
+    match lines::tail(body, at) {
+        [a, b, c, ..] => [*a, *b, *c],
+        _ => [0; 3],
     }
-    if is_found(field, found) {
-        return Verdict::OnPage;
+}
+
+// What is said of a packet with that field, sent in that way.
+pub fn verdict_of(page: Page<'_>, field: [u8; 3], way: Way) -> Verdict {
+    match page.setting {
+        Setting::Lying(_, asked) if asked != way => Verdict::Elsewhere(way),
+        _ if page.fields.contains(&field) => Verdict::OnPage,
+        _ => Verdict::NotOnPage,
     }
-    Verdict::NotOnPage
+}
+
+impl Display for Verdict {
+    fn fmt<W: fmt::Write>(&self, f: &mut Formatter<W>) -> fmt::Result {
+        match *self {
+            Verdict::OnPage => f.write_str("on the page"),
+            Verdict::NotOnPage => f.write_str("not on the page"),
+            Verdict::Elsewhere(way) => write!(f, "not on the page: its destination says {way}"),
+        }
+    }
 }

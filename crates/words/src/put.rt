@@ -1,112 +1,115 @@
-// The pieces of an answer: a piece goes behind the first `at` bytes of out, and the place after it is answered. What does
-// not fit is left out; the programs keep more room than any answer takes.
+// The reply to a request, piece by piece. What does not fit is left out; the programs keep more room than any reply takes.
+use buffer::{Answer, Pieces};
 use callsign::Callsign;
 
-// A label, and a number that has no sign.
-pub fn count(label: &[u8], n: usize, out: &mut [u8], at: usize) -> usize {
-    let end = buffer::put(label, out, at);
-    numbers::put_count(n, out, end)
+// The pieces so far, and how bytes of a packet are spelled in those that follow: plain, or each as two hexadecimal digits. In plain a
+// printed character stands as it is; any other byte, a space and a `%` is `%` and two hexadecimal digits.
+#[derive(Drop)]
+pub struct Reply<'r, 'a> {
+    pieces: &'r mut Pieces<'a>,
+    pub plain: bool,
 }
 
-// A label, and a number that may have one.
-pub fn number(label: &[u8], n: i32, out: &mut [u8], at: usize) -> usize {
-    let end = buffer::put(label, out, at);
-    numbers::put_number(n, out, end)
-}
-
-// The number that an answer starts with: 0, or the refusal's.
-pub fn refusal(n: u8, out: &mut [u8], at: usize) -> usize {
-    numbers::put_count(n as usize, out, at)
-}
-
-// One byte. In plain: a printed character as it stands; any other byte, a space and a `%` as `%` and two hexadecimal digits. Else
-// two hexadecimal digits.
-fn byte(b: u8, plain: bool, out: &mut [u8], at: usize) -> usize {
-    if !plain {
-        return numbers::put_hex(b, out, at);
+impl<'r, 'a> Reply<'r, 'a> {
+    // The reply whose pieces go behind those that are there.
+    pub fn behind(pieces: &'r mut Pieces<'a>, plain: bool) -> Reply<'r, 'a> {
+        Reply { pieces, plain }
     }
-    if b'!' <= b {
-        if b <= b'~' {
-            if b != b'%' {
-                return buffer::put_byte(b, out, at);
-            }
+
+    // A text as it stands.
+    pub fn put(&mut self, text: &[u8]) {
+        self.pieces.put(text);
+    }
+
+    // A number that has no sign.
+    pub fn count(&mut self, label: &[u8], n: usize) {
+        self.put(label);
+        numbers::put_count(n, self.pieces);
+    }
+
+    // A number that may have one.
+    pub fn number(&mut self, label: &[u8], n: i32) {
+        self.put(label);
+        numbers::put_number(n, self.pieces);
+    }
+
+    // The number that a reply starts with: 0, or the refusal's.
+    pub fn refusal(&mut self, n: u8) {
+        self.count(b"", usize::from(n));
+    }
+
+    // One text, or the other.
+    pub fn side(&mut self, other: bool, one: &[u8], two: &[u8]) {
+        self.put(if other { two } else { one });
+    }
+
+    // One byte of a packet.
+    fn byte(&mut self, b: u8) {
+        if self.plain && b.is_ascii_graphic() && b != b'%' {
+            self.pieces.put_byte(b);
+            return;
+        }
+        if self.plain {
+            self.pieces.put_byte(b'%');
+        }
+        numbers::put_hex(b, self.pieces);
+    }
+
+    // Bytes of a packet, or a dash for none.
+    pub fn bytes(&mut self, label: &[u8], s: &[u8]) {
+        self.put(label);
+        if s.is_empty() {
+            self.put(b"-");
+        }
+        for b in s {
+            self.byte(*b);
         }
     }
-    let end = buffer::put_byte(b'%', out, at);
-    numbers::put_hex(b, out, end)
-}
 
-// Bytes, or a dash for none.
-pub fn bytes(s: &[u8], plain: bool, out: &mut [u8], at: usize) -> usize {
-    if s.len() == 0 {
-        return buffer::put_byte(b'-', out, at);
+    // Bytes in hexadecimal, also in plain.
+    pub fn hex(&mut self, label: &[u8], s: &[u8]) {
+        Reply::behind(self.pieces, false).bytes(label, s);
     }
-    let mut end = at;
-    let mut i: usize = 0;
-    while i < s.len() {
-        end = byte(s[i], plain, out, end);
-        i += 1;
+
+    // A callsign's text: call, dash and SSID.
+    pub fn call(&mut self, label: &[u8], c: Callsign) {
+        let n = callsign::text_len(c);
+        let text = c.text;
+        self.bytes(label, lines::cut(&text, n));
     }
-    end
-}
 
-// A label, and bytes.
-pub fn labelled(label: &[u8], s: &[u8], plain: bool, out: &mut [u8], at: usize) -> usize {
-    let end = buffer::put(label, out, at);
-    bytes(s, plain, out, end)
-}
-
-// A callsign's text: call, dash and SSID.
-pub fn call(label: &[u8], c: Callsign, plain: bool, out: &mut [u8], at: usize) -> usize {
-    let n = callsign::text_len(c);
-    let text = c.text;
-    labelled(label, lines::cut(&text, n), plain, out, at)
-}
-
-// One text, or the other.
-pub fn side(other: bool, one: &[u8], two: &[u8], out: &mut [u8], at: usize) -> usize {
-    if other {
-        return buffer::put(two, out, at);
+    // Bytes in decimal with a comma between two.
+    pub fn decimals(&mut self, label: &[u8], s: &[u8]) {
+        self.put(label);
+        for (i, b) in s.iter().enumerate() {
+            self.count(if i == 0 { b"" } else { b"," }, usize::from(*b));
+        }
     }
-    buffer::put(one, out, at)
-}
 
-// A label, and bytes in decimal with a comma between two.
-pub fn decimals(label: &[u8], s: &[u8], out: &mut [u8], at: usize) -> usize {
-    let mut end = buffer::put(label, out, at);
-    let mut i: usize = 0;
-    while i < s.len() {
-        end = buffer::put(lines::cut(b",", i), out, end);
-        end = refusal(s[i], out, end);
-        i += 1;
+    // A space and the bits of a float, in sixteen hexadecimal digits; nothing for what is no number.
+    pub fn float(&mut self, x: f64) {
+        if x.is_nan() {
+            return;
+        }
+        self.put(b" ");
+        for b in x.to_bits().to_be_bytes() {
+            numbers::put_hex(b, self.pieces);
+        }
     }
-    end
-}
 
-// A space and the bits of a float, in sixteen hexadecimal digits.
-pub fn float(x: f64, out: &mut [u8], at: usize) -> usize {
-    if x != x {
-        return at;
+    // What a writer answered: the refusal, or 0 and the text that it wrote.
+    pub fn written(&mut self, w: Answer, text: &[u8]) {
+        self.refusal(w.refusal);
+        if w.refusal == 0 {
+            self.bytes(b" text=", lines::cut(text, w.reported));
+        }
     }
-    let mut digits = [0u8; 16];
-    let n = io::hex(f64::to_bits(x), 16, &mut digits);
-    let end = buffer::put_byte(b' ', out, at);
-    buffer::put(&digits[..n], out, end)
-}
 
-// What a writer answered: the refusal, or 0 and the text that it wrote.
-pub fn written(w: buffer::Answer, bytes: &[u8], out: &mut [u8], at: usize) -> usize {
-    let end = refusal(w.refusal, out, at);
-    if w.refusal != 0 {
-        return end;
+    // What a lister or writer answered, and the whole buffer afterwards.
+    pub fn whole(&mut self, w: Answer, buffer: &[u8]) {
+        self.refusal(w.refusal);
+        self.count(b" ", w.reported);
+        self.count(b" ", w.needed);
+        self.bytes(b" ", buffer);
     }
-    labelled(b" text=", lines::cut(bytes, w.reported), true, out, end)
-}
-
-// What a lister or writer answered, and the whole buffer afterwards.
-pub fn whole(w: buffer::Answer, buffer: &[u8], out: &mut [u8], at: usize) -> usize {
-    let mut end = refusal(w.refusal, out, at);
-    end = count(b" ", w.reported, out, end);
-    end = count(b" ", w.needed, out, end);
-    labelled(b" ", buffer, false, out, end)
 }

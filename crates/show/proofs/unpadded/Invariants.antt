@@ -1,10 +1,7 @@
--- `unpadded`: the place goes down from nine.
+-- `unpadded`: each turn takes a space off the text.
 -- Assumes nothing.
-use Prim.Native.Nat.{◌≤◌}
+use lib.ListN.{length}
 use Rattle.show.proofs.unpadded.Given as goal
 
-abbrev pub invariant-loop-n : goal.invariant-loop-n
-invariant-loop-n l = l.n ≤ 9
-
-abbrev pub decreases-loop-n : goal.decreases-loop-n
-decreases-loop-n l = l.n
+abbrev pub decreases-loop-text : goal.decreases-loop-text
+decreases-loop-text l = length l.text

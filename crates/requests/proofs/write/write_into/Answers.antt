@@ -1,8 +1,0 @@
--- `write_into`: the first bytes of a slice, as many as it has or fewer, are so many.
--- Assumes nothing.
-use Rattle.lines.proofs.Parts.{first_bytes}
-use borrow.Author.Rules.{rules}
-use Rattle.requests.proofs.write.write_into.Goals as goal
-
-pub slice_bounds-write-end-2 : goal.slice_bounds-write-end-2
-slice_bounds-write-end-2 c = search (rules, first_bytes, rules)
