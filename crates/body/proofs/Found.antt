@@ -4,6 +4,9 @@
 use mathlib.Core.Path.{◌≡◌, refl}
 use mathlib.Core.Logic.{◌⊎◌, inl, inr, ⊎_elim}
 use mathlib.Core.Bool.{Bool, true, false, not, cond, and-true, not-not}
+use Rattle.std.specs.Prelude.{Option, Some, None, Err}
+use Rattle.mic_e.specs.declared.Information.{Information}
+use Rattle.body.specs.declared.TimeError.TheVariants.{Missing}
 use mathlib.Core.List.{List}
 use Prim.Native.Nat.{ℕ, ◌+◌, ◌-◌, ◌%◌, ◌≤◌}
 use native.Mathlib.Omega.{arith}
@@ -16,9 +19,7 @@ use Rattle.callsign.specs.declared.Callsign.{Callsign}
 use Rattle.callsign.specs.Range.{call_part, is_blank_call}
 use Rattle.numbers.specs.Sign.{is_on}
 use Rattle.time.specs.declared.Time.{Time}
-use Rattle.time.specs.declared.TimeRead.{TimeRead}
-use Rattle.time.specs.declared.TimeRead.TheVariants as time
-use Rattle.time.specs.Time.{no_time, is_no_time, time_bytes, read_time, time_number, time_text, time_in_range}
+use Rattle.time.specs.Time.{no_time, is_no_time, time_bytes, read_time, time_text, time_in_range}
 use Rattle.time.proofs.Theorems.{read_in_range, no_time_in_range}
 use Rattle.lonlat.specs.Angle.{most_latitude, most_longitude, width_of}
 use Rattle.position.specs.Reach.{in_reach}
@@ -26,17 +27,11 @@ use Rattle.position.specs.Position.{fixed_bytes, usually, read_position, place_i
 use Rattle.position.proofs.Lengths.{position_long}
 use Rattle.position.proofs.Theorems.{read_position_answered}
 use Rattle.mic_e.specs.declared.Destination.{Destination}
-use Rattle.mic_e.specs.declared.DestinationRead.{DestinationRead}
-use Rattle.mic_e.specs.declared.DestinationRead.TheVariants as destination
-use Rattle.mic_e.specs.declared.InformationRead.{InformationRead}
-use Rattle.mic_e.specs.declared.InformationRead.TheVariants as information
 use Rattle.mic_e.specs.Message.{message_number}
 use Rattle.mic_e.specs.Motion.{most_speed, most_course}
 use Rattle.mic_e.specs.Destination.{read_destination}
 use Rattle.mic_e.specs.Information.{read_information}
 use Rattle.mic_e.proofs.Theorems.{read_destination_found, read_information_found, information_long}
-use Rattle.message.specs.declared.StatusRead.{StatusRead}
-use Rattle.message.specs.declared.StatusRead.TheVariants as status
 use Rattle.message.specs.Message.{addressee_bytes, no_addressee, read_message}
 use Rattle.message.specs.Status.{read_status}
 use Rattle.message.proofs.Theorems.{message_length, addressee_nine, read_status_time, status_time_within}
@@ -44,7 +39,7 @@ use Rattle.body.specs.declared.Kind.TheVariants.{Position, MicE, Message}
 use Rattle.body.specs.declared.Opening.{Opening}
 use Rattle.body.specs.declared.Opening.TheVariants.{Positioned, Mic, Addressed, Stated, Other}
 use Rattle.body.specs.declared.BodyRead.{BodyRead}
-use Rattle.body.specs.Body.{no_span, no_report, body_with, blank_body, body_accepted, body_refused, opening_of, span_from, position_body, position_from, time_refused, time_behind, time_at, behind_time, positioned_from, report_body, mic_e_body, identifier_span, message_body, status_body, body_after, read_body_by, read_body}
+use Rattle.body.specs.Body.{no_span, no_report, body_with, blank_body, body_accepted, body_refused, opening_of, span_from, position_body, position_from, time_behind, time_at, behind_time, positioned_from, report_body, mic_e_body, identifier_span, message_body, status_body, body_after, read_body_by, read_body}
 use Rattle.body.proofs.Strict.{by_mode}
 use Rattle.body.specs.Range.{is_no_letter, is_no_place, is_no_report, is_place_alone, is_report_alone, is_bare, is_short, motion_in_range, unknown_in_range, position_in_range, mic_e_in_range, message_in_range, status_in_range, in_range_as, body_in_range, excepted_as, is_excepted}
 
@@ -139,10 +134,10 @@ module _ (s : List ℕ) (at : ℕ) (start : at ≤ length s) where
 -- ---- a time before it
 
 module _ (s : List ℕ) (at : ℕ) (messaging : Bool) where
-  behind_found : (x : TimeRead) → read_time (take time_bytes (drop at s)) ≡ x → at + time_bytes ≤ length s → Found (length s) (behind_time usually (time_behind x (at + time_bytes)) s messaging)
-  unfolding time_behind behind_time time_number
-  behind_found (time.Read t) e h = position_found s (at + time_bytes) h messaging t (read_in_range (take time_bytes (drop at s)) t e)
-  behind_found time.Refused e h = blank_found _ (length s)
+  behind_found : (x : Option Time) → read_time (take time_bytes (drop at s)) ≡ x → at + time_bytes ≤ length s → Found (length s) (behind_time usually (time_behind x (at + time_bytes)) s messaging)
+  unfolding time_behind behind_time
+  behind_found (Some t) e h = position_found s (at + time_bytes) h messaging t (read_in_range (take time_bytes (drop at s)) t e)
+  behind_found None e h = blank_found _ (length s)
 
   positioned_found : (timed : Bool) → at ≤ length s → Found (length s) (positioned_from usually s at messaging timed)
   unfolding positioned_from time_at behind_time
@@ -150,17 +145,17 @@ module _ (s : List ℕ) (at : ℕ) (messaging : Bool) where
   positioned_found true start = go (ltb (length s - at) time_bytes) refl
     where
       go : (b : Bool) → ltb (length s - at) time_bytes ≡ b
-          → Found (length s) (behind_time usually (cond b (time_refused 10) (time_behind (read_time (take time_bytes (drop at s))) (at + time_bytes))) s messaging)
+          → Found (length s) (behind_time usually (cond b (Err Missing) (time_behind (read_time (take time_bytes (drop at s))) (at + time_bytes))) s messaging)
       go true e = blank_found _ (length s)
       go false e = behind_found (read_time (take time_bytes (drop at s))) refl (omega (arith, ltb-false (length s - at) time_bytes e))
 
 module _ (s : List ℕ) (at : ℕ) (start : at ≤ length s) where
   -- ---- a Mic-E report
 
-  module _ (current : Bool) (call : List ℕ) (d : Destination) (q : read_destination call ≡ destination.Read d) where
-    report_found : (x : InformationRead) → read_information (drop at s) d.hundred d.west ≡ x → Found (length s) (report_body usually d x current (span_from s (at + 8)))
+  module _ (current : Bool) (call : List ℕ) (d : Destination) (q : read_destination call ≡ Some d) where
+    report_found : (x : Option Information) → read_information (drop at s) d.hundred d.west ≡ x → Found (length s) (report_body usually d x current (span_from s (at + 8)))
     unfolding report_body body_in_range in_range_as is_excepted excepted_as mic_e_in_range is_report_alone no_time is_no_time letters_agree place_in_range in_reach motion_in_range is_short
-    report_found (information.Read i) e =
+    report_found (Some i) e =
         let a = read_destination_found call d q in
         let b = read_information_found (drop at s) d.hundred d.west i e in
         record {
@@ -186,12 +181,12 @@ module _ (s : List ℕ) (at : ℕ) (start : at ≤ length s) where
           identifier_within = nowhere (length s);
           nine = blank_nine;
         }
-    report_found information.Refused e = blank_found _ (length s)
+    report_found None e = blank_found _ (length s)
 
-  mic_e_found : (current : Bool) (call : List ℕ) (x : DestinationRead) → read_destination call ≡ x → Found (length s) (mic_e_body usually x (drop at s) current (span_from s (at + 8)))
+  mic_e_found : (current : Bool) (call : List ℕ) (x : Option Destination) → read_destination call ≡ x → Found (length s) (mic_e_body usually x (drop at s) current (span_from s (at + 8)))
   unfolding mic_e_body
-  mic_e_found current call (destination.Read d) e = report_found current call d e (read_information (drop at s) d.hundred d.west) refl
-  mic_e_found current call destination.Refused e = blank_found _ (length s)
+  mic_e_found current call (Some d) e = report_found current call d e (read_information (drop at s) d.hundred d.west) refl
+  mic_e_found current call None e = blank_found _ (length s)
 
   -- ---- a message, and a status
 
@@ -224,11 +219,11 @@ module _ (s : List ℕ) (at : ℕ) (start : at ≤ length s) where
           }
       go false e = blank_found _ (length s)
 
-  status_found : (x : StatusRead) → read_status (drop at s) ≡ x → Found (length s) (status_body x s at)
+  status_found : (x : Option Time) → read_status (drop at s) ≡ x → Found (length s) (status_body x s at)
   unfolding
       status_body no_report body_in_range in_range_as is_excepted excepted_as status_in_range is_bare is_no_place is_no_letter is_no_report message_number
       place_in_range in_reach letters_agree is_on width_of
-  status_found (status.Read t) e =
+  status_found (Some t) e =
       record {
         blank = λ n. absurd (n refl);
         range = λ to h. rw (no_addressee_lem, read_status_time (drop at s) t e);
@@ -240,7 +235,7 @@ module _ (s : List ℕ) (at : ℕ) (start : at ≤ length s) where
         identifier_within = nowhere (length s);
         nine = blank_nine;
       }
-  status_found status.Refused e = blank_found _ (length s)
+  status_found None e = blank_found _ (length s)
 
   -- ---- any body
 

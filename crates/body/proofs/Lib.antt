@@ -1,4 +1,3 @@
-pub mod Tests
 pub mod Reading
 pub mod Judged
 pub mod Answered

@@ -2,6 +2,7 @@
 -- Mic-E part of the record and the comment bytes, if latitude is a multiple of the width its blanks leave." Document 02, R-1: "its
 -- Mic-E read-back rule excepts the letter at 0".
 -- Assumes nothing.
+use Rattle.std.specs.Prelude.{Some}
 use mathlib.Core.Path.{◌≡◌, refl, sym, ap, ◌∙◌}
 use mathlib.Core.Bool.{Bool, true, false, cond}
 use mathlib.Core.List.{List, [], ◌++◌}
@@ -20,7 +21,6 @@ use Rattle.time.specs.Time.{no_time}
 use Rattle.position.specs.declared.Place.{Place}
 use Rattle.position.specs.Position.{as_written}
 use Rattle.position.proofs.Reach.{latitude_near, reach_near, reach_few}
-use Rattle.mic_e.specs.declared.DestinationRead.TheVariants as destination
 use Rattle.mic_e.specs.Destination.{read_destination, destination_bytes}
 use Rattle.mic_e.specs.Information.{information_bytes}
 use Rattle.mic_e.proofs.Range.{in_all}
@@ -80,7 +80,7 @@ module _ (b : Body) (to : Callsign) (h : Reported b to) (width : nat_abs b.place
       (in_all (information_of b.place b.report) h.short h.slow h.turned)
 
   called : read_destination (call_part (mic_e_call b.place b.report))
-      ≡ destination.Read (destination_for b.place.latitude.0 b.place.blanks b.report.message b.place.longitude.0)
+      ≡ Some (destination_for b.place.latitude.0 b.place.blanks b.report.message b.place.longitude.0)
   unfolding mic_e_call destination_for
   called =
       let bytes = destination_bytes b.place.latitude.0 b.place.blanks b.report.message b.place.longitude.0 in

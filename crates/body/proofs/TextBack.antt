@@ -1,5 +1,6 @@
 -- A message and a status as written read back; and one that was read is its parts joined, and can be written again (document 02, R-5).
 -- Assumes nothing.
+use Rattle.std.specs.Prelude.{Option, Some, None}
 use mathlib.Core.Path.{◌≡◌, refl, sym, ap, ◌∙◌}
 use mathlib.Core.Logic.{◌⊎◌, inl, inr, ⊎_elim}
 use mathlib.Core.Bool.{Bool, true, false, cond}
@@ -17,8 +18,6 @@ use Rattle.callsign.specs.declared.Callsign.{Callsign}
 use Rattle.time.specs.declared.Time.{Time}
 use Rattle.time.specs.Time.{no_time, time_text}
 use Rattle.message.specs.declared.MessageRead.{MessageRead}
-use Rattle.message.specs.declared.StatusRead.{StatusRead}
-use Rattle.message.specs.declared.StatusRead.TheVariants as status
 use Rattle.message.specs.Message.{addressee_bytes, no_addressee, is_text, read_message, identifier_text, message_text, identifier_refusal, message_refusal}
 use Rattle.message.specs.Status.{text_behind, read_status, status_number, status_text, is_status_time, is_status_text, status_text_refusal}
 use Rattle.message.proofs.Theorems.{identifier_at_most_5, addressee_10, message_at_most_83, status_at_most_62, message_reads_back, text_at, identifier_at, message_is_its_parts, message_writes_again, message_or_18, status_reads_back, status_is_its_parts, status_text_is}
@@ -192,7 +191,7 @@ module _ (s : List ℕ) (from : ℕ) (h : from < length s) where
           again = rw (text_shown, number_shown) (message_writes_again behind z);
         }
 
-  module _ (first : get_or s from 0 ≡ greater) (t : Time) (e : read_status behind ≡ status.Read t) where
+  module _ (first : get_or s from 0 ≡ greater) (t : Time) (e : read_status behind ≡ Some t) where
     abbrev said : Body
     said = body_with Status (span_from s (from + 1 + length (time_text t))) no_span t no_addressee
 
@@ -234,6 +233,6 @@ module _ (s : List ℕ) (from : ℕ) (h : from < length s) where
   unfolding status_body status_number
   status_read_or_18 to first = rw (greater_reads to s from h first) (go (read_status behind) refl)
     where
-      go : (x : StatusRead) → read_status behind ≡ x → TextOr18 Status (status_body x s (from + 1))
-      go (status.Read t) e = inl (refl, status_whole first t e)
-      go status.Refused e = inr refl
+      go : (x : Option Time) → read_status behind ≡ x → TextOr18 Status (status_body x s (from + 1))
+      go (Some t) e = inl (refl, status_whole first t e)
+      go None e = inr refl

@@ -15,26 +15,19 @@ use Rattle.laws.specs.Lists.{pad_to, zeros}
 use Rattle.laws.proofs.Lists.{drop_replicate}
 use Rattle.buffer.specs.declared.Answer.{Answer}
 use Rattle.buffer.specs.Wrote.{ends, wrote}
-use Rattle.buffer.specs.Filled.{Filled, filled, added}
 use Rattle.buffer.proofs.Answers.{refusal_is, bytes_are, reported_is}
 use Rattle.callsign.specs.declared.Callsign.{Callsign}
-use Rattle.time.specs.Time.{is_no_time, time_text}
+use Rattle.time.specs.Time.{time_text}
 use Rattle.message.specs.Message.{addressee_bytes, addressee_text, is_text, identifier_text, identifier_refusal, message_refusal}
 use Rattle.message.specs.Status.{is_status_time, status_time_refusal, is_status_text, status_text_refusal}
 use Rattle.message.proofs.Theorems.{identifier_at_most_6, addressee_10, status_time_in_range}
 use Rattle.body.specs.declared.Body.{Body}
 use Rattle.body.specs.declared.BodyWritten.{BodyWritten}
-use Rattle.body.specs.Range.{is_bare, message_in_range, status_in_range}
-use Rattle.body.specs.Written.{message_bytes, status_bytes, most_fixed, most_tail, unwritten, written_as, written_or}
-use Rattle.body.proofs.Writing.{refused_is, accepted_is, no_tail, behind_type, time_short}
+use Rattle.body.specs.Range.{is_bare, status_in_range}
+use Rattle.body.specs.Written.{message_bytes, status_bytes, most_fixed, most_tail, without_tail, unwritten, written_as, written_or}
+use Rattle.body.proofs.Writing.{refused_is, accepted_is, behind_type, time_short}
 
 -- ---- a message: the refusal of its identifier's writer is the judgement
-
--- the addressee and its colon, put behind the type byte
-front_put : (k : ℕ) (front bytes : List ℕ) (n : ℕ) → length front ≡ 10 → filled bytes n ≡ added (filled (k ∷ behind_type) 1) front
-    → filled bytes n ≡ filled (pad_to most_fixed 0 (k ∷ front)) (length (k ∷ front))
-unfolding added pad_to
-front_put k front bytes n ten put = put ∙ rw ten
 
 module _ (addressee : List ℕ) (to : Callsign) (text identifier : List ℕ) (x : Bool) (k : x ≡ is_text text) where
   abbrev as_message : BodyWritten
@@ -74,18 +67,12 @@ module _ (addressee : List ℕ) (to : Callsign) (text identifier : List ℕ) (x 
       unfolding message_refusal written_or
       as_written_lem = rw (← k, not-false x l, identifier_fine)
 
-      pub message_written : (front bytes : List ℕ) (n : ℕ) → front ≡ addressee_text addressee → length addressee ≡ addressee_bytes → filled bytes n ≡ added (filled (colon ∷ behind_type) 1) front
-          → record { refusal = 0; to = to; bytes = bytes; tail = tail; len = n; tail_len = a.reported } ≡ as_message
-      unfolding written_as message_bytes
-      message_written front bytes n q nine put =
-          let ten : length front ≡ 10 = ap length q ∙ addressee_10 addressee nine in
-          ap (λ (f : Filled). record { refusal = 0; to = to; bytes = f.bytes; tail = tail; len = f.len; tail_len = a.reported }) (front_put colon front bytes n ten put)
-          ∙ rw (tail_is, tail_long, q) (sym as_written_lem)
-
-pub message_alone : (b : Body) (u : Bool) → u ≡ is_bare b → not u ≡ false → (v : Bool) → v ≡ is_no_time b.time → not v ≡ false
-    → (r x : BodyWritten) → r ≡ x → r ≡ cond (message_in_range b) x unwritten
-unfolding message_in_range
-message_alone b u e f v g h r x w = rw (← e, not-false u f, ← g, not-false v h) w
+      pub message_written : (front copied : List ℕ) → front ≡ addressee_text addressee → length addressee ≡ addressee_bytes → copied ≡ front
+          → record { refusal = 0; to = to; bytes = colon ∷ (copied ++ replicate 16 0); tail = tail; len = 11; tail_len = a.reported } ≡ as_message
+      unfolding written_as message_bytes pad_to
+      message_written front copied q nine c =
+          let ten : length (addressee_text addressee) ≡ 10 = addressee_10 addressee nine in
+          rw (c, q, tail_is, tail_long) (rw (as_written_lem, ten))
 
 -- ---- a status: so is that of its time's writer
 
@@ -137,9 +124,8 @@ module _ (b : Body) (to : Callsign) (text : List ℕ) (u : Bool) (e : u ≡ is_b
       status_text_unfit r l q = status_judged r (q ∙ rw (← k, not-true x l))
 
       pub status_written : not x ≡ false
-          → record { refusal = 0; to = to; bytes = greater ∷ (left ++ []); tail = replicate most_tail 0; len = 1 + a.reported; tail_len = 0 } ≡ cond (status_in_range b) as_status unwritten
-      unfolding status_text_refusal written_or written_as status_bytes
-      status_written l =
+          → (r : BodyWritten) → r ≡ without_tail to (greater ∷ (left ++ [])) (1 + a.reported) → r ≡ cond (status_in_range b) as_status unwritten
+      unfolding status_text_refusal written_or written_as without_tail status_bytes
+      status_written l r q =
           let long : 1 + a.reported ≡ length (greater ∷ time_text b.time) = omega (arith, status_reported) in
-          status_judged (record { refusal = 0; to = to; bytes = greater ∷ (left ++ []); tail = replicate most_tail 0; len = 1 + a.reported; tail_len = 0 })
-          (rw (← k, not-false x l, long, append-nil left, status_left, front_padded greater (time_text b.time) (status_room taken), no_tail))
+          status_judged r (q ∙ rw (← k, not-false x l, long, append-nil left, status_left, front_padded greater (time_text b.time) (status_room taken)))

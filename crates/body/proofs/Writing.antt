@@ -16,9 +16,8 @@ use lib.Dec.{eqb}
 use lib.IntN.{ℤ}
 use lib.ListN.{length, take, drop, replicate, length-append, length-replicate, drop_of_length-le}
 use lib.Seq.{take-length, take_at, take_all, drop_at}
-use Rattle.laws.specs.Bytes.{bang, equals, slash, at_sign, backquote, apostrophe, colon}
+use Rattle.laws.specs.Bytes.{backquote, apostrophe, colon}
 use Rattle.laws.specs.Lists.{pad_to}
-use Rattle.laws.proofs.Picks.{and_failed, and_held, flag_set, flag_unset}
 use Rattle.laws.proofs.Lists.{drop_replicate}
 use Rattle.laws.proofs.Tests.{and_first, and_second, or_either}
 use Rattle.buffer.specs.declared.Answer.{Answer}
@@ -29,7 +28,7 @@ use Rattle.callsign.specs.Text.{made}
 use Rattle.callsign.specs.Range.{is_blank_call}
 use Rattle.callsign.specs.Address.{ssid_of, ssid_text}
 use Rattle.time.specs.declared.Time.{Time}
-use Rattle.time.specs.Time.{is_no_time, is_time, is_present, time_text, time_in_range, time_refusal}
+use Rattle.time.specs.Time.{is_no_time, is_time, time_text, time_in_range, time_refusal}
 use Rattle.time.proofs.Theorems.{no_time_no_bytes, a_time_seven_bytes}
 use Rattle.position.specs.declared.Place.{Place}
 use Rattle.position.specs.Position.{place_in_range, letters_agree, position_fits, position_text, position_refusal}
@@ -49,34 +48,13 @@ use Rattle.body.specs.declared.Report.{Report}
 use Rattle.body.specs.declared.Body.{Body}
 use Rattle.body.specs.declared.BodyWritten.{BodyWritten}
 use Rattle.body.specs.Range.{is_no_addressee, is_place_alone, is_report_alone, is_bare, is_short, motion_in_range, unknown_in_range, position_in_range, mic_e_in_range, message_in_range, status_in_range, in_range_as, body_in_range}
-use Rattle.body.specs.Written.{mic_e_call, to_as, written_to, information_of, position_type, position_bytes, mic_e_bytes, message_bytes, status_bytes, bytes_as, body_bytes, tail_as, tail_bytes, refusal_as, body_refusal, most_fixed, most_tail, unwritten, written_as, written_or, write_body}
+use Rattle.body.specs.Written.{mic_e_call, to_as, written_to, information_of, position_type, position_bytes, mic_e_bytes, message_bytes, status_bytes, bytes_as, body_bytes, tail_as, tail_bytes, refusal_as, body_refusal, most_fixed, without_tail, unwritten, written_as, written_or, write_body}
 use Rattle.body.proofs.Judged.{destination_judges, information_judges}
 
--- ---- in range or not, from a chain of tests
+-- ---- out of range, from a test that failed
 
-module _ (t : Bool) (r x y : BodyWritten) where
-  pub out_of_range : false ≡ t → r ≡ y → r ≡ cond t x y
-  out_of_range e w = rw (← e) w
-
-  pub in_range_lem : true ≡ t → r ≡ x → r ≡ cond t x y
-  in_range_lem e w = rw (← e) w
-
-pub test_failed : (u t : Bool) → u ≡ t → not u ≡ true → false ≡ t
-test_failed u t e p = sym (not-true u p) ∙ e
-
-pub test_held : (u t : Bool) → u ≡ t → not u ≡ false → true ≡ t
-test_held u t e p = sym (not-false u p) ∙ e
-
-pub ruleset judged = (out_of_range, in_range_lem, test_failed, test_held, and_failed, and_held, flag_set, flag_unset)
-
--- no bytes
-pub nothing_written : (n : ℕ) (to : Callsign) → record { refusal = n; to = to; bytes = replicate most_fixed 0; tail = replicate most_tail 0; len = 0; tail_len = 0 } ≡ written_as n to [] []
-unfolding written_as pad_to
-nothing_written n to = refl
-
-pub no_tail : replicate {A = ℕ} most_tail 0 ≡ pad_to most_tail 0 []
-unfolding pad_to
-no_tail = refl
+out_of_range : (t : Bool) (r x y : BodyWritten) → false ≡ t → r ≡ y → r ≡ cond t x y
+out_of_range t r x y e w = rw (← e) w
 
 -- a refusal of 15 told from its number
 module _ (t : Bool) (k : ℕ) where
@@ -95,15 +73,6 @@ module _ (t : Bool) (k : ℕ) where
       go false e = absurd (omega arith)
 
 -- ---- a position: the refusals of its time's and its place's writer are the judgement
-
-module _ (messaging : Bool) (t : Time) (r : ℕ) where
-  pub type_untimed : t.form ≡ 0 → r ≡ cond messaging equals bang → r ≡ position_type messaging t
-  unfolding position_type is_present
-  type_untimed h w = rw (eq-eqb t.form 0 h) w
-
-  pub type_timed : (t.form ≡ 0 → ⊥) → r ≡ cond messaging at_sign slash → r ≡ position_type messaging t
-  unfolding position_type is_present
-  type_timed h w = rw (ne_eqb t.form 0 h) w
 
 -- no bytes, or seven
 pub time_short : (t : Time) → time_in_range t ≡ true → length (time_text t) ≤ 7
@@ -226,18 +195,18 @@ module _ (b : Body) (u : Bool) (e : u ≡ is_place_alone b) (f : not u ≡ false
             bytes_are p last (position_text b.place) _ (position_refusal b.place) v accepts (position_room accepts)
             ∙ ap₂ (λ (n : ℕ) (l : List ℕ). position_text b.place ++ drop n l) (position_length b.place accepts) lent
 
-        pub position_written : (to : Callsign) → k ≡ position_type b.messaging b.time
-            → record { refusal = 0; to = to; bytes = put_mid (1 + t.reported) (27 - (1 + t.reported)) (k ∷ (left ++ [])) last; tail = replicate most_tail 0; len = 1 + t.reported + 19; tail_len = 0 }
-            ≡ cond (position_in_range b) (written_as 0 to (position_bytes b.place b.messaging b.time) []) unwritten
-        unfolding written_as position_bytes
-        position_written to q =
+        pub position_written : (to : Callsign) (r : BodyWritten) → k ≡ position_type b.messaging b.time
+            → r ≡ without_tail to (put_mid (1 + t.reported) (27 - (1 + t.reported)) (k ∷ (left ++ [])) last) (1 + t.reported + 19)
+            → r ≡ cond (position_in_range b) (written_as 0 to (position_bytes b.place b.messaging b.time) []) unwritten
+        unfolding written_as without_tail position_bytes
+        position_written to r q w =
             let long : length (k ∷ (time_text b.time ++ position_text b.place)) ≡ 1 + t.reported + 19 =
             omega (arith, reported, length-append (time_text b.time) (position_text b.place), position_length b.place accepts) in
             rw (
+              w,
               judged_by true (accepted_is fine p.refusal position_says yes),
               ← q,
               long,
-              no_tail,
               all_together k (time_text b.time) (position_text b.place) left last t.reported reported few (position_length b.place accepts) time_left position_last,
             )
 
@@ -278,17 +247,17 @@ module _ (place : Place) (report : Report) (w : Answer) (last : List ℕ)
         append-nil last ∙ bytes_are w last info behind_type (information_refusal (information_of place report)) e takes room
         ∙ ap (λ (n : ℕ). info ++ drop n behind_type) (information_length (information_of place report))
 
-    pub report_written : (call : List ℕ) (to : Callsign) (k : ℕ)
+    pub report_written : (call : List ℕ) (to : Callsign) (k : ℕ) (r : BodyWritten)
         → call ≡ destination_bytes place.latitude.0 place.blanks report.message place.longitude.0
         → to ≡ made (take 6 call) (ssid_text (ssid_of 0))
         → k ≡ cond report.current backquote apostrophe
-        → record { refusal = 0; to = to; bytes = k ∷ (last ++ []); tail = replicate most_tail 0; len = 9; tail_len = 0 }
-        ≡ cond out unwritten (written_as 0 (mic_e_call place report) (mic_e_bytes place report) [])
-    unfolding written_as mic_e_call mic_e_bytes pad_to ssid_text ssid_of
-    report_written call to k c t q =
+        → r ≡ without_tail to (k ∷ (last ++ [])) 9
+        → r ≡ cond out unwritten (written_as 0 (mic_e_call place report) (mic_e_bytes place report) [])
+    unfolding written_as without_tail mic_e_call mic_e_bytes pad_to ssid_text ssid_of
+    report_written call to k r c t q w =
         let six = destination_length place.latitude.0 place.blanks report.message place.longitude.0 in
         let whole : take 6 call ≡ call = ap (λ (n : ℕ). take n call) (sym (ap length c ∙ six)) ∙ take-length call in
-        rw (inside, t, whole, c, ← q, after, information_length (information_of place report))
+        rw (w, inside, t, whole, c, ← q, after, information_length (information_of place report))
 
 -- the destination's refusal, and its bytes without one
 module _ (latitude : ℤ) (blanks : ℕ) (message : mic-e.Message) (longitude : ℤ) (d : DestinationWritten) (q : d ≡ write_destination latitude blanks message longitude) where
@@ -363,6 +332,10 @@ module _ (b : Body) (to : Callsign) (text identifier : List ℕ) where
     pub write_status : b.kind ≡ Status → r ≡ cond (status_in_range b) (written_or (status_text_refusal b.time text) to (status_bytes b.time) []) unwritten → r ≡ write_body b to text identifier
     unfolding in_range_as to_as bytes_as tail_as refusal_as
     write_status k w = w ∙ sym (written_by Status k)
+
+pub ruleset by_kind = (write_unknown, write_position, write_mic_e, write_message, write_status)
+
+pub ruleset of_mic_e = (destination_is, mic_e_out, mic_e_written)
 
 -- ---- how many bytes: at most 27 before the comment or text, those of a position with a time, and 6 behind it
 

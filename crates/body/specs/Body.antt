@@ -1,33 +1,28 @@
 -- The body of a packet, by its first byte (document 01, 'Modules in port order', 5, and 'Numbers a refusal carries'; document 02, R-3,
 -- R-5 and, for the strict reader, R-8). It stands in the input from a place on, since its comment or text is a place in the whole input.
 -- Assumes nothing.
-use Rattle.std.specs.Prelude.{ℕ, ◌+◌, ◌-◌, Bool, true, false, cond, ◌||◌, List, eqb, ltb, length, take, drop, get_or}
+use Rattle.std.specs.Prelude.{Option, Some, None, ℕ, Result, Ok, Err, ◌+◌, ◌-◌, Bool, true, false, cond, ◌||◌, List, eqb, ltb, length, take, drop, get_or}
 use Rattle.laws.specs.Bytes.{colon, greater, slash, at_sign, bang, equals, backquote, apostrophe}
 use Rattle.callsign.specs.declared.Callsign.{Callsign}
 use Rattle.callsign.specs.Range.{call_part}
 use Rattle.time.specs.declared.Time.{Time}
-use Rattle.time.specs.declared.TimeRead.{TimeRead}
-use Rattle.time.specs.declared.TimeRead.TheVariants as time
 use Rattle.time.specs.Time.{no_time, time_bytes, read_time, time_number, time_text}
 use Rattle.position.specs.declared.PositionRead.{PositionRead}
 use Rattle.position.specs.Position.{no_place, fixed_bytes, usually, is_over, is_off_table, table_number, read_position_by}
 use Rattle.mic_e.specs.declared.Destination.{Destination}
-use Rattle.mic_e.specs.declared.DestinationRead.{DestinationRead}
-use Rattle.mic_e.specs.declared.DestinationRead.TheVariants as destination
-use Rattle.mic_e.specs.declared.InformationRead.{InformationRead}
-use Rattle.mic_e.specs.declared.InformationRead.TheVariants as information
 use Rattle.mic_e.specs.declared.Message.TheVariants.{M0}
 use Rattle.mic_e.specs.Destination.{read_destination, destination_number}
 use Rattle.mic_e.specs.Information.{read_information, information_number}
 use Rattle.message.specs.declared.MessageRead.{MessageRead}
-use Rattle.message.specs.declared.StatusRead.{StatusRead}
-use Rattle.message.specs.declared.StatusRead.TheVariants as status
 use Rattle.message.specs.Message.{addressee_bytes, no_addressee, read_message}
 use Rattle.message.specs.Status.{read_status, status_number}
+use Rattle.mic_e.specs.declared.Information.{Information}
 use Rattle.body.specs.declared.Kind.{Kind}
 use Rattle.body.specs.declared.Kind.TheVariants.{Unknown, Position, MicE, Message, Status}
 use Rattle.body.specs.declared.Opening.{Opening}
 use Rattle.body.specs.declared.TimeAt.{TimeAt}
+use Rattle.body.specs.declared.TimeError.{TimeError}
+use Rattle.body.specs.declared.TimeError.TheVariants.{Missing, Bad}
 use Rattle.body.specs.declared.Opening.TheVariants.{Positioned, Mic, Addressed, Stated, Other}
 use Rattle.body.specs.declared.Report.{Report}
 use Rattle.body.specs.declared.Span.{Span}
@@ -113,29 +108,27 @@ position_body p messaging time comment =
 unfoldable pub position_from : Bool → List ℕ → ℕ → Bool → Time → BodyRead
 position_from strict s at messaging time = position_body (read_position_by strict (drop at s)) messaging time (span_from s (at + fixed_bytes))
 
--- a time, or none where none is asked for, and the place behind it
-abbrev pub time_found : Time → ℕ → TimeAt
-time_found t behind = record { behind = behind; time = t; refusal = 0 }
+-- "10 when the seven bytes are missing", and "17 for a bad time"
+unfoldable pub error_number : TimeError → ℕ
+error_number Missing = 10
+error_number Bad = time_number None
 
--- no time, by that refusal
-abbrev pub time_refused : ℕ → TimeAt
-time_refused n = record { behind = 0; time = no_time; refusal = n }
+-- a time that was read, with the place behind it
+unfoldable pub time_behind : Option Time → ℕ → Result TimeAt TimeError
+time_behind (Some t) behind = Ok (record { time = t; behind = behind })
+time_behind None behind = Err Bad
 
--- "17 for a bad time"
-unfoldable pub time_behind : TimeRead → ℕ → TimeAt
-time_behind (time.Read t) behind = time_found t behind
-time_behind time.Refused behind = time_refused (time_number time.Refused)
-
--- the time from a place on, where there is to be one: "10 when the seven bytes are missing stands before" 17
-unfoldable pub time_at : List ℕ → ℕ → Bool → TimeAt
+-- the time from a place on, where there is to be one, and the place behind it: 10 "stands before" 17
+unfoldable pub time_at : List ℕ → ℕ → Bool → Result TimeAt TimeError
 time_at s at timed =
     cond timed
-    (cond (ltb (length s - at) time_bytes) (time_refused 10) (time_behind (read_time (take time_bytes (drop at s))) (at + time_bytes)))
-    (time_found no_time at)
+    (cond (ltb (length s - at) time_bytes) (Err Missing) (time_behind (read_time (take time_bytes (drop at s))) (at + time_bytes)))
+    (Ok (record { time = no_time; behind = at }))
 
 -- "and 7, 10, 8, 9 follow": the position behind a time that was found
-unfoldable pub behind_time : Bool → TimeAt → List ℕ → Bool → BodyRead
-behind_time strict x s messaging = cond (eqb x.refusal 0) (position_from strict s x.behind messaging x.time) (body_refused x.refusal)
+unfoldable pub behind_time : Bool → Result TimeAt TimeError → List ℕ → Bool → BodyRead
+behind_time strict (Ok x) s messaging = position_from strict s x.behind messaging x.time
+behind_time strict (Err e) s messaging = body_refused (error_number e)
 
 -- a position from a place on, with a time before it or without one
 unfoldable pub positioned_from : Bool → List ℕ → ℕ → Bool → Bool → BodyRead
@@ -143,8 +136,8 @@ positioned_from strict s at messaging timed = behind_time strict (time_at s at t
 
 -- a Mic-E report, of a destination and of information that was read; its letters are those that the destination says; strictly "the
 -- table byte gives 20, last of all"
-unfoldable pub report_body : Bool → Destination → InformationRead → Bool → Span → BodyRead
-report_body strict d (information.Read i) current comment =
+unfoldable pub report_body : Bool → Destination → Option Information → Bool → Span → BodyRead
+report_body strict d (Some i) current comment =
     cond (is_off_table strict i.table) (body_refused table_number)
     (body_accepted (record {
       kind = MicE;
@@ -156,14 +149,14 @@ report_body strict d (information.Read i) current comment =
       identifier = no_span;
       addressee = no_addressee;
     }))
-report_body strict d information.Refused current comment = body_refused (information_number information.Refused)
+report_body strict d None current comment = body_refused (information_number None)
 
 -- "Mic-E: 11, then 12"; strictly 11 is given for the destination's minutes too, not for those of the information
-unfoldable pub mic_e_body : Bool → DestinationRead → List ℕ → Bool → Span → BodyRead
-mic_e_body strict (destination.Read d) info current comment =
-    cond (is_over strict d.sixty) (body_refused (destination_number destination.Refused))
+unfoldable pub mic_e_body : Bool → Option Destination → List ℕ → Bool → Span → BodyRead
+mic_e_body strict (Some d) info current comment =
+    cond (is_over strict d.sixty) (body_refused (destination_number None))
     (report_body strict d (read_information info d.hundred d.west) current comment)
-mic_e_body strict destination.Refused info current comment = body_refused (destination_number destination.Refused)
+mic_e_body strict None info current comment = body_refused (destination_number None)
 
 -- "the identifier's place and length, 0 and 0 where there is none": it stands past the `{` that ends the text
 unfoldable pub identifier_span : ℕ → ℕ → Span
@@ -178,9 +171,9 @@ message_body m at =
     (body_refused m.refusal)
 
 -- a status that was read from a place on: its text is past the time
-unfoldable pub status_body : StatusRead → List ℕ → ℕ → BodyRead
-status_body (status.Read t) s at = body_accepted (body_with Status (span_from s (at + length (time_text t))) no_span t no_addressee)
-status_body status.Refused s at = body_refused (status_number status.Refused)
+unfoldable pub status_body : Option Time → List ℕ → ℕ → BodyRead
+status_body (Some t) s at = body_accepted (body_with Status (span_from s (at + length (time_text t))) no_span t no_addressee)
+status_body None s at = body_refused (status_number None)
 
 -- what the first byte makes of the input from the place behind it on: a position, timed or not, a report and its 8 bytes, a message or
 -- a status; of a Mic-E destination "6 call characters, SSID ignored"; only positions and reports have a strict rule

@@ -133,6 +133,11 @@ written_as refusal to bytes tail =
       tail_len = length tail;
     }
 
+-- a destination, an array of which so many bytes are written, and nothing behind the comment or text
+unfoldable pub without_tail : Callsign → List ℕ → ℕ → BodyWritten
+without_tail to bytes len =
+    record { refusal = 0; to = to; bytes = bytes; len = len; tail = pad_to most_tail 0 []; tail_len = 0 }
+
 -- 15, and nothing
 unfoldable pub unwritten : BodyWritten
 unwritten = written_as 15 blank_call [] []

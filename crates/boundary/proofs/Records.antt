@@ -5,81 +5,18 @@ use mathlib.Core.Bool.{Bool, true, false, cond}
 use mathlib.Core.List.{List}
 use Prim.Native.Nat.{ℕ}
 use Rattle.header.specs.Header.{most_bytes}
-use Rattle.mic_e.specs.declared.Message.{Message}
-use Rattle.mic_e.specs.Message.{message_number, message_at}
-use Rattle.body.specs.declared.Kind.{Kind}
-use Rattle.body.specs.declared.Report.{Report}
-use Rattle.body.specs.declared.Body.{Body}
 use Rattle.position.specs.Position.{usually}
 use Rattle.packet.specs.declared.Outer.{Outer}
 use Rattle.packet.specs.declared.PacketRead.{PacketRead}
 use Rattle.packet.specs.Packet.{most_inner, holds_packet, read_text, read_frame}
 use Rattle.packet.specs.Outer.{outer_within, alone_of, packet_from}
 use Rattle.packet.proofs.ByItself.{from_alone, either_from}
-use Rattle.boundary.specs.declared.CReport.{CReport}
-use Rattle.boundary.specs.declared.CBody.{CBody}
-use Rattle.boundary.specs.declared.CRecord.{CRecord}
 use Rattle.boundary.specs.declared.CRead.{CRead}
-use Rattle.boundary.specs.Numbers.{kind_number, kind_at}
-use Rattle.boundary.specs.Record.{report_in_c, body_in_c, record_in_c, read_in_c, report_meant, body_meant, record_meant}
+use Rattle.boundary.specs.Record.{read_in_c}
 
 -- ---- what a reader gives
 
-pub report_in_c_lem : (r : Report) (message : ℕ) → message ≡ message_number r.message
-    → record { speed = r.speed; course = r.course; message = message; current = r.current } ≡ report_in_c r
-unfolding report_in_c
-report_in_c_lem r message e = rw e
-
-pub body_in_c_lem : (b : Body) (report : CReport) (kind : ℕ) → report ≡ report_in_c b.report → kind ≡ kind_number b.kind
-    → record {
-      place = b.place;
-      report = report;
-      comment = b.comment;
-      identifier = b.identifier;
-      time = b.time;
-      addressee = b.addressee;
-      messaging = b.messaging;
-      kind = kind;
-    }
-    ≡ body_in_c b
-unfolding body_in_c
-body_in_c_lem b report kind e h = rw (e, h)
-
-pub read_in_c_lem : (p : PacketRead) (body : CBody) → body ≡ body_in_c p.«record».body
-    → record {
-      «record» = record { header = p.«record».header; body = body; innermost = p.«record».innermost; inner = p.«record».inner };
-      refusal = p.refusal;
-    }
-    ≡ read_in_c p
-unfolding read_in_c record_in_c
-read_in_c_lem p body e = rw e
-
 -- ---- what a writer is given
-
-pub report_meant_lem : (r : CReport) (message : Message) → message ≡ message_at r.message
-    → record { speed = r.speed; course = r.course; message = message; current = r.current } ≡ report_meant r
-unfolding report_meant
-report_meant_lem r message e = rw e
-
-pub body_meant_lem : (b : CBody) (report : Report) (kind : Kind) → report ≡ report_meant b.report → kind ≡ kind_at b.kind
-    → record {
-      place = b.place;
-      report = report;
-      comment = b.comment;
-      identifier = b.identifier;
-      time = b.time;
-      addressee = b.addressee;
-      messaging = b.messaging;
-      kind = kind;
-    }
-    ≡ body_meant b
-unfolding body_meant
-body_meant_lem b report kind e h = rw (e, h)
-
-pub record_meant_lem : (r : CRecord) (body : Body) → body ≡ body_meant r.body
-    → record { header = r.header; body = body; innermost = r.innermost; inner = r.inner } ≡ record_meant r
-unfolding record_meant
-record_meant_lem r body e = rw e
 
 -- ---- a packet by itself, and what it holds
 

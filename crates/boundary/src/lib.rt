@@ -14,7 +14,7 @@ ghost use Rattle.packet.specs.Packet.{read_text, read_frame, strict_text, strict
 ghost use Rattle.packet.specs.Outer.{alone_of};
 ghost use Rattle.packet.specs.Written.{text_bytes, frame_bytes};
 ghost use Rattle.boundary.specs.Numbers.{kind_number, kind_at};
-ghost use Rattle.boundary.specs.Record.{report_in_c, body_in_c, read_in_c, is_known, report_meant, body_meant, record_meant, text_refusal_in_c, frame_refusal_in_c};
+ghost use Rattle.boundary.specs.Record.{report_in_c, body_in_c, record_in_c, read_in_c, is_known, report_meant, body_meant, record_meant, text_refusal_in_c, frame_refusal_in_c};
 
 use body::{Body, Kind, Report, Span};
 use header::Header;
@@ -68,10 +68,12 @@ pub struct CRead {
 
 // ---- numbers
 
-fn kind_number(k: Kind) -> u8
-    ensures { result ≡ kind_number k }
+// The number of a kind: C has no enum of ours.
+#[tactic(auto, unfolding(crate::specs::Numbers::kind_number))]
+fn kind_number(kind: Kind) -> u8
+    ensures { result ≡ kind_number kind }
 {
-    match k {
+    match kind {
         Kind::Unknown => 0,
         Kind::Position => 1,
         Kind::MicE => 2,
@@ -80,159 +82,151 @@ fn kind_number(k: Kind) -> u8
     }
 }
 
+// The kind of a number; of any other, Unknown.
+#[tactic(auto, unfolding(crate::specs::Numbers::kind_at))]
 fn kind_at(n: u8) -> Kind
     ensures { result ≡ kind_at n }
 {
-    if n == 1 {
-        return Kind::Position;
+    match n {
+        1 => Kind::Position,
+        2 => Kind::MicE,
+        3 => Kind::Message,
+        4 => Kind::Status,
+        _ => Kind::Unknown,
     }
-    if n == 2 {
-        return Kind::MicE;
-    }
-    if n == 3 {
-        return Kind::Message;
-    }
-    if n == 4 {
-        return Kind::Status;
-    }
-    Kind::Unknown
 }
 
 // ---- a record as C has it, and the record that is meant
 
-fn report_in_c(r: Report) -> CReport
-    ensures { result ≡ report_in_c r }
-{
-    let speed = r.speed;
-    let course = r.course;
-    let m = r.message;
-    let message = mic_e::message_number(m);
-    CReport {
-        speed,
-        course,
-        message,
-        current: r.current,
+impl From<Report> for CReport {
+    ghost from_gives = { λ r c. c ≡ report_in_c r };
+
+    #[tactic(auto, unfolding(crate::specs::Record::report_in_c))]
+    fn from(r: Report) -> CReport {
+        CReport {
+            speed: r.speed,
+            course: r.course,
+            message: mic_e::message_number(r.message),
+            current: r.current,
+        }
     }
 }
 
-fn body_in_c(b: Body) -> CBody
-    ensures { result ≡ body_in_c b }
-{
-    let place = b.place;
-    let report = report_in_c(b.report);
-    let comment = b.comment;
-    let identifier = b.identifier;
-    let time = b.time;
-    let addressee = b.addressee;
-    let k = b.kind;
-    let kind = kind_number(k);
-    CBody {
-        place,
-        report,
-        comment,
-        identifier,
-        time,
-        addressee,
-        messaging: b.messaging,
-        kind,
+impl From<Body> for CBody {
+    ghost from_gives = { λ b c. c ≡ body_in_c b };
+
+    #[tactic(auto, unfolding(crate::specs::Record::body_in_c))]
+    fn from(b: Body) -> CBody {
+        let addressee = b.addressee;
+        CBody {
+            report: CReport::from(b.report),
+            place: b.place,
+            comment: b.comment,
+            identifier: b.identifier,
+            time: b.time,
+            addressee,
+            messaging: b.messaging,
+            kind: kind_number(b.kind),
+        }
     }
 }
 
-fn read_in_c(p: PacketRead) -> CRead
-    ensures { result ≡ read_in_c p }
-{
-    let r = p.record;
-    let header = r.header;
-    let body = body_in_c(r.body);
-    let innermost = r.innermost;
-    let record = CRecord {
-        header,
-        body,
-        innermost,
-        inner: r.inner,
-    };
-    CRead {
-        record,
-        refusal: p.refusal,
+impl From<Record> for CRecord {
+    ghost from_gives = { λ r c. c ≡ record_in_c r };
+
+    #[tactic(auto, unfolding(crate::specs::Record::record_in_c))]
+    fn from(r: Record) -> CRecord {
+        CRecord {
+            header: r.header,
+            body: CBody::from(r.body),
+            innermost: r.innermost,
+            inner: r.inner,
+        }
+    }
+}
+
+impl From<PacketRead> for CRead {
+    ghost from_gives = { λ p c. c ≡ read_in_c p };
+
+    #[tactic(auto, unfolding(crate::specs::Record::read_in_c))]
+    fn from(p: PacketRead) -> CRead {
+        CRead {
+            record: CRecord::from(p.record),
+            refusal: p.refusal,
+        }
     }
 }
 
 // A packet with none inside.
-fn outer_in_c(o: Outer) -> CRead
-    ensures { result ≡ read_in_c (alone_of o) }
-{
-    let header = o.header;
-    let body = body_in_c(o.body);
-    let innermost = header::blank();
-    CRead {
-        record: CRecord {
-            header,
-            body,
-            innermost,
-            inner: 0,
-        },
-        refusal: o.refusal,
+impl From<Outer> for CRead {
+    ghost from_gives = { λ o c. c ≡ read_in_c (alone_of o) };
+
+    #[tactic(auto, unfolding(crate::specs::Record::read_in_c, crate::specs::Record::record_in_c, packet::specs::Outer::alone_of))]
+    fn from(o: Outer) -> CRead {
+        CRead {
+            record: CRecord {
+                header: o.header,
+                body: CBody::from(o.body),
+                innermost: header::blank(),
+                inner: 0,
+            },
+            refusal: o.refusal,
+        }
     }
 }
 
 // Whether the numbers of kind and message stand for one.
+#[tactic(auto, unfolding(crate::specs::Record::is_known))]
 fn is_known(b: CBody) -> bool
     ensures { result ≡ is_known b }
 {
-    if 4 < b.kind {
-        return false;
-    }
-    let report = b.report;
-    report.message <= 15
+    b.kind <= 4 && b.report.message <= 15
 }
 
-fn report_meant(r: CReport) -> Report
-    ensures { result ≡ report_meant r }
-{
-    let speed = r.speed;
-    let course = r.course;
-    let message = mic_e::message_at(r.message);
-    Report {
-        speed,
-        course,
-        message,
-        current: r.current,
+impl From<CReport> for Report {
+    ghost from_gives = { λ c r. r ≡ report_meant c };
+
+    #[tactic(auto, unfolding(crate::specs::Record::report_meant))]
+    fn from(c: CReport) -> Report {
+        Report {
+            speed: c.speed,
+            course: c.course,
+            message: mic_e::message_at(c.message),
+            current: c.current,
+        }
     }
 }
 
-fn body_meant(b: CBody) -> Body
-    ensures { result ≡ body_meant b }
-{
-    let place = b.place;
-    let report = report_meant(b.report);
-    let comment = b.comment;
-    let identifier = b.identifier;
-    let time = b.time;
-    let addressee = b.addressee;
-    let kind = kind_at(b.kind);
-    Body {
-        place,
-        report,
-        comment,
-        identifier,
-        time,
-        addressee,
-        messaging: b.messaging,
-        kind,
+impl From<CBody> for Body {
+    ghost from_gives = { λ c b. b ≡ body_meant c };
+
+    #[tactic(auto, unfolding(crate::specs::Record::body_meant))]
+    fn from(c: CBody) -> Body {
+        let addressee = c.addressee;
+        Body {
+            report: Report::from(c.report),
+            place: c.place,
+            comment: c.comment,
+            identifier: c.identifier,
+            time: c.time,
+            addressee,
+            messaging: c.messaging,
+            kind: kind_at(c.kind),
+        }
     }
 }
 
-fn record_meant(r: CRecord) -> Record
-    ensures { result ≡ record_meant r }
-{
-    let header = r.header;
-    let body = body_meant(r.body);
-    let innermost = r.innermost;
-    Record {
-        header,
-        body,
-        innermost,
-        inner: r.inner,
+impl From<CRecord> for Record {
+    ghost from_gives = { λ c r. r ≡ record_meant c };
+
+    #[tactic(auto, unfolding(crate::specs::Record::record_meant))]
+    fn from(c: CRecord) -> Record {
+        Record {
+            header: c.header,
+            body: Body::from(c.body),
+            innermost: c.innermost,
+            inner: c.inner,
+        }
     }
 }
 
@@ -245,9 +239,9 @@ pub extern "C" fn tusselgro_read_text(line: &[u8]) -> CRead
 {
     let o = packet::read_outer(line, false, packet::MOST, false);
     if packet::holds_packet(line, o.at) {
-        return read_in_c(packet::read_inside(o, line, false));
+        return CRead::from(packet::read_inside(o, line, false));
     }
-    outer_in_c(o)
+    CRead::from(o)
 }
 
 // Reads an AX.25 frame, from its destination to the end of its information: as tusselgro_read_text.
@@ -257,9 +251,9 @@ pub extern "C" fn tusselgro_read_frame(frame: &[u8]) -> CRead
 {
     let o = packet::read_outer(frame, true, packet::MOST, false);
     if packet::holds_packet(frame, o.at) {
-        return read_in_c(packet::read_inside(o, frame, false));
+        return CRead::from(packet::read_inside(o, frame, false));
     }
-    outer_in_c(o)
+    CRead::from(o)
 }
 
 // Reads a line of text strictly: minutes of 60 or more are 8, 9 or, in a Mic-E destination, 11, and a byte that names no symbol table is
@@ -268,7 +262,7 @@ pub extern "C" fn tusselgro_read_frame(frame: &[u8]) -> CRead
 pub extern "C" fn tusselgro_read_text_strictly(line: &[u8]) -> CRead
     ensures { result ≡ read_in_c (strict_text line.now) }
 {
-    read_in_c(packet::read(line, false, true))
+    CRead::from(packet::read(line, false, true))
 }
 
 // Reads an AX.25 frame strictly: as tusselgro_read_text_strictly.
@@ -276,7 +270,7 @@ pub extern "C" fn tusselgro_read_text_strictly(line: &[u8]) -> CRead
 pub extern "C" fn tusselgro_read_frame_strictly(frame: &[u8]) -> CRead
     ensures { result ≡ read_in_c (strict_frame frame.now) }
 {
-    read_in_c(packet::read(frame, true, true))
+    CRead::from(packet::read(frame, true, true))
 }
 
 // Writes a record with its comment, or its text and identifier, as a line of text; refused with 15, 14, 18, 1 or 16. Where the record
@@ -293,7 +287,7 @@ pub extern "C" fn tusselgro_write_text(
     if !is_known(r.body) {
         return buffer::refused(15);
     }
-    packet::write_text(record_meant(r), comment, identifier, out)
+    packet::write_text(Record::from(r), comment, identifier, out)
 }
 
 // The same as an AX.25 frame; refused with 15, 14, 18, 13, 1 or 16.
@@ -309,7 +303,7 @@ pub extern "C" fn tusselgro_write_frame(
     if !is_known(r.body) {
         return buffer::refused(15);
     }
-    packet::write_frame(record_meant(r), comment, identifier, out)
+    packet::write_frame(Record::from(r), comment, identifier, out)
 }
 
 // ---- fields

@@ -36,13 +36,24 @@ abbrev pub table : ℕ → ℕ → List Span → Bool
 unfolding after within
 table lo hi l = all 256 (λ b. not (within lo hi b) || same (after b) l)
 
-pub after_at : (lo hi : ℕ) (l : List Span) → T (table lo hi l) → (b : ℕ) → b < 256 → lo ≤ b → b ≤ hi → l ≡ after b
+after_at : (lo hi : ℕ) (l : List Span) → T (table lo hi l) → (b : ℕ) → b < 256 → lo ≤ b → b ≤ hi → l ≡ after b
 unfolding after within
 after_at lo hi l t b f h k = sym (same_eq (after b) l (go (within lo hi b) (rw (le-leb lo b h, le-leb b hi k) refl) (all_at 256 (λ (x : ℕ). not (within lo hi x) || same (after x) l) t b f)))
   where
     go : (p : Bool) → p ≡ true → T (not p || same (after b) l) → T (same (after b) l)
     go true e t = t
     go false e t = absurd (false≢true e)
+
+-- a first byte that asks for n bytes, the next from lowest to highest
+pub asks : (lo hi n lowest highest : ℕ) → T (table lo hi (owed n lowest highest)) → (b : ℕ) → b < 256 → lo ≤ b → b ≤ hi
+    → (t : Tails) → t ≡ record { count = n; lowest = lowest; highest = highest } → asked_by (Some t) ≡ after b
+unfolding asked_by
+asks lo hi n lowest highest h b f j k t e = rw e (after_at lo hi (owed n lowest highest) h b f j k)
+
+-- and one that starts no character
+pub asks_none : (lo hi : ℕ) → T (table lo hi (never ∷ [])) → (b : ℕ) → b < 256 → lo ≤ b → b ≤ hi → asked_by None ≡ after b
+unfolding asked_by
+asks_none lo hi h b f j k = after_at lo hi (never ∷ []) h b f j k
 
 -- ---- a turn of the reader: n bytes are owed, the next from lo to hi
 

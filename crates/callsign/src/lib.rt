@@ -70,14 +70,15 @@ struct Tails {
     highest: u8,
 }
 
-// So many bytes, of which the next is any tail.
-fn any_tails(count: u8) -> Tails
-    ensures { result ≡ record { count = count; lowest = 0x80; highest = 0xbf } }
-{
-    Tails {
-        count,
-        lowest: 0x80,
-        highest: 0xbf,
+impl Tails {
+    fn new(count: u8, lowest: u8, highest: u8) -> Tails
+        ensures { result ≡ record { count = count; lowest = lowest; highest = highest } }
+    {
+        Tails {
+            count,
+            lowest,
+            highest,
+        }
     }
 }
 
@@ -86,32 +87,17 @@ fn after_first(b: u8) -> Option<Tails>
     ensures { asked_by result ≡ after b }
 {
     match b {
-        0x00..=0x7f => Some(any_tails(0)),
-        0xc2..=0xdf => Some(any_tails(1)),
-        0xe0 => Some(Tails {
-            count: 2,
-            lowest: 0xa0,
-            highest: 0xbf,
-        }),
-        0xe1..=0xec => Some(any_tails(2)),
-        0xed => Some(Tails {
-            count: 2,
-            lowest: 0x80,
-            highest: 0x9f,
-        }),
-        0xee..=0xef => Some(any_tails(2)),
-        0xf0 => Some(Tails {
-            count: 3,
-            lowest: 0x90,
-            highest: 0xbf,
-        }),
-        0xf1..=0xf3 => Some(any_tails(3)),
-        0xf4 => Some(Tails {
-            count: 3,
-            lowest: 0x80,
-            highest: 0x8f,
-        }),
-        _ => None,
+        0x00..=0x7f => Some(Tails::new(0, 0x80, 0xbf)),
+        0x80..=0xc1 => None,
+        0xc2..=0xdf => Some(Tails::new(1, 0x80, 0xbf)),
+        0xe0 => Some(Tails::new(2, 0xa0, 0xbf)),
+        0xe1..=0xec => Some(Tails::new(2, 0x80, 0xbf)),
+        0xed => Some(Tails::new(2, 0x80, 0x9f)),
+        0xee..=0xef => Some(Tails::new(2, 0x80, 0xbf)),
+        0xf0 => Some(Tails::new(3, 0x90, 0xbf)),
+        0xf1..=0xf3 => Some(Tails::new(3, 0x80, 0xbf)),
+        0xf4 => Some(Tails::new(3, 0x80, 0x8f)),
+        0xf5..=0xff => None,
     }
 }
 
@@ -120,15 +106,15 @@ fn after_first(b: u8) -> Option<Tails>
 fn is_utf8(t: &[u8]) -> bool
     ensures { result ≡ utf8 t.now }
 {
-    let mut owed = any_tails(0);
+    let mut owed = Tails::new(0, 0x80, 0xbf);
     for &b in t {
         if owed.count == 0 {
-            let Some(tails) = after_first(b) else {
+            let Some(next) = after_first(b) else {
                 return false;
             };
-            owed = tails;
+            owed = next;
         } else if owed.lowest <= b && b <= owed.highest {
-            owed = any_tails(owed.count - 1);
+            owed = Tails::new(owed.count - 1, 0x80, 0xbf);
         } else {
             return false;
         }
@@ -139,6 +125,7 @@ fn is_utf8(t: &[u8]) -> bool
 // ---- the text read
 
 // The bytes of t, and zeros up to 16.
+#[tactic(auto, using(crate::proofs::Padded::copied))]
 fn pad(t: &[u8]) -> [u8; 16]
     requires { length t.now ≤ 16 }
     ensures { result ≡ pad_to 16 0 t.now }
@@ -155,6 +142,7 @@ pub fn blank() -> Callsign
     Callsign::default()
 }
 
+#[tactic(auto, unfolding(crate::specs::Text::call_refused))]
 fn refused(n: u8) -> CallRead
     ensures { result ≡ call_refused n }
 {
@@ -178,6 +166,7 @@ fn call_as(text: [u8; 16], n: usize, k: usize, zero: bool) -> Callsign
     }
 }
 
+#[tactic(auto, unfolding(crate::specs::Text::call_accepted))]
 fn accepted(call: Callsign, starred: bool) -> CallRead
     ensures { result ≡ call_accepted call starred }
 {
@@ -197,6 +186,7 @@ fn is_text(t: &[u8], whole: &[u8; 16]) -> bool
 }
 
 // Whether an SSID is `0` alone.
+#[tactic(auto, unfolding(crate::specs::Text::is_zero), using(crate::proofs::Texts::zero_same))]
 fn is_zero(ssid: &[u8]) -> bool
     ensures { result ≡ is_zero ssid.now }
 {
@@ -265,6 +255,7 @@ fn is_sound(text: &[u8; 16], n: usize) -> bool
 }
 
 // How many bytes call, dash and SSID take.
+#[tactic(auto, unfolding(crate::specs::Range::text_len))]
 fn whole_len(c: &Callsign) -> usize
     ensures { result ≡ text_len c.now }
 {
@@ -357,6 +348,7 @@ pub fn ssid(b: u8) -> u8
 }
 
 // Whether c is an ASCII letter or digit.
+#[tactic(auto, unfolding(laws::specs::Bytes::within))]
 pub fn letter_or_digit(c: u8) -> bool
     ensures { result ≡ is_letter_or_digit c }
 {
@@ -402,6 +394,7 @@ pub fn address_call(call: Characters, len: usize, seventh: u8) -> Callsign
     numbered(&call[..len.min(6)], ssid(seventh))
 }
 
+#[tactic(auto, unfolding(crate::specs::Address::address_refused))]
 fn no_address() -> AddressRead
     ensures { result ≡ address_refused 3 }
 {
@@ -461,6 +454,7 @@ fn ssid_number(s: &[u8]) -> Result<u32, CountError>
 }
 
 // The three upper bits of the seventh byte.
+#[tactic(auto, unfolding(crate::specs::Packed::upper_bits, crate::specs::Packed::bit))]
 fn upper(field: Field) -> u8
     ensures { result ≡ upper_bits field }
 {
@@ -479,6 +473,7 @@ fn seventh(field: Field, ssid: u8, last: bool) -> u8
     (upper(field) << 5) | (ssid << 1) | (last as u8)
 }
 
+#[tactic(auto, unfolding(crate::specs::Packed::unwritten_by))]
 fn unwritten(n: u8) -> AddressWritten
     ensures { result ≡ unwritten_by n }
 {

@@ -1,10 +1,10 @@
 -- Laws of digit places: the last places as one byte, and the value that digits write.
 -- Assumes nothing.
-use Rattle.std.proofs.Common.{◌≡◌, ℕ, ◌+◌, ◌-◌, ◌*◌, ◌/◌, ◌%◌, ◌^◌, ◌<◌, ◌≤◌, Bool, true, false, leb, List, [], ◌∷◌, ◌++◌, length, get_or, take, drop, replicate, sym, refl, ap, ◌∙◌, add-one, arith, length-append, length-drop, take-append-drop, length-take-le, take_at, get_or-append-add, append-nil, drop_of_length-le, le-leb, leb-false, leb-true}
+use Rattle.std.proofs.Common.{◌≡◌, ℕ, ◌+◌, ◌-◌, ◌*◌, ◌/◌, ◌%◌, ◌^◌, ◌<◌, ◌≤◌, Bool, true, false, leb, List, [], ◌∷◌, length, take, drop, replicate, sym, refl, ap, ◌∙◌, add-one, arith, length-append, length-drop, take-append-drop, length-take-le, take_at, append-nil, drop_of_length-le, le-leb, leb-false, leb-true}
 use native.Mathlib.Nat.{pow-succ', pow-le-pow_right}
 use borrow.Author.Tests.{lt-leb}
 use borrow.Rule.Slice.PartMut.{put_mid}
-use lib.ListN.{length-replicate, get_or-replicate}
+use lib.ListN.{length-replicate}
 use Rattle.laws.specs.Bytes.{is_digit}
 use Rattle.laws.specs.Lists.{every}
 use Rattle.laws.proofs.Each.{every_first, every_rest, every_drop}
@@ -32,15 +32,6 @@ module _ (b n : ℕ) (t : List ℕ) (few : n ≤ length t) where
   pub last_start : take (length t - n) (last_as b n t) ≡ take (length t - n) t
   unfolding last_as
   last_start = take_at (take (length t - n) t) (replicate n b) (length t - n) kept
-
-  pub last_is : (i : ℕ) → length t - n ≤ i → i < length t → get_or (last_as b n t) i 0 ≡ b
-  unfolding last_as
-  last_is i h k =
-      let e : i ≡ length (take (length t - n) t) + (i - (length t - n)) = rw kept (omega arith) in
-      let l : i - (length t - n) < n = omega arith in
-      ap (λ (j : ℕ). get_or (take (length t - n) t ++ replicate n b) j 0) e
-      ∙ get_or-append-add (take (length t - n) t) (replicate n b) (i - (length t - n)) 0
-      ∙ get_or-replicate n (i - (length t - n)) b 0 l
 
 -- ---- numbers
 

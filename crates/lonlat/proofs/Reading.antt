@@ -1,7 +1,6 @@
 -- What each answer of the readers must show, one law an answer.
 -- Assumes nothing.
 use Rattle.std.proofs.Common.{◌≡◌, ℕ, ◌-◌, ◌<◌, ◌≤◌, Bool, true, false, cond, Option, Some, None, Err, ok_or, ◌||◌, eqb, leb, List, length, get_or, take, drop, ℤ, sym, refl, ap, ◌∙◌, arith, le-ltb, lt-ltb, eq-eqb, ne_eqb, le-leb}
-use mathlib.Core.Bool.{or-true}
 use borrow.Author.Tests.{lt-leb}
 use borrow.Author.Rules.{part_to_end}
 use Rattle.laws.specs.Bytes.{space, digit0, point, capital_n, capital_s, capital_e, capital_w, is_digit}
@@ -98,19 +97,6 @@ module _ (most : ℕ) (minus : Bool) (t : List ℕ) (q : Option Size) (e : q ≡
 -- ---- the letter of a side
 
 module _ (plus minus letter : ℕ) where
-  pub side_minus : letter ≡ minus → Some true ≡ side_of plus minus letter
-  unfolding side_of
-  side_minus e = rw (eq-eqb letter minus e, or-true (eqb letter plus))
-
-  module _ (other : letter ≡ minus → ⊥) where
-    pub side_plus : letter ≡ plus → Some false ≡ side_of plus minus letter
-    unfolding side_of
-    side_plus e = rw (eq-eqb letter plus e, ne_eqb letter minus other)
-
-    pub side_neither : (letter ≡ plus → ⊥) → None ≡ side_of plus minus letter
-    unfolding side_of
-    side_neither n = rw (ne_eqb letter plus n, ne_eqb letter minus other)
-
   -- o is what the code was told
   module _ (o : Option Bool) (told : o ≡ side_of plus minus letter) where
     pub side_none : o ≡ None → (eqb letter plus || eqb letter minus) ≡ false

@@ -1,6 +1,6 @@
 -- What each answer of the writers must show, and the text that they build.
 -- Assumes nothing.
-use Rattle.std.proofs.Common.{◌≡◌, ℕ, ◌/◌, ◌%◌, ◌<◌, ◌≤◌, cond, List, [], ◌∷◌, length, get_or, ℤ, nat_abs, refl, ap, ◌∙◌, subst, arith, le-ltb, lt-ltb}
+use Rattle.std.proofs.Common.{◌≡◌, ℕ, ◌/◌, ◌%◌, ◌<◌, ◌≤◌, cond, ◌⊎◌, inl, inr, List, [], ◌∷◌, length, get_or, ℤ, nat_abs, refl, ap, ◌∙◌, subst, arith, le-ltb, lt-ltb}
 use Rattle.laws.specs.Bytes.{space, point, capital_n, capital_s, capital_e, capital_w}
 use Rattle.buffer.specs.Wrote.{ends, refused_by, wrote}
 use Rattle.buffer.specs.declared.Answer.{Answer}
@@ -56,7 +56,7 @@ module _ (angle z : ℤ) (back : z ≡ angle) (p : Sides) (e : p ≡ sides_of z)
   sized = parts_size angle z back p e
 
   module _ (blanks : ℕ) (r : Answer) (out : List ℕ) where
-    pub latitude_far : most_latitude < p.size → r ≡ refused_by 15 → ends r out ≡ wrote (latitude_refusal angle blanks) (latitude_text angle blanks) out
+    latitude_far : most_latitude < p.size → r ≡ refused_by 15 → ends r out ≡ wrote (latitude_refusal angle blanks) (latitude_text angle blanks) out
     unfolding latitude_refusal
     latitude_far h f =
         let k : most_latitude < nat_abs angle = omega (arith, sized) in
@@ -66,7 +66,7 @@ module _ (angle z : ℤ) (back : z ≡ angle) (p : Sides) (e : p ≡ sides_of z)
       near' : nat_abs angle ≤ most_latitude
       near' = omega (arith, sized)
 
-      pub latitude_many : 5 < blanks → r ≡ refused_by 15 → ends r out ≡ wrote (latitude_refusal angle blanks) (latitude_text angle blanks) out
+      latitude_many : 5 < blanks → r ≡ refused_by 15 → ends r out ≡ wrote (latitude_refusal angle blanks) (latitude_text angle blanks) out
       unfolding latitude_refusal
       latitude_many h f = rw f (refuses 15 _ (latitude_text angle blanks) out (rw (le-ltb most_latitude (nat_abs angle) near', lt-ltb 5 blanks h)) (λ q. omega arith))
 
@@ -74,6 +74,11 @@ module _ (angle z : ℤ) (back : z ≡ angle) (p : Sides) (e : p ≡ sides_of z)
           → (out' : List ℕ) → ends r out' ≡ wrote 0 text out → ends r out' ≡ wrote (latitude_refusal angle blanks) (latitude_text angle blanks) out
       unfolding latitude_refusal latitude_text north_or_south
       latitude_wrote few letter l text f out' g = rw (le-ltb most_latitude (nat_abs angle) near', le-ltb 5 blanks few, ← sized, ← parts_minus angle z back p e, ← l, ← f) g
+
+    pub latitude_out : (most_latitude < p.size) ⊎ ((p.size ≤ most_latitude) × (5 < blanks)) → r ≡ refused_by 15
+        → ends r out ≡ wrote (latitude_refusal angle blanks) (latitude_text angle blanks) out
+    latitude_out (inl far) f = latitude_far far f
+    latitude_out (inr (near, many)) f = latitude_many near many f
 
   module _ (r : Answer) (out : List ℕ) where
     pub longitude_far : most_longitude < p.size → r ≡ refused_by 15 → ends r out ≡ wrote (longitude_refusal angle) (longitude_text angle) out

@@ -1,7 +1,7 @@
 // Angles in whole hundredths of a minute: taken apart, put together, read from text and written to it.
 #![tactic(auto)]
 
-ghost use Rattle.std.specs.Prelude.{◌≡◌, ◌≤◌, ◌||◌, length, if◌then◌else◌, ◌==◌};
+ghost use Rattle.std.specs.Prelude.{◌≡◌, ◌≤◌, length, if◌then◌else◌, ◌==◌};
 ghost use Rattle.laws.specs.Lists.{every};
 ghost use Rattle.buffer.specs.Wrote.{ends, wrote};
 ghost use Rattle.lonlat.specs.Angle.{most_longitude, longitude_of};
@@ -10,16 +10,14 @@ ghost use Rattle.numbers.specs.Numbers.{digit_of};
 ghost use Rattle.lonlat.specs.Latitude.{is_blank, kept_of, latitude_in, read_latitude, blanked_places, latitude_text, latitude_refusal};
 ghost use Rattle.lonlat.specs.Longitude.{longitude_in, read_longitude, longitude_text, longitude_refusal};
 
-use std::num::wrapping_sub_u8;
-
 // A latitude: signed hundredths of a minute, north positive.
 #[repr(C)]
-#[derive(Clone, Copy)]
+#[derive(Clone, Copy, Debug, Default, PartialEq, Eq)]
 pub struct Latitude(pub i32);
 
 // A longitude: signed hundredths of a minute, east positive.
 #[repr(C)]
-#[derive(Clone, Copy)]
+#[derive(Clone, Copy, Debug, Default, PartialEq, Eq)]
 pub struct Longitude(pub i32);
 
 // The longitude of that size, east or west; 0 on either side is plain 0. Past 180 degrees there is none.
@@ -47,11 +45,10 @@ fn value(t: &[u8]) -> Option<Size>
 {
     let mut v: u32 = 0;
     for &b in t {
-        let digit = wrapping_sub_u8(b, b'0');
-        if 9 < digit {
+        if !b.is_ascii_digit() {
             return None;
         }
-        v = 10 * v + u32::from(digit);
+        v = 10 * v + u32::from(b - b'0');
     }
     Some(Size {
         hundredths: 6000 * (v / 10000) + v % 10000,
@@ -108,6 +105,7 @@ fn angle_in(most: u32, minus: bool, t: &[u8]) -> Option<AngleRead>
 }
 
 // Whether a letter says the side minus, if it is the letter of either side.
+#[tactic(auto, unfolding(crate::specs::Digits::side_of))]
 fn side_of(letter: u8, plus: u8, minus: u8) -> Option<bool>
     ensures { result ≡ side_of plus minus letter }
 {
@@ -122,7 +120,7 @@ fn side_of(letter: u8, plus: u8, minus: u8) -> Option<bool>
 
 // What eight bytes of latitude read as: the angle, its blanks, whether the letter is S, also at 0, and whether the minutes,
 // blanks as 0, are 60 or more.
-#[derive(Clone, Copy)]
+#[derive(Clone, Copy, Debug, PartialEq, Eq)]
 pub struct LatitudeRead {
     pub latitude: Latitude,
     pub blanks: u8,
@@ -155,18 +153,18 @@ fn latitude_in(places: [u8; 6], letter: u8) -> Option<LatitudeRead>
 pub fn read_latitude(s: &[u8]) -> Option<LatitudeRead>
     ensures { result ≡ read_latitude s.now }
 {
-    if s.len() != 8 {
+    let [a, b, c, d, point, e, f, letter] = *s else {
+        return None;
+    };
+    if point != b'.' {
         return None;
     }
-    if s[4] != b'.' {
-        return None;
-    }
-    latitude_in([s[0], s[1], s[2], s[3], s[5], s[6]], s[7])
+    latitude_in([a, b, c, d, e, f], letter)
 }
 
 // What nine bytes of longitude read as: the angle, whether the letter is W, also at 0, and whether the minutes, discarded
 // digits as 0, are 60 or more.
-#[derive(Clone, Copy)]
+#[derive(Clone, Copy, Debug, PartialEq, Eq)]
 pub struct LongitudeRead {
     pub longitude: Longitude,
     pub west: bool,
@@ -201,18 +199,19 @@ pub fn read_longitude(s: &[u8], blanks: u8) -> Result<LongitudeRead, LongitudeEr
     if 5 < blanks {
         return Err(LongitudeError::OutOfRange);
     }
-    if s.len() != 9 {
+    let [a, b, c, d, e, point, f, g, letter] = *s else {
+        return Err(LongitudeError::Malformed);
+    };
+    if point != b'.' {
         return Err(LongitudeError::Malformed);
     }
-    if s[5] != b'.' {
-        return Err(LongitudeError::Malformed);
-    }
-    let mut t = [s[0], s[1], s[2], s[3], s[4], s[6], s[7]];
-    last_as(b'0', blanks as usize, &mut t);
-    longitude_in(&t, s[8]).ok_or(LongitudeError::Malformed)
+    let mut t = [a, b, c, d, e, f, g];
+    last_as(b'0', usize::from(blanks), &mut t);
+    longitude_in(&t, letter).ok_or(LongitudeError::Malformed)
 }
 
 // The character of the last digit of v.
+#[tactic(auto, unfolding(numbers::specs::Numbers::digit_of))]
 fn digit(v: u32) -> u8
     ensures { result ≡ digit_of v }
 {
@@ -244,10 +243,7 @@ pub fn write_latitude(l: Latitude, blanks: u8, out: &mut [u8]) -> buffer::Answer
     ensures { ends result out.new ≡ wrote (latitude_refusal l.0 blanks) (latitude_text l.0 blanks) out.old }
 {
     let sides = numbers::parts(l.0);
-    if 540000 < sides.size {
-        return buffer::refused(15);
-    }
-    if 5 < blanks {
+    if 540000 < sides.size || 5 < blanks {
         return buffer::refused(15);
     }
     let letter = side_letter(sides.minus, b'N', b'S');

@@ -7,33 +7,21 @@ use mathlib.Core.List.{List, ◌++◌}
 use Prim.Native.Nat.{ℕ, ◌+◌, ◌≤◌}
 use native.Mathlib.Omega.{arith}
 use lib.ListN.{length, take, drop, replicate, length-append, length-drop}
-use lib.Seq.{length-take-le}
 use Rattle.buffer.specs.declared.Answer.{Answer}
-use Rattle.buffer.specs.Wrote.{Wrote, ends, refused_by, over_by, wrote}
+use Rattle.buffer.specs.Wrote.{ends, refused_by, over_by, wrote}
 use Rattle.buffer.specs.Filled.{Filled, filled, front_of, added}
 use Rattle.buffer.proofs.Wrote.{passed_on}
 use Rattle.buffer.proofs.Answers.{refusal_is, bytes_are, reported_is, front_is}
-use Rattle.buffer.proofs.Filled.{added_length, added_len, added_front}
+use Rattle.buffer.proofs.Filled.{added_front}
 use Rattle.header.specs.declared.Header.{Header}
 use Rattle.header.specs.Text.{header_text}
 use Rattle.header.specs.Frame.{header_frame}
-use Rattle.header.specs.Range.{header_in_range, text_refusal as header_text_refusal, frame_refusal as header_frame_refusal}
+use Rattle.header.specs.Range.{header_in_range, text_refusal as header_text_refusal}
 use Rattle.header.proofs.Theorems.{text_at_most_178, frame_at_most_72}
 use Rattle.header.specs.Header.{most_bytes}
 use Rattle.packet.specs.Written.{or_else}
 use Rattle.packet.specs.Private.{head_bytes, head_refusal, wrote_behind}
 use Rattle.packet.proofs.Order.{or_first, or_none}
-
--- ---- a header as a frame or as a line
-
-module _ (framed : Bool) (h : Header) (out : List ℕ) (w : Wrote) where
-  pub head_framed : framed ≡ true → w ≡ wrote (header_frame_refusal h) (header_frame h) out → w ≡ wrote (head_refusal framed h) (head_bytes framed h) out
-  unfolding head_refusal head_bytes
-  head_framed e q = rw e q
-
-  pub head_plain : framed ≡ false → w ≡ wrote (header_text_refusal h) (header_text h) out → w ≡ wrote (head_refusal framed h) (head_bytes framed h) out
-  unfolding head_refusal head_bytes
-  head_plain e q = rw e q
 
 pub head_short : (framed : Bool) (h : Header) → head_refusal framed h ≡ 0 → length (head_bytes framed h) ≤ 178
 unfolding head_refusal head_bytes header_text_refusal
@@ -63,7 +51,8 @@ module _ (framed : Bool) (h : Header) (w : Answer) (head : List ℕ) (e : ends w
       passed_on a w.refusal (or_else (head_refusal framed h) (over_by most_bytes bytes)) bytes out f z
       (ap (λ (n : ℕ). or_else n (over_by most_bytes bytes)) (sym says) ∙ or_first w.refusal (over_by most_bytes bytes) z)
 
-  module _ (z : w.refusal ≡ 0) (body : List ℕ) (short : length body ≤ 27) (later : List ℕ) (m : ℕ) (p : filled later m ≡ added (filled head w.reported) body) where
+  module _ (z : w.refusal ≡ 0) (body : List ℕ) (short : length body ≤ 27) (before later : List ℕ) (k m : ℕ) (b : filled before k ≡ filled head w.reported)
+      (p : filled later m ≡ added (filled before k) body) where
     none : head_refusal framed h ≡ 0
     none = sym says ∙ z
 
@@ -79,26 +68,17 @@ module _ (framed : Bool) (h : Header) (w : Answer) (head : List ℕ) (e : ends w
     fits : w.reported + length body ≤ length head
     fits = omega (arith, reported, long, head_short framed h none)
 
-    front : take m later ≡ head_bytes framed h ++ body
+    front_lem : take m later ≡ head_bytes framed h ++ body
     unfolding front_of
-    front =
-        ap front_of p
+    front_lem =
+        ap front_of (p ∙ ap (λ (f : Filled). added f body) b)
         ∙ added_front (filled head w.reported) body fits
         ∙ ap (λ (l : List ℕ). l ++ body) (front_is w head (head_bytes framed h) scratch (head_refusal framed h) e none (room none))
 
-    pub behind_within : m ≤ length later
-    behind_within =
-        let n : length later ≡ length head = ap (λ (f : Filled). length f.bytes) p ∙ added_length (filled head w.reported) body in
-        let l : m ≡ w.reported + length body = ap (λ (f : Filled). f.len) p ∙ added_len (filled head w.reported) body fits in
-        omega (arith, fits)
-
-    pub behind_long : m ≡ length (take m later)
-    behind_long = sym (length-take-le m later behind_within)
-
-    pub behind_written : (text tail out last : List ℕ) (a : Answer) → ends a last ≡ wrote (over_by most_bytes (take m later ++ (text ++ tail))) (take m later ++ (text ++ tail)) out
-        → ends a last ≡ wrote_behind framed h body text tail out
+    pub behind_written : (front text tail out last : List ℕ) (a : Answer) → front ≡ take m later
+        → ends a last ≡ wrote (over_by most_bytes (front ++ (text ++ tail))) (front ++ (text ++ tail)) out → ends a last ≡ wrote_behind framed h body text tail out
     unfolding wrote_behind
-    behind_written text tail out last a f = rw (or_none (head_refusal framed h) _ none, ← front) f
+    behind_written front text tail out last a q f = rw (or_none (head_refusal framed h) _ none, ← front_lem, ← q) f
 
 -- ---- a body that is refused
 

@@ -1,25 +1,22 @@
--- A packet read by itself is the packet that the definition reads, once what its body holds is read too: one law for each answer of the
--- code.
+-- A packet read by itself is the packet that the definition reads, once what its body holds is read too.
 -- Assumes nothing.
 use mathlib.Core.Path.{◌≡◌, refl, sym, ap, ◌∙◌}
 use mathlib.Core.Bool.{Bool, true, false, cond}
 use mathlib.Core.List.{List}
-use Prim.Native.Nat.{ℕ, zero, suc, ◌+◌, ◌-◌, ◌<◌, ◌≤◌}
+use Prim.Native.Nat.{ℕ, zero, suc, ◌+◌, ◌-◌}
 use native.Mathlib.Omega.{arith}
 use native.Mathlib.Numerals.{sub-one}
-use borrow.Author.Tests.{lt-ltb, le-ltb, eq-eqb, ne_eqb, eqb-true}
+use borrow.Author.Tests.{le-ltb, eq-eqb, ne_eqb, eqb-true}
 use borrow.Author.Rules.{part_to_end}
 use lib.Dec.{eqb, ltb}
 use lib.ListN.{length, drop, get_or}
 use Rattle.laws.specs.Bytes.{closing_brace}
 use Rattle.laws.proofs.Tests.{and_both}
 use Rattle.callsign.specs.declared.Callsign.{Callsign}
-use Rattle.header.specs.declared.Header.{Header}
 use Rattle.header.specs.declared.HeaderRead.{HeaderRead}
 use Rattle.header.specs.Header.{most_bytes, header_refused}
 use Rattle.header.specs.Text.{read_header_text, read_text_header}
 use Rattle.header.specs.Frame.{read_frame_header}
-use Rattle.body.specs.declared.BodyRead.{BodyRead}
 use Rattle.body.specs.Body.{blank_body, body_accepted, opening_of, body_after, read_body_by}
 use Rattle.packet.specs.declared.Outer.{Outer}
 use Rattle.packet.specs.declared.PacketRead.{PacketRead}
@@ -29,46 +26,8 @@ use Rattle.packet.specs.Outer.{outer_refused, outer_of, outer_after, outer_withi
 use Rattle.packet.proofs.Packets.{behind_brace, nothing_there, any_is, frame_is, line_read}
 use Rattle.packet.proofs.Ways.{own, by_body, refused_is, alone_is, around_is}
 
--- ---- a header, and the body behind it
+-- ---- a frame or a line: 1 is the header's
 
-module _ (strict : Bool) (h : HeaderRead) (s : List ℕ) (r : Outer) where
-  without_header : (h.refusal ≡ 0 → ⊥) → r ≡ outer_refused s h.refusal → r ≡ outer_after strict h s
-  unfolding outer_after
-  without_header z w = rw (ne_eqb h.refusal 0 z) w
-
-  module _ (b : BodyRead) (z : h.refusal ≡ 0) (q : b ≡ read_body_by strict h.header.to s h.body) where
-    without_body : (b.refusal ≡ 0 → ⊥) → r ≡ outer_refused s b.refusal → r ≡ outer_after strict h s
-    unfolding outer_after outer_of
-    without_body n w = rw (eq-eqb h.refusal 0 z, ← q, ne_eqb b.refusal 0 n) w
-
-made_of : (strict : Bool) (h : HeaderRead) (s : List ℕ) (b : BodyRead) (to : Callsign) (x : Header) → h.refusal ≡ 0 → b ≡ read_body_by strict h.header.to s h.body → b.refusal ≡ 0
-    → to ≡ kept_to b.body.kind h.header.to → x ≡ header_to h.header to → record { header = x; body = b.body; at = h.body; refusal = 0 } ≡ outer_after strict h s
-unfolding outer_after outer_of
-made_of strict h s b to x z q n f g = rw (eq-eqb h.refusal 0 z, ← q, eq-eqb b.refusal 0 n, g, f)
-
--- ---- a frame or a text of at most so many bytes
-
-pub outer_too_long : (strict : Bool) (most : ℕ) (framed : Bool) (s : List ℕ) (r : Outer) → most < length s → r ≡ outer_refused s 1 → r ≡ outer_within strict most framed s
-unfolding outer_within
-outer_too_long strict most framed s r l w = rw (lt-ltb most (length s) l) w
-
-module _ (strict : Bool) (most : ℕ) (framed : Bool) (s : List ℕ) (l : length s ≤ most) (h : HeaderRead) (e : h ≡ cond framed (read_frame_header s) (read_header_text s)) where
-  fits : (r : Outer) → r ≡ outer_after strict h s → r ≡ outer_within strict most framed s
-  unfolding outer_within
-  fits r w = rw (le-ltb most (length s) l, ← e) w
-
-  pub outer_without_header : (r : Outer) → (h.refusal ≡ 0 → ⊥) → r ≡ outer_refused s h.refusal → r ≡ outer_within strict most framed s
-  outer_without_header r z w = fits r (without_header strict h s r z w)
-
-  module _ (z : h.refusal ≡ 0) (b : BodyRead) (q : b ≡ read_body_by strict h.header.to s h.body) where
-    pub outer_without_body : (r : Outer) → (b.refusal ≡ 0 → ⊥) → r ≡ outer_refused s b.refusal → r ≡ outer_within strict most framed s
-    outer_without_body r n w = fits r (without_body strict h s r b z q n w)
-
-    pub outer_made : (to : Callsign) (x : Header) → b.refusal ≡ 0 → to ≡ kept_to b.body.kind h.header.to → x ≡ header_to h.header to
-        → record { header = x; body = b.body; at = h.body; refusal = 0 } ≡ outer_within strict most framed s
-    outer_made to x n f g = fits (record { header = x; body = b.body; at = h.body; refusal = 0 }) (made_of strict h s b to x z q n f g)
-
--- a frame or a line: 1 is the header's
 refused_outer : (strict : Bool) (h : HeaderRead) (s : List ℕ) → h ≡ header_refused 1 → outer_after strict h s ≡ outer_refused s 1
 unfolding outer_after header_refused
 refused_outer strict h s e = rw e refl
@@ -96,14 +55,9 @@ any_within strict s = rw (le-ltb (length s) (length s) (omega arith))
 
 -- ---- what it holds
 
-module _ (strict : Bool) (left : ℕ) (o : Outer) (s : List ℕ) (u : Bool) (q : u ≡ holds_packet s o.at) (r : PacketRead) where
-  pub from_held : u ≡ true → (p : PacketRead) → p ≡ inside_of strict left (drop (o.at + 1) s) → r ≡ packet_around o.header (o.at + 1) p → r ≡ packet_from strict left o s
-  unfolding packet_from
-  from_held e p f w = rw (← q, e) (w ∙ ap (packet_around o.header (o.at + 1)) f)
-
-  pub from_alone : u ≡ false → r ≡ alone_of o → r ≡ packet_from strict left o s
-  unfolding packet_from
-  from_alone e w = rw (← q, e) w
+pub from_alone : (strict : Bool) (left : ℕ) (o : Outer) (s : List ℕ) (u : Bool) → u ≡ holds_packet s o.at → (r : PacketRead) → u ≡ false → r ≡ alone_of o → r ≡ packet_from strict left o s
+unfolding packet_from
+from_alone strict left o s u q r e w = rw (← q, e) w
 
 -- ---- the same as the definition
 
@@ -166,6 +120,8 @@ inside_text_lem strict zero s at o r z f w = absurd (z refl)
 inside_text_lem strict (suc k) s at o r z f w =
     w ∙ ap (λ (x : Outer). packet_from strict (suc k - 1) x (behind_brace s at)) (f ∙ any_within strict (behind_brace s at)) ∙ from_after strict (suc k - 1) (read_header_text (behind_brace s at)) (behind_brace s at)
     ∙ rw (sub-one (suc k), part_to_end s (at + 1))
+
+pub ruleset inside_text = (inside_fifth, inside_text_lem)
 
 pub any_from : (strict : Bool) (s : List ℕ) (o : Outer) (r : PacketRead) → o ≡ outer_within strict (length s) false s → r ≡ packet_from strict most_inner o s → r ≡ read_any_text_by strict s
 any_from strict s o r f w = w ∙ ap (λ (x : Outer). packet_from strict most_inner x s) (f ∙ any_within strict s) ∙ from_after strict most_inner (read_header_text s) s ∙ sym (any_is strict s)

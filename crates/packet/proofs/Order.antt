@@ -213,3 +213,5 @@ frame_first h n = go (header_in_range h)
     go : (b : Bool) → or_else (cond b 0 15) (or_else (cond b (first_refusal (addresses h)) 15) n) ≡ or_else (cond b (first_refusal (addresses h)) 15) n
     go true = refl
     go false = refl
+
+pub ruleset inside_refused = (too_many, body_is_out, headers_judged)

@@ -1,52 +1,19 @@
--- Laws of a packet that is read, one for each answer of the code.
+-- Laws of a packet that is read.
 -- Assumes nothing.
 use mathlib.Core.Path.{◌≡◌, refl, sym, ◌∙◌}
 use mathlib.Core.Bool.{Bool, true, false, cond}
 use mathlib.Core.List.{List}
 use Prim.Native.Nat.{ℕ, ◌+◌, ◌-◌, ◌<◌, ◌≤◌}
-use borrow.Author.Tests.{lt-ltb, le-ltb, ltb-true, eq-eqb, ne_eqb}
+use borrow.Author.Tests.{le-ltb, ltb-true}
 use lib.Dec.{eqb, ltb}
 use lib.ListN.{length, take, drop, get_or}
 use Rattle.laws.specs.Bytes.{closing_brace}
 use Rattle.laws.proofs.Tests.{and_first}
-use Rattle.header.specs.declared.Header.{Header}
 use Rattle.header.specs.Header.{most_bytes, header_refused}
 use Rattle.header.specs.Text.{read_header_text, read_text_header}
 use Rattle.header.specs.Frame.{read_frame_header}
-use Rattle.body.specs.declared.Span.{Span}
-use Rattle.body.specs.declared.Body.{Body}
-use Rattle.packet.specs.declared.Record.{Record}
-use Rattle.packet.specs.declared.PacketRead.{PacketRead}
 use Rattle.packet.specs.Record.{packet_refused}
-use Rattle.packet.specs.Packet.{most_inner, holds_packet, is_nowhere, moved_span, moved_body, innermost_of, record_around, packet_around, unless_refused, packet_after, read_any_text_by, read_text_by, read_frame_by}
-
--- ---- a packet around another
-
-pub stays : (u : Bool) (p : Span) (by : ℕ) → u ≡ is_nowhere p → u ≡ true → p ≡ moved_span by p
-unfolding moved_span
-stays u p by q e = rw (← q, e)
-
-pub moves : (u : Bool) (p : Span) (by : ℕ) → u ≡ is_nowhere p → u ≡ false → record { at = p.at + by; len = p.len } ≡ moved_span by p
-unfolding moved_span
-moves u p by q e = rw (← q, e)
-
-pub own_innermost : (r : Record) → r.inner ≡ 0 → r.header ≡ innermost_of r
-unfolding innermost_of
-own_innermost r e = rw (eq-eqb r.inner 0 e)
-
-pub its_innermost : (r : Record) → (r.inner ≡ 0 → ⊥) → r.innermost ≡ innermost_of r
-unfolding innermost_of
-its_innermost r e = rw (ne_eqb r.inner 0 e)
-
-module _ (h : Header) (at : ℕ) (p : PacketRead) where
-  pub around_refused : (r : PacketRead) → (p.refusal ≡ 0 → ⊥) → r ≡ packet_refused p.refusal → r ≡ packet_around h at p
-  unfolding packet_around
-  around_refused r n w = rw (ne_eqb p.refusal 0 n) w
-
-  pub around_made : (b : Body) (i : Header) → p.refusal ≡ 0 → b ≡ moved_body at p.«record».body → i ≡ innermost_of p.«record»
-      → record { refusal = 0; «record» = record { header = h; body = b; innermost = i; inner = p.«record».inner + 1 } } ≡ packet_around h at p
-  unfolding packet_around record_around
-  around_made b i n f g = rw (eq-eqb p.refusal 0 n, f, g)
+use Rattle.packet.specs.Packet.{most_inner, holds_packet, unless_refused, packet_after, read_any_text_by, read_text_by, read_frame_by}
 
 -- ---- a header, and the body behind it
 
@@ -54,10 +21,6 @@ abbrev pub behind_brace : List ℕ → ℕ → List ℕ
 behind_brace s at = take (length s - (at + 1)) (drop (at + 1) s)
 
 module _ (s : List ℕ) (at : ℕ) where
-  pub brace_tested : (r : Bool) → at < length s → r ≡ eqb (get_or s at 0) closing_brace → r ≡ holds_packet s at
-  unfolding holds_packet
-  brace_tested r l w = rw (lt-ltb at (length s) l) w
-
   -- there is a byte
   pub brace_within : (u : Bool) → u ≡ holds_packet s at → u ≡ true → at < length s
   unfolding holds_packet

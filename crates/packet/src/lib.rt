@@ -8,13 +8,14 @@ ghost use Rattle.header.specs.Frame.{read_frame_header};
 ghost use Rattle.header.specs.Range.{text_refusal as header_text_refusal};
 ghost use Rattle.buffer.specs.Wrote.{refused_by, ends, wrote};
 ghost use Rattle.packet.specs.Record.{blank_record, packet_refused};
-ghost use Rattle.packet.specs.Packet.{most_inner, header_to, kept_to, holds_packet, is_nowhere, moved_span, moved_body, innermost_of, packet_around, read_any_text, read_text_by, read_text, strict_text, read_frame_by, read_frame, strict_frame};
+ghost use Rattle.packet.specs.Packet.{most_inner, kept_to, holds_packet, is_nowhere, moved_span, moved_body, innermost_of, packet_around, read_any_text, read_text_by, read_text, strict_text, read_frame_by, read_frame, strict_frame};
 ghost use Rattle.packet.specs.Outer.{outer_refused, outer_within, alone_of, inside_of, packet_from};
 ghost use Rattle.packet.specs.Range.{range_refusal};
 ghost use Rattle.packet.specs.Written.{text_bytes, frame_bytes, or_else, text_refusal, frame_refusal};
 ghost use Rattle.packet.specs.Private.{head_bytes, head_refusal, wrote_behind};
 
 use body::{Body, Kind, Span};
+use buffer::Pieces;
 use callsign::Callsign;
 use header::{Header, HeaderRead};
 
@@ -54,56 +55,47 @@ const MOST_INNER: u8 = 4;
 // ---- nothing
 
 // The record with nothing in it.
+#[tactic(auto, unfolding(crate::specs::Record::blank_record))]
 pub fn blank() -> Record
     ensures { result ≡ blank_record }
 {
-    let header = header::blank();
-    let body = body::blank();
     Record {
-        header,
-        body,
-        innermost: header,
+        header: header::blank(),
+        body: body::blank(),
+        innermost: header::blank(),
         inner: 0,
     }
 }
 
+#[tactic(auto, unfolding(crate::specs::Record::packet_refused))]
 fn refused(n: u8) -> PacketRead
     ensures { result ≡ packet_refused n }
 {
-    let record = blank();
-    PacketRead { record, refusal: n }
+    PacketRead {
+        record: blank(),
+        refusal: n,
+    }
 }
 
 // ---- read
 
-fn header_to(h: Header, to: Callsign) -> Header
-    ensures { result ≡ header_to h to }
-{
-    let from = h.from;
-    let path = h.path;
-    Header { from, to, path }
-}
-
+#[tactic(auto, unfolding(crate::specs::Packet::kept_to))]
 fn kept_to(kind: Kind, to: Callsign) -> Callsign
     ensures { result ≡ kept_to kind to }
 {
     match kind {
-        Kind::Unknown => to,
-        Kind::Position => to,
         Kind::MicE => callsign::blank(),
-        Kind::Message => to,
-        Kind::Status => to,
+        Kind::Unknown | Kind::Position | Kind::Message | Kind::Status => to,
     }
 }
 
+#[tactic(auto, unfolding(crate::specs::Outer::outer_refused))]
 fn outer_refused(s: &[u8], n: u8) -> Outer
     ensures { result ≡ outer_refused s.now n }
 {
-    let header = header::blank();
-    let body = body::blank();
     Outer {
-        header,
-        body,
+        header: header::blank(),
+        body: body::blank(),
         at: s.len(),
         refusal: n,
     }
@@ -114,13 +106,17 @@ fn header_in(s: &[u8], framed: bool) -> HeaderRead
     ensures { result ≡ cond framed (read_frame_header s.now) (read_header_text s.now) }
 {
     if framed {
-        return header::read_frame(s);
+        header::read_frame(s)
+    } else {
+        header::read_any_length(s)
     }
-    header::read_any_length(s)
 }
+
+// Kept: (a) `framed` and `strict` are flags, as `packet::read` and `read_text_by strict` promise them and their callers hand them on.
 
 // Reads an AX.25 frame where framed, else a text, by itself: refused with 1 where it is longer than `most`, and then as its header
 // and its body are, which is judged strictly where strict.
+#[tactic(auto, unfolding(crate::specs::Outer::outer_within, crate::specs::Outer::outer_after, crate::specs::Outer::outer_of))]
 pub fn read_outer(s: &[u8], framed: bool, most: usize, strict: bool) -> Outer
     ensures { result ≡ outer_within strict most framed s.now }
 {
@@ -135,30 +131,27 @@ pub fn read_outer(s: &[u8], framed: bool, most: usize, strict: bool) -> Outer
     if found.refusal != 0 {
         return outer_refused(s, found.refusal);
     }
-    let body = found.body;
-    let kind = body.kind;
-    let to = kept_to(kind, h.header.to);
-    let header = header_to(h.header, to);
     Outer {
-        header,
-        body,
+        header: Header {
+            to: kept_to(found.body.kind, h.header.to),
+            ..h.header
+        },
+        body: found.body,
         at: h.body,
         refusal: 0,
     }
 }
 
 // A packet with none inside.
+#[tactic(auto, unfolding(crate::specs::Outer::alone_of))]
 fn alone(o: Outer) -> PacketRead
     ensures { result ≡ alone_of o }
 {
-    let header = o.header;
-    let body = o.body;
-    let innermost = header::blank();
     PacketRead {
         record: Record {
-            header,
-            body,
-            innermost,
+            header: o.header,
+            body: o.body,
+            innermost: header::blank(),
             inner: 0,
         },
         refusal: o.refusal,
@@ -166,24 +159,21 @@ fn alone(o: Outer) -> PacketRead
 }
 
 // Whether the body that stands in s from the place `at` on holds a packet.
+#[tactic(auto, unfolding(crate::specs::Packet::holds_packet))]
 pub fn holds_packet(s: &[u8], at: usize) -> bool
     ensures { result ≡ holds_packet s.now at }
 {
-    if at < s.len() {
-        return s[at] == b'}';
-    }
-    false
+    at < s.len() && s[at] == b'}'
 }
 
+#[tactic(auto, unfolding(crate::specs::Packet::is_nowhere))]
 fn is_nowhere(p: Span) -> bool
     ensures { result ≡ is_nowhere p }
 {
-    if p.at != 0 {
-        return false;
-    }
-    p.len == 0
+    p == Span::default()
 }
 
+#[tactic(auto, unfolding(crate::specs::Packet::moved_span))]
 fn moved_span(p: Span, by: usize) -> Span
     requires { p.at + by < 2 ^ 64 }
     ensures { result ≡ moved_span by p }
@@ -191,33 +181,31 @@ fn moved_span(p: Span, by: usize) -> Span
     if is_nowhere(p) {
         return p;
     }
-    Span {
-        at: p.at + by,
-        len: p.len,
-    }
+    Span { at: p.at + by, ..p }
 }
 
 // The body of a packet that starts so far inside another, with the places of the whole.
+#[tactic(auto, unfolding(crate::specs::Packet::moved_body))]
 fn moved_body(b: Body, by: usize) -> Body
     requires { (b.comment.at + by < 2 ^ 64) × (b.identifier.at + by < 2 ^ 64) }
     ensures { result ≡ moved_body by b }
 {
-    let mut moved = b;
-    moved.comment = moved_span(b.comment, by);
-    moved.identifier = moved_span(b.identifier, by);
-    moved
+    Body {
+        comment: moved_span(b.comment, by),
+        identifier: moved_span(b.identifier, by),
+        ..b
+    }
 }
 
+#[tactic(auto, unfolding(crate::specs::Packet::innermost_of))]
 fn innermost_of(r: Record) -> Header
     ensures { result ≡ innermost_of r }
 {
-    if r.inner == 0 {
-        return r.header;
-    }
-    r.innermost
+    if r.inner == 0 { r.header } else { r.innermost }
 }
 
 // The packet of a header around another packet, which starts at the place `at`.
+#[tactic(auto, unfolding(crate::specs::Packet::packet_around, crate::specs::Packet::record_around))]
 fn packet_around(h: Header, at: usize, p: PacketRead) -> PacketRead
     requires { (p.record.inner < 255) × (p.record.body.comment.at + at < 2 ^ 64) × (p.record.body.identifier.at + at < 2 ^ 64) }
     ensures { result ≡ packet_around h at p }
@@ -225,15 +213,12 @@ fn packet_around(h: Header, at: usize, p: PacketRead) -> PacketRead
     if p.refusal != 0 {
         return refused(p.refusal);
     }
-    let body = moved_body(p.record.body, at);
-    let innermost = innermost_of(p.record);
-    let inner = p.record.inner + 1;
     PacketRead {
         record: Record {
             header: h,
-            body,
-            innermost,
-            inner,
+            body: moved_body(p.record.body, at),
+            innermost: innermost_of(p.record),
+            inner: p.record.inner + 1,
         },
         refusal: 0,
     }
@@ -241,6 +226,7 @@ fn packet_around(h: Header, at: usize, p: PacketRead) -> PacketRead
 
 // The packet reader: what an outer packet, read from s, is with the packets that it holds, `left` of which may still be read.
 #[cycle(body_from_packet_from)]
+#[tactic(auto, unfolding(crate::specs::Outer::packet_from))]
 fn packet_from(o: Outer, s: &[u8], left: u8, strict: bool) -> PacketRead
     ensures { result ≡ packet_from strict left o s.now }
 {
@@ -252,6 +238,7 @@ fn packet_from(o: Outer, s: &[u8], left: u8, strict: bool) -> PacketRead
 
 // The body reader: the packet that the body at the place `at` holds.
 #[cycle(body_from_packet_from)]
+#[tactic(auto, using(crate::proofs::ByItself::inside_text))]
 fn body_from(s: &[u8], at: usize, left: u8, strict: bool) -> PacketRead
     requires { at < length s.now }
     ensures { result ≡ inside_of strict left (drop (at + 1) s.now) }
@@ -272,6 +259,7 @@ pub fn read_inside(o: Outer, s: &[u8], strict: bool) -> PacketRead
 }
 
 // Reads a text, however long: the record, or the number of its first fault and the blank record.
+#[tactic(auto, using(crate::proofs::ByItself::any_from))]
 pub fn read_any_length(s: &[u8]) -> PacketRead
     ensures { result ≡ read_any_text s.now }
 {
@@ -280,6 +268,7 @@ pub fn read_any_length(s: &[u8]) -> PacketRead
 
 // Reads an AX.25 frame where framed, else a line of text: refused with 1, and then as a text of any length. Strictly minutes of 60 or
 // more are refused with 8, 9 or 11, and with 20, last of all, a byte that names no symbol table; a packet inside is judged likewise.
+#[tactic(auto, using(crate::proofs::ByItself::either_from))]
 pub fn read(s: &[u8], framed: bool, strict: bool) -> PacketRead
     ensures { result ≡ cond framed (read_frame_by strict s.now) (read_text_by strict s.now) }
 {
@@ -316,13 +305,15 @@ pub fn read_frame_strictly(s: &[u8]) -> PacketRead
 
 // ---- written
 
+#[tactic(auto, unfolding(crate::specs::Private::head_refusal, crate::specs::Private::head_bytes))]
 fn write_header(h: Header, framed: bool, out: &mut [u8]) -> buffer::Answer
     ensures { ends result out.new ≡ wrote (head_refusal framed h) (head_bytes framed h) out.old }
 {
     if framed {
-        return header::write_frame(h, out);
+        header::write_frame(h, out)
+    } else {
+        header::write_text(h, out)
     }
-    header::write_text(h, out)
 }
 
 // The answer where the body is refused: a header out of range comes before that, with 15.
@@ -354,11 +345,13 @@ fn write_behind(
     if w.refusal != 0 {
         return buffer::refused(w.refusal);
     }
-    let m = buffer::put(body, &mut bytes, w.reported);
-    buffer::write_three(MOST, &bytes[..m], text, tail, out)
+    let mut front = Pieces::behind(&mut bytes, w.reported);
+    front.put(body);
+    buffer::write_three(MOST, front.written(), text, tail, out)
 }
 
 // The answer where there is a packet inside: 15 for a number, a header or a part out of range, else 14.
+#[tactic(auto, using(crate::proofs::Order::inside_refused))]
 fn refused_inside(r: Record) -> buffer::Answer
     requires { r.inner ≡ 0 → ⊥ }
     ensures { result ≡ refused_by (or_else (range_refusal r) 14) }
@@ -393,17 +386,21 @@ pub fn write(
         return buffer::refused(15);
     }
     let b = body::write(r.body, r.header.to, text, identifier);
-    let mut header = r.header;
-    let to = b.to;
-    header.to = to;
+    let header = Header {
+        to: b.to,
+        ..r.header
+    };
     if b.refusal != 0 {
         return refused_beside(header, b.refusal);
     }
-    let bytes = b.bytes;
-    let n = b.len;
-    let tail = b.tail;
-    let k = b.tail_len;
-    write_behind(header, framed, &bytes[..n], text, &tail[..k], out)
+    write_behind(
+        header,
+        framed,
+        &b.bytes[..b.len],
+        text,
+        &b.tail[..b.tail_len],
+        out,
+    )
 }
 
 // Writes a record as a line of text; refused with 15, 14, 18, 1 or 16.

@@ -35,7 +35,6 @@ use Rattle.parts.specs.declared.CLongitudeRead.{CLongitudeRead}
 use Rattle.parts.specs.declared.CTimeRead.{CTimeRead}
 use Rattle.parts.specs.declared.CDestinationRead.{CDestinationRead}
 use Rattle.parts.specs.declared.CInformationRead.{CInformationRead}
-use Rattle.parts.specs.declared.CStatusRead.{CStatusRead}
 use Rattle.parts.specs.Parts.{address_for, latitude_in_c, longitude_in_c, time_in_c, destination_in_c, destination_for, information_in_c, message_refusal_for, status_in_c}
 
 module _ (s : List ℕ) where
@@ -66,7 +65,7 @@ module _ (s : List ℕ) where
   pub unique_tusselgro_read_message : (r r' : MessageRead) → r ≡ read_message s → r' ≡ read_message s → r ≡ r'
   unique_tusselgro_read_message r r' = one_value r r' (read_message s)
 
-  pub unique_tusselgro_read_status : (r r' : CStatusRead) → r ≡ status_in_c (read_status s) → r' ≡ status_in_c (read_status s) → r ≡ r'
+  pub unique_tusselgro_read_status : (r r' : CTimeRead) → r ≡ status_in_c (read_status s) → r' ≡ status_in_c (read_status s) → r ≡ r'
   unique_tusselgro_read_status r r' = one_value r r' (status_in_c (read_status s))
 
 module _ (out : List ℕ) (a a' : Answer) (o o' : List ℕ) where

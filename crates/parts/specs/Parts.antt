@@ -1,31 +1,26 @@
 -- What the readers and writers of a packet's parts give, as C has it: of an enum the values of its case beside its number in document 01
 -- or 02; "A refused decode returns" all else 0. A number that stands for no field or message is 15.
 -- Assumes nothing.
-use Rattle.std.specs.Prelude.{ℕ, Bool, false, cond, List, eqb, leb, ℤ, pos, length, replicate}
+use Rattle.std.specs.Prelude.{ℕ, Bool, false, cond, List, eqb, leb, ℤ, pos, length, replicate, Option, Some, None, Result, Ok, Err}
 use Rattle.callsign.specs.declared.Callsign.{Callsign}
 use Rattle.callsign.specs.declared.AddressWritten.{AddressWritten}
 use Rattle.callsign.specs.declared.Field.{Field}
 use Rattle.callsign.specs.declared.Field.TheVariants.{Destination, Source, Hop}
 use Rattle.callsign.specs.Packed.{unwritten_by, write_address}
 use Rattle.lonlat.specs.declared.LatitudeRead.{LatitudeRead}
-use Rattle.lonlat.specs.declared.LatitudeRead.TheVariants as latitude
 use Rattle.lonlat.specs.declared.LongitudeRead.{LongitudeRead}
-use Rattle.lonlat.specs.declared.LongitudeRead.TheVariants as longitude
+use Rattle.lonlat.specs.declared.LongitudeError.{LongitudeError}
+use Rattle.lonlat.specs.declared.LongitudeError.TheVariants.{Malformed, OutOfRange}
 use Rattle.lonlat.specs.Latitude.{latitude_number}
 use Rattle.lonlat.specs.Longitude.{longitude_number}
-use Rattle.time.specs.declared.TimeRead.{TimeRead}
-use Rattle.time.specs.declared.TimeRead.TheVariants as time
+use Rattle.time.specs.declared.Time.{Time}
 use Rattle.time.specs.Time.{no_time, time_number}
-use Rattle.mic_e.specs.declared.DestinationRead.{DestinationRead}
-use Rattle.mic_e.specs.declared.DestinationRead.TheVariants as destination
+use Rattle.mic_e.specs.declared.Destination as mic_e
 use Rattle.mic_e.specs.declared.DestinationWritten.{DestinationWritten}
-use Rattle.mic_e.specs.declared.InformationRead.{InformationRead}
-use Rattle.mic_e.specs.declared.InformationRead.TheVariants as information
+use Rattle.mic_e.specs.declared.Information.{Information}
 use Rattle.mic_e.specs.Message.{message_number, message_at, most_message}
 use Rattle.mic_e.specs.Destination.{destination_number, write_destination}
 use Rattle.mic_e.specs.Information.{information_number}
-use Rattle.message.specs.declared.StatusRead.{StatusRead}
-use Rattle.message.specs.declared.StatusRead.TheVariants as status
 use Rattle.message.specs.Message.{addressee_bytes, message_refusal}
 use Rattle.message.specs.Status.{status_number}
 use Rattle.parts.specs.declared.CLatitudeRead.{CLatitudeRead}
@@ -33,7 +28,6 @@ use Rattle.parts.specs.declared.CLongitudeRead.{CLongitudeRead}
 use Rattle.parts.specs.declared.CTimeRead.{CTimeRead}
 use Rattle.parts.specs.declared.CDestinationRead.{CDestinationRead}
 use Rattle.parts.specs.declared.CInformationRead.{CInformationRead}
-use Rattle.parts.specs.declared.CStatusRead.{CStatusRead}
 
 -- ---- callsigns and addresses
 
@@ -52,35 +46,38 @@ address_for call field last = cond (leb field most_field) (write_address call (f
 -- ---- angles
 
 -- the latitude that was read, or none
-unfoldable pub latitude_in_c : LatitudeRead → CLatitudeRead
-latitude_in_c (latitude.Read angle blanks south sixty) =
-    record { latitude = angle; blanks = blanks; south = south; sixty = sixty; refusal = latitude_number (latitude.Read angle blanks south sixty) }
-latitude_in_c latitude.Refused =
-    record { latitude = record { 0 = pos 0 }; blanks = 0; south = false; sixty = false; refusal = latitude_number latitude.Refused }
+unfoldable pub latitude_in_c : Option LatitudeRead → CLatitudeRead
+latitude_in_c (Some l) =
+    record { latitude = l.latitude; blanks = l.blanks; south = l.south; sixty = l.sixty; refusal = latitude_number (Some l) }
+latitude_in_c None =
+    record { latitude = record { 0 = pos 0 }; blanks = 0; south = false; sixty = false; refusal = latitude_number None }
 
 -- no longitude, by that refusal
 abbrev pub no_longitude : ℕ → CLongitudeRead
 no_longitude n = record { longitude = record { 0 = pos 0 }; west = false; sixty = false; refusal = n }
 
 -- the longitude that was read, or none
-unfoldable pub longitude_in_c : LongitudeRead → CLongitudeRead
-longitude_in_c (longitude.Read angle west sixty) =
-    record { longitude = angle; west = west; sixty = sixty; refusal = longitude_number (longitude.Read angle west sixty) }
-longitude_in_c longitude.Refused = no_longitude (longitude_number longitude.Refused)
-longitude_in_c longitude.OutOfRange = no_longitude (longitude_number longitude.OutOfRange)
+unfoldable pub longitude_in_c : Result LongitudeRead LongitudeError → CLongitudeRead
+longitude_in_c (Ok l) = record { longitude = l.longitude; west = l.west; sixty = l.sixty; refusal = longitude_number (Ok l) }
+longitude_in_c (Err Malformed) = no_longitude (longitude_number (Err Malformed))
+longitude_in_c (Err OutOfRange) = no_longitude (longitude_number (Err OutOfRange))
 
 -- ---- times
 
+-- a time that was read, or none and that refusal
+unfoldable pub time_or : ℕ → Option Time → CTimeRead
+time_or n (Some t) = record { time = t; refusal = 0 }
+time_or n None = record { time = no_time; refusal = n }
+
 -- the time that was read, or none
-unfoldable pub time_in_c : TimeRead → CTimeRead
-time_in_c (time.Read t) = record { time = t; refusal = time_number (time.Read t) }
-time_in_c time.Refused = record { time = no_time; refusal = time_number time.Refused }
+unfoldable pub time_in_c : Option Time → CTimeRead
+time_in_c read = time_or (time_number None) read
 
 -- ---- Mic-E
 
 -- what the destination says, with its message's number; or nothing
-unfoldable pub destination_in_c : DestinationRead → CDestinationRead
-destination_in_c (destination.Read d) =
+unfoldable pub destination_in_c : Option mic_e.Destination → CDestinationRead
+destination_in_c (Some d) =
     record {
       latitude = d.latitude;
       message = message_number d.message;
@@ -89,9 +86,9 @@ destination_in_c (destination.Read d) =
       hundred = d.hundred;
       west = d.west;
       sixty = d.sixty;
-      refusal = destination_number (destination.Read d);
+      refusal = destination_number (Some d);
     }
-destination_in_c destination.Refused =
+destination_in_c None =
     record {
       latitude = record { 0 = pos 0 };
       message = 0;
@@ -100,7 +97,7 @@ destination_in_c destination.Refused =
       hundred = false;
       west = false;
       sixty = false;
-      refusal = destination_number destination.Refused;
+      refusal = destination_number None;
     }
 
 -- the destination of the message of that number
@@ -111,9 +108,9 @@ destination_for latitude blanks message longitude =
     (record { bytes = replicate 6 0; refusal = 15 })
 
 -- what the information says, or nothing
-unfoldable pub information_in_c : InformationRead → CInformationRead
-information_in_c (information.Read i) = record { information = i; refusal = information_number (information.Read i) }
-information_in_c information.Refused =
+unfoldable pub information_in_c : Option Information → CInformationRead
+information_in_c (Some i) = record { information = i; refusal = information_number (Some i) }
+information_in_c None =
     record {
       information = record {
         longitude = record { 0 = pos 0 };
@@ -122,7 +119,7 @@ information_in_c information.Refused =
         code = 0;
         table = 0;
       };
-      refusal = information_number information.Refused;
+      refusal = information_number None;
     }
 
 -- ---- messages and status lines
@@ -132,6 +129,5 @@ unfoldable pub message_refusal_for : List ℕ → List ℕ → List ℕ → ℕ
 message_refusal_for addressee text identifier = cond (eqb (length addressee) addressee_bytes) (message_refusal text identifier) 18
 
 -- the time of a status, or none
-unfoldable pub status_in_c : StatusRead → CStatusRead
-status_in_c (status.Read t) = record { time = t; refusal = status_number (status.Read t) }
-status_in_c status.Refused = record { time = no_time; refusal = status_number status.Refused }
+unfoldable pub status_in_c : Option Time → CTimeRead
+status_in_c read = time_or (status_number None) read

@@ -16,14 +16,14 @@ ghost use Rattle.mic_e.specs.Destination.{read_destination};
 ghost use Rattle.mic_e.specs.Information.{read_information, information_refusal, information_bytes};
 ghost use Rattle.message.specs.Message.{addressee_bytes, read_message, message_text};
 ghost use Rattle.message.specs.Status.{read_status, status_refusal, status_text};
-ghost use Rattle.parts.specs.Parts.{field_at, address_for, latitude_in_c, no_longitude, longitude_in_c, time_in_c, destination_in_c, destination_for, information_in_c, message_refusal_for, status_in_c};
+ghost use Rattle.parts.specs.Parts.{field_at, address_for, latitude_in_c, no_longitude, longitude_in_c, time_or, time_in_c, destination_in_c, destination_for, information_in_c, message_refusal_for, status_in_c};
 
 use callsign::{AddressRead, AddressWritten, CallRead, Callsign, Field};
-use lonlat::{Latitude, LatitudeRead, Longitude, LongitudeRead};
-use message::{MessageRead, StatusRead};
-use mic_e::{Course, DestinationRead, DestinationWritten, Information, InformationRead, Speed};
+use lonlat::{Latitude, LatitudeRead, Longitude, LongitudeError, LongitudeRead};
+use message::MessageRead;
+use mic_e::{Course, Destination, DestinationWritten, Information, Speed};
 use position::{Place, PositionRead};
-use time::{Time, TimeRead};
+use time::Time;
 
 // ---- callsigns and addresses
 
@@ -56,16 +56,15 @@ pub extern "C" fn tusselgro_read_address(address: &[u8]) -> AddressRead
 }
 
 // The field of an address by its number: 0 destination, 1 source, 2 hop, 3 heard hop.
+#[tactic(auto, unfolding(crate::specs::Parts::field_at))]
 fn field_at(n: u8) -> Field
     ensures { result ≡ field_at n }
 {
-    if n == 0 {
-        return Field::Destination;
+    match n {
+        0 => Field::Destination,
+        1 => Field::Source,
+        _ => Field::Hop(n == 3),
     }
-    if n == 1 {
-        return Field::Source;
-    }
-    Field::Hop(n == 3)
 }
 
 // Writes a callsign as an AX.25 address in the field of that number; refused with 15 or 13.
@@ -95,32 +94,36 @@ pub struct CLatitudeRead {
     pub refusal: u8,
 }
 
+impl From<Option<LatitudeRead>> for CLatitudeRead {
+    ghost from_gives = { λ read c. c ≡ latitude_in_c read };
+
+    #[tactic(auto, unfolding(crate::specs::Parts::latitude_in_c, lonlat::specs::Latitude::latitude_number))]
+    fn from(read: Option<LatitudeRead>) -> CLatitudeRead {
+        match read {
+            Some(l) => CLatitudeRead {
+                latitude: l.latitude,
+                blanks: l.blanks,
+                south: l.south,
+                sixty: l.sixty,
+                refusal: 0,
+            },
+            None => CLatitudeRead {
+                latitude: Latitude(0),
+                blanks: 0,
+                south: false,
+                sixty: false,
+                refusal: 8,
+            },
+        }
+    }
+}
+
 // Reads the eight bytes of a latitude; refused with 8.
 #[unsafe(no_mangle)]
 pub extern "C" fn tusselgro_read_latitude(text: &[u8]) -> CLatitudeRead
     ensures { result ≡ latitude_in_c (read_latitude text.now) }
 {
-    match lonlat::read_latitude(text) {
-        LatitudeRead::Read {
-            latitude,
-            blanks,
-            south,
-            sixty,
-        } => CLatitudeRead {
-            latitude,
-            blanks,
-            south,
-            sixty,
-            refusal: 0,
-        },
-        LatitudeRead::Refused => CLatitudeRead {
-            latitude: Latitude(0),
-            blanks: 0,
-            south: false,
-            sixty: false,
-            refusal: 8,
-        },
-    }
+    CLatitudeRead::from(lonlat::read_latitude(text))
 }
 
 // What reading a longitude gives: 0 and all that was seen, or the refusal's number and zeros.
@@ -144,25 +147,30 @@ fn no_longitude(n: u8) -> CLongitudeRead
     }
 }
 
+impl From<Result<LongitudeRead, LongitudeError>> for CLongitudeRead {
+    ghost from_gives = { λ read c. c ≡ longitude_in_c read };
+
+    #[tactic(auto, unfolding(crate::specs::Parts::longitude_in_c, lonlat::specs::Longitude::longitude_number))]
+    fn from(read: Result<LongitudeRead, LongitudeError>) -> CLongitudeRead {
+        match read {
+            Ok(l) => CLongitudeRead {
+                longitude: l.longitude,
+                west: l.west,
+                sixty: l.sixty,
+                refusal: 0,
+            },
+            Err(LongitudeError::Malformed) => no_longitude(9),
+            Err(LongitudeError::OutOfRange) => no_longitude(15),
+        }
+    }
+}
+
 // Reads the nine bytes of a longitude, whose last digits, as many as blanks says, are taken as 0; refused with 15 or 9.
 #[unsafe(no_mangle)]
 pub extern "C" fn tusselgro_read_longitude(text: &[u8], blanks: u8) -> CLongitudeRead
     ensures { result ≡ longitude_in_c (read_longitude text.now blanks) }
 {
-    match lonlat::read_longitude(text, blanks) {
-        LongitudeRead::Read {
-            longitude,
-            west,
-            sixty,
-        } => CLongitudeRead {
-            longitude,
-            west,
-            sixty,
-            refusal: 0,
-        },
-        LongitudeRead::Refused => no_longitude(9),
-        LongitudeRead::OutOfRange => no_longitude(15),
-    }
+    CLongitudeRead::from(lonlat::read_longitude(text, blanks))
 }
 
 // Writes a latitude with its last digits blank, as many as blanks says; refused with 15 or 16.
@@ -185,7 +193,7 @@ pub extern "C" fn tusselgro_write_longitude(longitude: i32, out: &mut [u8]) -> b
     lonlat::write_longitude(Longitude(longitude), out)
 }
 
-// What reading a time gives: 0 and the time, or the refusal's number and zeros.
+// What reading a time or a status gives: 0 and the time, of a status or none, or the refusal's number and zeros.
 #[repr(C)]
 #[derive(Clone, Copy)]
 pub struct CTimeRead {
@@ -193,18 +201,27 @@ pub struct CTimeRead {
     pub refusal: u8,
 }
 
+// A time that was read, or that refusal.
+#[tactic(auto, unfolding(crate::specs::Parts::time_or))]
+fn time_or(refusal: u8, read: Option<Time>) -> CTimeRead
+    ensures { result ≡ time_or refusal read }
+{
+    match read {
+        Some(time) => CTimeRead { time, refusal: 0 },
+        None => CTimeRead {
+            time: time::blank(),
+            refusal,
+        },
+    }
+}
+
 // Reads the seven bytes of a time; refused with 17.
+#[tactic(auto, unfolding(crate::specs::Parts::time_in_c, time::specs::Time::time_number))]
 #[unsafe(no_mangle)]
 pub extern "C" fn tusselgro_read_time(text: &[u8]) -> CTimeRead
     ensures { result ≡ time_in_c (read_time text.now) }
 {
-    match time::read_time(text) {
-        TimeRead::Read(time) => CTimeRead { time, refusal: 0 },
-        TimeRead::Refused => {
-            let time = time::blank();
-            CTimeRead { time, refusal: 17 }
-        }
-    }
+    time_or(17, time::read_time(text))
 }
 
 // Writes the seven bytes of a time, or none where there is no time; refused with 15 or 16.
@@ -247,38 +264,42 @@ pub struct CDestinationRead {
     pub refusal: u8,
 }
 
-// Reads the six call characters of a Mic-E destination; refused with 11.
-#[unsafe(no_mangle)]
-pub extern "C" fn tusselgro_read_destination(call: &[u8]) -> CDestinationRead
-    ensures { result ≡ destination_in_c (read_destination call.now) }
-{
-    match mic_e::read_destination(call) {
-        DestinationRead::Read(d) => {
-            let latitude = d.latitude;
-            let m = d.message;
-            let message = mic_e::message_number(m);
-            CDestinationRead {
-                latitude,
-                message,
+impl From<Option<Destination>> for CDestinationRead {
+    ghost from_gives = { λ read c. c ≡ destination_in_c read };
+
+    #[tactic(auto, unfolding(crate::specs::Parts::destination_in_c, mic_e::specs::Destination::destination_number))]
+    fn from(read: Option<Destination>) -> CDestinationRead {
+        match read {
+            Some(d) => CDestinationRead {
+                latitude: d.latitude,
+                message: mic_e::message_number(d.message),
                 blanks: d.blanks,
                 south: d.south,
                 hundred: d.hundred,
                 west: d.west,
                 sixty: d.sixty,
                 refusal: 0,
-            }
+            },
+            None => CDestinationRead {
+                latitude: Latitude(0),
+                message: 0,
+                blanks: 0,
+                south: false,
+                hundred: false,
+                west: false,
+                sixty: false,
+                refusal: 11,
+            },
         }
-        DestinationRead::Refused => CDestinationRead {
-            latitude: Latitude(0),
-            message: 0,
-            blanks: 0,
-            south: false,
-            hundred: false,
-            west: false,
-            sixty: false,
-            refusal: 11,
-        },
     }
+}
+
+// Reads the six call characters of a Mic-E destination; refused with 11.
+#[unsafe(no_mangle)]
+pub extern "C" fn tusselgro_read_destination(call: &[u8]) -> CDestinationRead
+    ensures { result ≡ destination_in_c (read_destination call.now) }
+{
+    CDestinationRead::from(mic_e::read_destination(call))
 }
 
 // Writes the destination of a latitude with its blanks, the message of that number, and a longitude, whose offset and side
@@ -314,6 +335,30 @@ pub struct CInformationRead {
     pub refusal: u8,
 }
 
+impl From<Option<Information>> for CInformationRead {
+    ghost from_gives = { λ read c. c ≡ information_in_c read };
+
+    #[tactic(auto, unfolding(crate::specs::Parts::information_in_c, mic_e::specs::Information::information_number))]
+    fn from(read: Option<Information>) -> CInformationRead {
+        match read {
+            Some(information) => CInformationRead {
+                information,
+                refusal: 0,
+            },
+            None => CInformationRead {
+                information: Information {
+                    longitude: Longitude(0),
+                    speed: Speed(0),
+                    course: Course(0),
+                    code: 0,
+                    table: 0,
+                },
+                refusal: 12,
+            },
+        }
+    }
+}
+
 // Reads the information behind the type byte, under the offset and the side that the destination gave; refused with 12.
 #[unsafe(no_mangle)]
 pub extern "C" fn tusselgro_read_information(
@@ -323,22 +368,7 @@ pub extern "C" fn tusselgro_read_information(
 ) -> CInformationRead
     ensures { result ≡ information_in_c (read_information bytes.now hundred west) }
 {
-    match mic_e::read_information(bytes, hundred, west) {
-        InformationRead::Read(information) => CInformationRead {
-            information,
-            refusal: 0,
-        },
-        InformationRead::Refused => CInformationRead {
-            information: Information {
-                longitude: Longitude(0),
-                speed: Speed(0),
-                course: Course(0),
-                code: 0,
-                table: 0,
-            },
-            refusal: 12,
-        },
-    }
+    CInformationRead::from(mic_e::read_information(bytes, hundred, west))
 }
 
 // Writes the eight bytes of the information; refused with 15 or 16.
@@ -367,7 +397,9 @@ fn nine(s: &[u8]) -> [u8; 9]
     requires { length s.now ≡ addressee_bytes }
     ensures { result ≡ s.now }
 {
-    [s[0], s[1], s[2], s[3], s[4], s[5], s[6], s[7], s[8]]
+    let mut nine = [0u8; 9];
+    nine.copy_from_slice(s);
+    nine
 }
 
 // Writes a message, from the byte behind its type byte on; refused with 18, also for an addressee that has not nine bytes, or 16.
@@ -386,26 +418,13 @@ pub extern "C" fn tusselgro_write_message(
     message::write_message(nine(addressee), text, identifier, out)
 }
 
-// What reading a status gives: 0 and its time, or none; or the refusal's number and zeros.
-#[repr(C)]
-#[derive(Clone, Copy)]
-pub struct CStatusRead {
-    pub time: Time,
-    pub refusal: u8,
-}
-
 // Reads a status from the byte behind its type byte on; its text is what follows the time. Refused with 18.
+#[tactic(auto, unfolding(crate::specs::Parts::status_in_c, message::specs::Status::status_number))]
 #[unsafe(no_mangle)]
-pub extern "C" fn tusselgro_read_status(bytes: &[u8]) -> CStatusRead
+pub extern "C" fn tusselgro_read_status(bytes: &[u8]) -> CTimeRead
     ensures { result ≡ status_in_c (read_status bytes.now) }
 {
-    match message::read_status(bytes) {
-        StatusRead::Read(time) => CStatusRead { time, refusal: 0 },
-        StatusRead::Refused => {
-            let time = time::blank();
-            CStatusRead { time, refusal: 18 }
-        }
-    }
+    time_or(18, message::read_status(bytes))
 }
 
 // Writes a status, from the byte behind its type byte on; refused with 15, 18 or 16.

@@ -1,7 +1,6 @@
 -- The cases of the box, and the machine's signed numbers in it.
 -- Assumes nothing.
-use Rattle.std.proofs.Common.{◌≡◌, ℕ, zero, suc, ◌+◌, ◌-◌, ◌*◌, ◌≤◌, Bool, true, false, cond, not, ltb, [], ◌∷◌, ℤ, pos, negsuc, ◌+ℤ◌, ◌-ℤ◌, ◌*ℤ◌, neg_ℤ, nat_abs, sym, refl, ap, ◌∙◌, arith, w32, SFits, to_z, of_z, ltb-true}
-use borrow.Author.Tests.{not-true, not-false}
+use Rattle.std.proofs.Common.{◌≡◌, ℕ, zero, suc, ◌+◌, ◌-◌, ◌*◌, ◌≤◌, Bool, true, false, cond, ltb, [], ◌∷◌, ℤ, pos, negsuc, ◌+ℤ◌, ◌-ℤ◌, ◌*ℤ◌, neg_ℤ, nat_abs, sym, refl, ap, ◌∙◌, arith, w32, SFits, to_z, of_z, ltb-true}
 use lib.ListN.{get_or-eq_default}
 use lib.IntN.{sub_ℕ, +ℤ_idl, +ℤ_idr, +ℤ_assoc, +ℤ_comm, neg_ℤ-+ℤ, zero-*ℤ, suc_ℤ-*ℤ}
 use lib.Signed.{mag}
@@ -34,11 +33,11 @@ twice_turned x = twice_is_sum (neg_ℤ x) ∙ sym (neg_ℤ-+ℤ x x) ∙ ap neg_
 
 -- u is the test of the angle, v that of its side, z the angle as the code has it
 module _ (most : ℕ) (angle : ℤ) (blanks : ℕ) (minus : Bool) (z : ℤ) (back : z ≡ angle) (u : Bool) (e : u ≡ in_reach most (nat_abs z) blanks) where
-  pub box_out : (r : PageBox) → not u ≡ true → r ≡ no_box → r ≡ box_of most angle blanks minus
+  pub box_out : (r : PageBox) → u ≡ false → r ≡ no_box → r ≡ box_of most angle blanks minus
   unfolding box_of
-  box_out r h f = rw (← back, ← e, not-true u h) f
+  box_out r h f = rw (← back, ← e, h) f
 
-  module _ (h : not u ≡ false) where
+  module _ (h : u ≡ true) where
     reach : in_reach most (nat_abs angle) blanks ≡ true
     reach = reached most blanks angle z back u e h
 
@@ -46,22 +45,22 @@ module _ (most : ℕ) (angle : ℤ) (blanks : ℕ) (minus : Bool) (z : ℤ) (bac
     reach_most = reach_near most (nat_abs angle) blanks reach
 
     module _ (v : Bool) (f : v ≡ is_on minus z) where
-      pub box_contradicted : (r : PageBox) → not v ≡ true → r ≡ no_box → r ≡ box_of most angle blanks minus
+      pub box_contradicted : (r : PageBox) → v ≡ false → r ≡ no_box → r ≡ box_of most angle blanks minus
       unfolding box_of
-      box_contradicted r k g = rw (reach, ← back, ← f, not-true v k) g
+      box_contradicted r k g = rw (reach, ← back, ← f, k) g
 
       -- wide is twice the width, as the code has it
-      module _ (k : not v ≡ false) (wide : ℤ) (w : wide ≡ pos 2 *ℤ pos (width_of blanks)) (r : PageBox) where
+      module _ (k : v ≡ true) (wide : ℤ) (w : wide ≡ pos 2 *ℤ pos (width_of blanks)) (r : PageBox) where
         pub box_below : minus ≡ true → r ≡ box_around z wide (pos 0) → r ≡ box_of most angle blanks minus
         unfolding box_of outward box_around
         box_below m g =
-            rw (reach, ← ap (is_on minus) back, ← f, not-false v k, m)
+            rw (reach, ← ap (is_on minus) back, ← f, k, m)
             (g ∙ rw (back, w, twice_sum angle (neg_ℤ (pos (width_of blanks))), twice_turned (pos (width_of blanks)), +ℤ_idr (pos 2 *ℤ angle)))
 
         pub box_above : minus ≡ false → r ≡ box_around z (pos 0) wide → r ≡ box_of most angle blanks minus
         unfolding box_of outward box_around
         box_above m g =
-            rw (reach, ← ap (is_on minus) back, ← f, not-false v k, m)
+            rw (reach, ← ap (is_on minus) back, ← f, k, m)
             (g ∙ rw (back, w, twice_sum angle (pos (width_of blanks)), +ℤ_idr (pos 2 *ℤ angle)))
 
 -- ---- the width

@@ -1,8 +1,6 @@
 -- What each answer of the reader must show, one law an answer.
 -- Assumes nothing.
-use Rattle.std.proofs.Common.{◌≡◌, ℕ, ◌<◌, ◌≤◌, Bool, true, false, not, Option, Some, None, Result, Ok, Err, List, [], ◌∷◌, length, get_or, take, drop, refl, arith, le-ltb, lt-ltb}
-use borrow.Author.Tests.{not-true, not-false}
-use Rattle.laws.specs.Bytes.{within}
+use Rattle.std.proofs.Common.{◌≡◌, ℕ, ◌<◌, ◌≤◌, Bool, true, false, Option, Some, None, Result, Ok, Err, List, length, get_or, take, drop, le-ltb, lt-ltb}
 use Rattle.lonlat.specs.Latitude.{read_latitude, latitude_number}
 use Rattle.lonlat.specs.Longitude.{read_longitude, longitude_number}
 use Rattle.lonlat.specs.declared.LatitudeRead.{LatitudeRead}
@@ -10,19 +8,7 @@ use Rattle.lonlat.specs.declared.LongitudeRead.{LongitudeRead}
 use Rattle.lonlat.specs.declared.LongitudeError.{LongitudeError}
 use Rattle.lonlat.specs.declared.LongitudeError.TheVariants.{Malformed, OutOfRange}
 use Rattle.position.specs.declared.PositionRead.{PositionRead}
-use Rattle.position.specs.Position.{fixed_bytes, is_numeric, is_uncompressed, is_table, is_over, is_off_table, refused_position, accepted_position, place_of, with_longitude, with_latitude, read_position_by}
-
-pub first_none : (s : List ℕ) → length s ≡ 0 → false ≡ is_uncompressed s
-unfolding is_uncompressed is_numeric within
-first_none [] h = refl
-first_none (b ∷ s) h = absurd (omega arith)
-
-pub first_some : (s : List ℕ) (r : Bool) → r ≡ is_numeric (get_or s 0 0) → r ≡ is_uncompressed s
-unfolding is_uncompressed
-first_some s r e = e
-
-pub off_table : (strict : Bool) (table : ℕ) (u : Bool) → strict ≡ true → u ≡ is_table table → not u ≡ is_off_table strict table
-off_table strict table u e f = rw (e, f)
+use Rattle.position.specs.Position.{fixed_bytes, is_uncompressed, is_over, is_off_table, refused_position, accepted_position, place_of, with_longitude, with_latitude, read_position_by}
 
 -- ---- the longitude: q is what was read
 
@@ -54,26 +40,26 @@ module _ (strict : Bool) (s : List ℕ) (north : LatitudeRead) (q a : Result Lon
 -- ---- the latitude: u is the test of the first byte
 
 module _ (strict : Bool) (s : List ℕ) (u : Bool) (e : u ≡ is_uncompressed s) where
-  pub position_compressed : not u ≡ true → (r : PositionRead) → r ≡ refused_position 7 → r ≡ read_position_by strict s
+  pub position_compressed : u ≡ false → (r : PositionRead) → r ≡ refused_position 7 → r ≡ read_position_by strict s
   unfolding read_position_by
-  position_compressed h r f = rw (← e, not-true u h) f
+  position_compressed h r f = rw (← e, h) f
 
-  module _ (h : not u ≡ false) where
+  module _ (h : u ≡ true) where
     pub position_short : length s < fixed_bytes → (r : PositionRead) → r ≡ refused_position 10 → r ≡ read_position_by strict s
     unfolding read_position_by
-    position_short k r f = rw (← e, not-false u h, lt-ltb (length s) fixed_bytes k) f
+    position_short k r f = rw (← e, h, lt-ltb (length s) fixed_bytes k) f
 
     module _ (k : fixed_bytes ≤ length s) (q : Option LatitudeRead) (f : q ≡ read_latitude (take 8 s)) where
       pub latitude_refused : q ≡ None → (r : PositionRead) → r ≡ refused_position 8 → r ≡ read_position_by strict s
       unfolding read_position_by with_latitude latitude_number
-      latitude_refused g r i = rw (← e, not-false u h, le-ltb (length s) fixed_bytes k, ← f, g) i
+      latitude_refused g r i = rw (← e, h, le-ltb (length s) fixed_bytes k, ← f, g) i
 
       -- o is the test of its minutes
       module _ (north : LatitudeRead) (g : q ≡ Some north) (o : Bool) (j : o ≡ is_over strict north.sixty) (r : PositionRead) where
         pub latitude_over : o ≡ true → r ≡ refused_position 8 → r ≡ read_position_by strict s
         unfolding read_position_by with_latitude latitude_number
-        latitude_over z i = rw (← e, not-false u h, le-ltb (length s) fixed_bytes k, ← f, g, ← j, z) i
+        latitude_over z i = rw (← e, h, le-ltb (length s) fixed_bytes k, ← f, g, ← j, z) i
 
         pub latitude_found : o ≡ false → r ≡ with_longitude strict s north (read_longitude (take 9 (drop 9 s)) north.blanks) → r ≡ read_position_by strict s
         unfolding read_position_by with_latitude
-        latitude_found z i = rw (← e, not-false u h, le-ltb (length s) fixed_bytes k, ← f, g, ← j, z) i
+        latitude_found z i = rw (← e, h, le-ltb (length s) fixed_bytes k, ← f, g, ← j, z) i

@@ -2,7 +2,6 @@
 -- bytes between and behind them are the 19 bytes.
 -- Assumes nothing.
 use Rattle.std.proofs.Common.{◌≡◌, ℕ, ◌≤◌, Bool, true, false, cond, not, ◌&&◌, ◌||◌, leb, List, [], ◌∷◌, ◌++◌, length, drop, set, replicate, ℤ, nat_abs, sym, refl, ap, ◌∙◌, subst, arith, length-append, length-drop, length-set, length-take-le, le-leb}
-use borrow.Author.Tests.{not-true, not-false}
 use borrow.Rule.Slice.PartMut.{mid_of, put_mid, same_len_mid}
 use Rattle.buffer.specs.Wrote.{ends, refused_by, wrote}
 use Rattle.buffer.specs.declared.Answer.{Answer}
@@ -134,9 +133,9 @@ module _ (p : Place) (r : Answer) (out : List ℕ) (a : Answer) (n : List ℕ)
       east_fine : east_in ≡ true
       east_fine = judged_in east_in b.refusal judged_too good
 
-      pub letters_out : not u ≡ true → r ≡ refused_by 15 → ends r out ≡ wrote (position_refusal p) (position_text p) out
+      pub letters_out : u ≡ false → r ≡ refused_by 15 → ends r out ≡ wrote (position_refusal p) (position_text p) out
       unfolding position_refusal position_fits place_in_range north_in east_in
-      letters_out h f = rw f (refuses 15 _ (position_text p) out (rw (north_fine, east_fine, ← g, not-true u h)) (λ q. omega arith))
+      letters_out h f = rw f (refuses 15 _ (position_text p) out (rw (north_fine, east_fine, ← g, h)) (λ q. omega arith))
 
       text_is : set (set (put_mid 9 10 n e) 8 p.table) 18 p.code ≡ position_text p
       unfolding position_text east_in
@@ -146,12 +145,12 @@ module _ (p : Place) (r : Answer) (out : List ℕ) (a : Answer) (n : List ℕ)
           in
           rw (k, n_is) (nineteen (latitude_text p.latitude.0 p.blanks) (longitude_text p.longitude.0) p.table p.code (eight north_fine) nine)
 
-      module _ (same : not u ≡ false) (v : Bool) (s : v ≡ symbols_in_range p) where
-        pub symbols_out : not v ≡ true → r ≡ refused_by 15 → ends r out ≡ wrote (position_refusal p) (position_text p) out
+      module _ (same : u ≡ true) (v : Bool) (s : v ≡ symbols_in_range p) where
+        pub symbols_out : v ≡ false → r ≡ refused_by 15 → ends r out ≡ wrote (position_refusal p) (position_text p) out
         unfolding position_refusal position_fits place_in_range north_in east_in
-        symbols_out h f = rw f (refuses 15 _ (position_text p) out (rw (north_fine, east_fine, ← g, not-false u same, ← s, not-true v h)) (λ q. omega arith))
+        symbols_out h f = rw f (refuses 15 _ (position_text p) out (rw (north_fine, east_fine, ← g, same, ← s, h)) (λ q. omega arith))
 
-        pub position_wrote : not v ≡ false → (out' : List ℕ) → ends r out' ≡ wrote 0 (set (set (put_mid 9 10 n e) 8 p.table) 18 p.code) out
+        pub position_wrote : v ≡ true → (out' : List ℕ) → ends r out' ≡ wrote 0 (set (set (put_mid 9 10 n e) 8 p.table) 18 p.code) out
             → ends r out' ≡ wrote (position_refusal p) (position_text p) out
         unfolding position_refusal position_fits place_in_range north_in east_in
-        position_wrote h out' w = rw (north_fine, east_fine, ← g, not-false u same, ← s, not-false v h) (w ∙ ap (λ (l : List ℕ). wrote 0 l out) text_is)
+        position_wrote h out' w = rw (north_fine, east_fine, ← g, same, ← s, h) (w ∙ ap (λ (l : List ℕ). wrote 0 l out) text_is)

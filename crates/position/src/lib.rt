@@ -2,24 +2,22 @@
 // and the box for the page.
 #![tactic(auto)]
 
-ghost use Rattle.std.specs.Prelude.{◌≡◌, ◌≤◌, true, length, take, drop, pos, unsigned_abs};
-ghost use Rattle.laws.specs.Bytes.{is_digit};
+ghost use Rattle.std.specs.Prelude.{◌≡◌, ◌≤◌, length, take, drop, pos, unsigned_abs};
 ghost use Rattle.buffer.specs.Wrote.{ends, wrote};
 ghost use Rattle.lonlat.specs.Angle.{most_latitude, most_longitude, width_of};
 ghost use Rattle.lonlat.specs.Longitude.{read_longitude};
 ghost use Rattle.position.specs.Reach.{in_reach};
 ghost use Rattle.position.specs.Position.{fixed_bytes, is_numeric, is_over, is_table, is_off_table, is_uncompressed, no_place, refused_position, with_longitude, read_position_by, letters_agree, symbols_in_range, position_refusal, position_text};
-ghost use Rattle.position.specs.Bounds.{from_dmh, degrees_of, degree_width, range_of, bounds_of};
+ghost use Rattle.position.specs.Bounds.{from_dmh, degrees_of, center_of, degree_width, range_of, bounds_of};
 ghost use Rattle.position.specs.Page.{no_box, box_of};
 ghost use Rattle.position.specs.Private.{widest, box_around};
 
 use lonlat::{Latitude, LatitudeRead, Longitude, LongitudeError};
-use std::num::wrapping_sub_u8;
 
 // Where something is: its angles, how many of their last digits are blank, its symbol, and whether its letters are S and W, also
 // at 0.
 #[repr(C)]
-#[derive(Clone, Copy)]
+#[derive(Clone, Copy, Debug, Default, PartialEq, Eq)]
 pub struct Place {
     pub latitude: Latitude,
     pub longitude: Longitude,
@@ -32,7 +30,7 @@ pub struct Place {
 
 // What a position reads as: the refusal's number or 0, the place, and which of its angles has minutes of 60 or more.
 #[repr(C)]
-#[derive(Clone, Copy)]
+#[derive(Clone, Copy, Debug, Default, PartialEq, Eq)]
 pub struct PositionRead {
     pub place: Place,
     pub latitude_sixty: bool,
@@ -44,106 +42,55 @@ pub struct PositionRead {
 pub fn blank() -> Place
     ensures { result ≡ no_place }
 {
-    Place {
-        latitude: Latitude(0),
-        longitude: Longitude(0),
-        blanks: 0,
-        table: 0,
-        code: 0,
-        south: false,
-        west: false,
-    }
+    Place::default()
 }
 
 // A refusal, and nothing else.
 fn refused_position(n: u8) -> PositionRead
     ensures { result ≡ refused_position n }
 {
-    let place = blank();
     PositionRead {
         refusal: n,
-        place,
-        latitude_sixty: false,
-        longitude_sixty: false,
+        ..PositionRead::default()
     }
-}
-
-// Whether b is a digit.
-fn digit(b: u8) -> bool
-    ensures { result ≡ is_digit b }
-{
-    wrapping_sub_u8(b, b'0') < 10
 }
 
 // Whether b is numeric, taken as a character of Latin-1.
+#[tactic(auto, unfolding(crate::specs::Position::is_numeric, laws::specs::Bytes::within))]
 fn numeric(b: u8) -> bool
     ensures { result ≡ is_numeric b }
 {
-    if digit(b) {
-        return true;
-    }
-    if b == 0xb2 {
-        return true;
-    }
-    if b == 0xb3 {
-        return true;
-    }
-    if b == 0xb9 {
-        return true;
-    }
-    if b == 0xbc {
-        return true;
-    }
-    if b == 0xbd {
-        return true;
-    }
-    b == 0xbe
+    matches!(b, b'0'..=b'9' | 0xb2 | 0xb3 | 0xb9 | 0xbc..=0xbe)
 }
 
 // Whether the first byte, 0 if there is none, starts an uncompressed position.
+#[tactic(auto, unfolding(crate::specs::Position::is_uncompressed, crate::specs::Position::is_numeric, laws::specs::Bytes::within))]
 fn uncompressed(s: &[u8]) -> bool
     ensures { result ≡ is_uncompressed s.now }
 {
-    if s.len() == 0 {
-        return false;
-    }
-    numeric(s[0])
+    !s.is_empty() && numeric(s[0])
 }
 
 // Whether minutes are refused: strictly, if they are 60 or more.
 pub fn is_over(strict: bool, sixty: bool) -> bool
     ensures { result ≡ is_over strict sixty }
 {
-    if strict {
-        return sixty;
-    }
-    false
+    strict && sixty
 }
 
 // Whether b names a symbol table: `/`, `\`, a digit or a capital letter.
+#[tactic(auto, unfolding(crate::specs::Position::is_table, laws::specs::Bytes::within))]
 fn is_table(b: u8) -> bool
     ensures { result ≡ is_table b }
 {
-    if b == b'/' {
-        return true;
-    }
-    if b == b'\\' {
-        return true;
-    }
-    if digit(b) {
-        return true;
-    }
-    wrapping_sub_u8(b, b'A') < 26
+    matches!(b, b'/' | b'\\' | b'0'..=b'9' | b'A'..=b'Z')
 }
 
 // Whether a table byte is refused: strictly, if it names none.
 pub fn is_off_table(strict: bool, table: u8) -> bool
     ensures { result ≡ is_off_table strict table }
 {
-    if strict {
-        return !is_table(table);
-    }
-    false
+    strict && !is_table(table)
 }
 
 // Goes on with the longitude, behind the latitude that was read.
@@ -198,36 +145,27 @@ pub fn read_position(s: &[u8], strict: bool) -> PositionRead
 }
 
 // Whether an angle and its blanks are in range.
+#[tactic(auto, unfolding(crate::specs::Reach::in_reach))]
 fn in_reach(most: u32, angle: i32, blanks: u8) -> bool
     ensures { result ≡ in_reach most (unsigned_abs angle) blanks }
 {
-    let sides = numbers::parts(angle);
-    if most < sides.size {
-        return false;
-    }
-    blanks <= 5
+    angle.unsigned_abs() <= most && blanks <= 5
 }
 
 // Whether neither letter contradicts its angle; at 0 either may stand.
+#[tactic(auto, unfolding(crate::specs::Position::letters_agree))]
 pub fn letters_agree(p: Place) -> bool
     ensures { result ≡ letters_agree p }
 {
-    let latitude = p.latitude;
-    if numbers::is_on(p.south, latitude.0) {
-        let longitude = p.longitude;
-        return numbers::is_on(p.west, longitude.0);
-    }
-    false
+    numbers::is_on(p.south, p.latitude.0) && numbers::is_on(p.west, p.longitude.0)
 }
 
 // Whether a position may have the symbol: both its bytes are below 128.
+#[tactic(auto, unfolding(crate::specs::Position::symbols_in_range))]
 fn symbols_in_range(p: Place) -> bool
     ensures { result ≡ symbols_in_range p }
 {
-    if p.table < 128 {
-        return p.code < 128;
-    }
-    false
+    p.table.is_ascii() && p.code.is_ascii()
 }
 
 // Writes the 19 bytes before the comment, 0 as N and E. An angle, the blanks or a symbol byte out of range is 15, and so is a letter
@@ -235,21 +173,13 @@ fn symbols_in_range(p: Place) -> bool
 pub fn write_position(p: Place, out: &mut [u8]) -> buffer::Answer
     ensures { ends result out.new ≡ wrote (position_refusal p) (position_text p) out.old }
 {
-    let latitude = p.latitude;
-    let longitude = p.longitude;
     let mut text = [0u8; 19];
-    let north = lonlat::write_latitude(latitude, p.blanks, &mut text);
+    let north = lonlat::write_latitude(p.latitude, p.blanks, &mut text);
     if north.refusal != 0 {
         return buffer::refused(15);
     }
-    let east = lonlat::write_longitude(longitude, &mut text[9..]);
-    if east.refusal != 0 {
-        return buffer::refused(15);
-    }
-    if !letters_agree(p) {
-        return buffer::refused(15);
-    }
-    if !symbols_in_range(p) {
+    let east = lonlat::write_longitude(p.longitude, &mut text[9..]);
+    if east.refusal != 0 || !letters_agree(p) || !symbols_in_range(p) {
         return buffer::refused(15);
     }
     text[8] = p.table;
@@ -259,7 +189,7 @@ pub fn write_position(p: Place, out: &mut [u8]) -> buffer::Answer
 
 // The lower and upper bound of an angle, in degrees.
 #[repr(C)]
-#[derive(Clone, Copy)]
+#[derive(Clone, Copy, Debug)]
 pub struct Bounds {
     pub lower: f64,
     pub upper: f64,
@@ -267,7 +197,7 @@ pub struct Bounds {
 
 // The bounds, or 15 and 0, 0.
 #[repr(C)]
-#[derive(Clone, Copy)]
+#[derive(Clone, Copy, Debug)]
 pub struct BoundsAnswer {
     pub refusal: u8,
     pub bounds: Bounds,
@@ -281,10 +211,20 @@ fn from_dmh(degrees: u32, minutes: u32, hundredths: u32) -> f64
 }
 
 // An angle's size in degrees.
+#[tactic(auto, unfolding(crate::specs::Bounds::degrees_of))]
 fn degrees(size: u32) -> f64
     ensures { result ≡ degrees_of size }
 {
     from_dmh(size / 6000, size / 100 % 60, size % 100)
+}
+
+// An angle in degrees, south and west below 0.
+#[tactic(auto, unfolding(crate::specs::Bounds::center_of, numbers::specs::Sign::is_minus))]
+fn center(angle: i32) -> f64
+    ensures { result ≡ center_of angle }
+{
+    let size = degrees(angle.unsigned_abs());
+    if angle < 0 { -size } else { size }
 }
 
 // The width that the blanks leave, in degrees.
@@ -325,17 +265,10 @@ fn bounds_of(most: u32, angle: i32, blanks: u8) -> BoundsAnswer
             },
         };
     }
-    let sides = numbers::parts(angle);
-    let center = degrees(sides.size);
-    if sides.minus {
-        let turned = range(-center, blanks);
-        return BoundsAnswer {
-            refusal: 0,
-            bounds: turned,
-        };
+    BoundsAnswer {
+        refusal: 0,
+        bounds: range(center(angle), blanks),
     }
-    let bounds = range(center, blanks);
-    BoundsAnswer { refusal: 0, bounds }
 }
 
 // The bounds between which a latitude lies whose last digits are blank, as many as blanks says.
@@ -354,7 +287,7 @@ pub fn longitude_bounds(l: Longitude, blanks: u8) -> BoundsAnswer
 
 // The box for the page in half hundredths of a minute, or 15 and 0, 0.
 #[repr(C)]
-#[derive(Clone, Copy)]
+#[derive(Clone, Copy, Debug, PartialEq, Eq)]
 pub struct PageBox {
     pub refusal: u8,
     pub from: i32,
@@ -403,18 +336,15 @@ fn box_of(most: u32, angle: i32, blanks: u8, minus: bool) -> PageBox
     requires { most ≤ most_longitude }
     ensures { result ≡ box_of most angle blanks minus }
 {
-    if !in_reach(most, angle, blanks) {
+    if !in_reach(most, angle, blanks) || !numbers::is_on(minus, angle) {
         return no_box();
     }
-    if !numbers::is_on(minus, angle) {
-        return no_box();
-    }
-    let w = width(blanks);
-    let wide = 2 * w;
+    let wide = 2 * width(blanks);
     if minus {
-        return around(angle, wide, 0);
+        around(angle, wide, 0)
+    } else {
+        around(angle, 0, wide)
     }
-    around(angle, 0, wide)
 }
 
 // The box for the page of a latitude whose last digits are blank, as many as blanks says, on the side of its letter. A letter that

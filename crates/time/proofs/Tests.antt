@@ -1,29 +1,10 @@
 -- What the letter and the ranges say, for the tests of the code and for the proofs behind them.
 -- Assumes nothing.
-use Rattle.std.proofs.Common.{◌≡◌, ℕ, ◌<◌, ◌≤◌, Bool, true, false, cond, ◌&&◌, eqb, leb, ◌⊎◌, sym, refl, ap, ◌∙◌, inl, inr, ⊎_elim, arith, ne_eqb, eqb-true, le-leb, leb-true}
-use mathlib.Core.Bool.{and-false, false≢true}
-use borrow.Author.Tests.{lt-leb}
+use Rattle.std.proofs.Common.{◌≡◌, ℕ, ◌≤◌, Bool, true, false, cond, ◌&&◌, eqb, leb, ◌⊎◌, refl, inl, inr, ⊎_elim, arith, ne_eqb, eqb-true, leb-true}
 use Rattle.laws.specs.Bytes.{slash, small_h, small_z, within}
 use Rattle.laws.proofs.Tests.{and_first, and_second, or_either, within_high}
 use Rattle.time.specs.declared.Time.{Time}
 use Rattle.time.specs.Time.{is_day, is_clock, in_day, is_day_time, is_clock_time, is_time, is_no_time, is_present, time_of}
-
--- ---- a range in front of other tests
-
-module _ (lo hi b : ℕ) where
-  pub range_below : (x : Bool) → b < lo → false ≡ (within lo hi b && x)
-  unfolding within
-  range_below x h = rw (lt-leb lo b h)
-
-  pub range_above : (x : Bool) → lo ≤ b → hi < b → false ≡ (within lo hi b && x)
-  unfolding within
-  range_above x h k = rw (le-leb lo b h, lt-leb b hi k)
-
-  pub range_in : (r x : Bool) → lo ≤ b → b ≤ hi → r ≡ x → r ≡ (within lo hi b && x)
-  unfolding within
-  range_in r x h k q = rw (le-leb lo b h, le-leb b hi k) q
-
-pub ruleset ranges = (range_below, range_above, range_in)
 
 -- ---- the letter
 
@@ -123,34 +104,3 @@ module _ (first second third form : ℕ) where
   pub placed_by_clock : is_clock form ≡ true → time_of first second third form ≡ by_clock first second third form
   unfolding time_of
   placed_by_clock e = rw e
-
-  -- where neither form makes it a time, it is none
-  neither : is_day_time (on_day first second third form) ≡ false → is_clock_time (by_clock first second third form) ≡ false → is_time (time_of first second third form) ≡ false
-  unfolding is_time
-  neither p q = go (is_clock form) refl
-    where
-      day : (b : Bool) → is_clock form ≡ false → cond b (is_day_time (on_day first second third form)) (is_clock form && is_clock_time (on_day first second third form)) ≡ false
-      day true e = p
-      day false e = rw e
-
-      clock : (b : Bool) → is_day form ≡ b → is_clock form ≡ true → cond b (is_day_time (by_clock first second third form)) (is_clock form && is_clock_time (by_clock first second third form)) ≡ false
-      clock true d e = absurd (false≢true (sym (day_no_clock form d) ∙ e))
-      clock false d e = rw e q
-
-      go : (b : Bool) → is_clock form ≡ b → is_time (time_of first second third form) ≡ false
-      go true e = ap is_time (placed_by_clock e) ∙ clock (is_day form) refl e
-      go false e = ap is_time (placed_on_day e) ∙ day (is_day form) e
-
--- ---- a number of 100 is in no range
-
-pub first_out : (second third form : ℕ) → is_time (time_of 100 second third form) ≡ false
-unfolding is_day_time is_clock_time in_day within
-first_out second third form = neither 100 second third form refl refl
-
-pub second_out : (first third form : ℕ) → is_time (time_of first 100 third form) ≡ false
-unfolding is_day_time is_clock_time in_day
-second_out first third form = neither first 100 third form (and-false (within 1 31 first)) (rw (and-false (leb first 23)))
-
-pub third_out : (first second form : ℕ) → is_time (time_of first second 100 form) ≡ false
-unfolding is_day_time is_clock_time in_day
-third_out first second form = neither first second 100 form (rw (and-false (leb second 23), and-false (within 1 31 first))) (rw (and-false))

@@ -3,15 +3,13 @@
 
 ghost use Rattle.std.specs.Prelude.{◌≡◌};
 ghost use Rattle.buffer.specs.Wrote.{ends, wrote};
-ghost use Rattle.time.specs.Time.{is_day, in_day, is_day_time, is_clock_time, is_time, no_time, is_no_time, time_of, read_time, seven_bytes, present_text, time_text, time_refusal};
+ghost use Rattle.time.specs.Time.{in_day, is_day_time, is_clock_time, is_time, no_time, is_no_time, time_of, read_time, seven_bytes, present_text, time_text, time_refusal};
 ghost use Rattle.time.specs.Private.{pair_of};
-
-use std::num::wrapping_sub_u8;
 
 // A time by its numbers. Its form is the byte behind its digits: `z`, day, hour and minute in UTC; `/`, the same in local time; `h`,
 // hour, minute and second in UTC. A number that the form lacks is 0, and all are where there is no time.
 #[repr(C)]
-#[derive(Clone, Copy)]
+#[derive(Clone, Copy, Debug, Default, PartialEq, Eq)]
 pub struct Time {
     pub day: u8,
     pub hour: u8,
@@ -23,135 +21,92 @@ pub struct Time {
 // ---- nothing
 
 // No time.
+#[tactic(auto, unfolding(crate::specs::Time::no_time))]
 pub fn blank() -> Time
     ensures { result ≡ no_time }
 {
-    Time {
-        day: 0,
-        hour: 0,
-        minute: 0,
-        second: 0,
-        form: 0,
-    }
+    Time::default()
 }
 
 // Whether there is no time.
+#[tactic(auto, unfolding(crate::specs::Time::is_no_time, crate::specs::Time::no_time))]
 pub fn is_blank(t: Time) -> bool
     ensures { result ≡ is_no_time t }
 {
-    if t.form != 0 {
-        return false;
-    }
-    if t.day != 0 {
-        return false;
-    }
-    if t.hour != 0 {
-        return false;
-    }
-    if t.minute != 0 {
-        return false;
-    }
-    t.second == 0
+    t == blank()
 }
 
 // ---- which are times
 
-// Whether the letter is that of a day, an hour and a minute.
-fn is_day(form: u8) -> bool
-    ensures { result ≡ is_day form }
-{
-    if form == b'z' {
-        return true;
-    }
-    form == b'/'
-}
-
 // Whether hour and minute are in range.
+#[tactic(auto, unfolding(crate::specs::Time::in_day))]
 fn in_day(t: Time) -> bool
     ensures { result ≡ in_day t }
 {
-    if 23 < t.hour {
-        return false;
-    }
-    t.minute <= 59
+    t.hour <= 23 && t.minute <= 59
 }
 
+#[tactic(auto, unfolding(crate::specs::Time::is_day_time, laws::specs::Bytes::within))]
 fn is_day_time(t: Time) -> bool
     ensures { result ≡ is_day_time t }
 {
-    if t.day < 1 {
-        return false;
-    }
-    if 31 < t.day {
-        return false;
-    }
-    if in_day(t) {
-        return t.second == 0;
-    }
-    false
+    matches!(t.day, 1..=31) && in_day(t) && t.second == 0
 }
 
+#[tactic(auto, unfolding(crate::specs::Time::is_clock_time))]
 fn is_clock_time(t: Time) -> bool
     ensures { result ≡ is_clock_time t }
 {
-    if t.day != 0 {
-        return false;
-    }
-    if in_day(t) {
-        return t.second <= 59;
-    }
-    false
+    t.day == 0 && in_day(t) && t.second <= 59
 }
 
 // Whether there is a time, of one of the three forms and with each number in range.
+#[tactic(auto, unfolding(crate::specs::Time::is_time, crate::specs::Time::is_day))]
 fn is_time(t: Time) -> bool
     ensures { result ≡ is_time t }
 {
-    if is_day(t.form) {
-        return is_day_time(t);
+    match t.form {
+        b'z' | b'/' => is_day_time(t),
+        b'h' => is_clock_time(t),
+        _ => false,
     }
-    if t.form == b'h' {
-        return is_clock_time(t);
-    }
-    false
 }
 
 // ---- read
 
-// The number of two digits; 100, which is in no number's range, where one of them is no digit.
-fn pair(tens: u8, ones: u8) -> u8
+// The number of two digits.
+#[tactic(auto, unfolding(crate::specs::Private::pair_of, laws::specs::Bytes::within, numbers::specs::Numbers::number_of, numbers::specs::Numbers::number_after))]
+fn pair(tens: u8, ones: u8) -> Option<u8>
     ensures { result ≡ pair_of tens ones }
 {
-    let high = wrapping_sub_u8(tens, b'0');
-    if 9 < high {
-        return 100;
+    if tens.is_ascii_digit() && ones.is_ascii_digit() {
+        Some(10 * (tens - b'0') + (ones - b'0'))
+    } else {
+        None
     }
-    let low = wrapping_sub_u8(ones, b'0');
-    if 9 < low {
-        return 100;
-    }
-    10 * high + low
 }
 
 // Three numbers in the places that the form gives them, whatever they are.
+#[tactic(auto, unfolding(crate::specs::Time::time_of))]
 pub fn time_of(first: u8, second: u8, third: u8, form: u8) -> Time
     ensures { result ≡ time_of first second third form }
 {
     if form == b'h' {
-        return Time {
+        Time {
             day: 0,
             hour: first,
             minute: second,
             second: third,
             form,
-        };
-    }
-    Time {
-        day: first,
-        hour: second,
-        minute: third,
-        second: 0,
-        form,
+        }
+    } else {
+        Time {
+            day: first,
+            hour: second,
+            minute: third,
+            second: 0,
+            form,
+        }
     }
 }
 
@@ -159,19 +114,17 @@ pub fn time_of(first: u8, second: u8, third: u8, form: u8) -> Time
 pub fn read_time(s: &[u8]) -> Option<Time>
     ensures { result ≡ read_time s.now }
 {
-    if s.len() != 7 {
+    let [a, b, c, d, e, f, form] = *s else {
         return None;
-    }
-    let t = time_of(pair(s[0], s[1]), pair(s[2], s[3]), pair(s[4], s[5]), s[6]);
-    if is_time(t) {
-        return Some(t);
-    }
-    None
+    };
+    let t = time_of(pair(a, b)?, pair(c, d)?, pair(e, f)?, form);
+    if is_time(t) { Some(t) } else { None }
 }
 
 // ---- written
 
 // Three numbers of two digits each, and the letter.
+#[tactic(auto, unfolding(crate::specs::Time::seven_bytes, numbers::specs::Numbers::digits_of, numbers::specs::Numbers::digit_of))]
 fn seven_bytes(first: u8, second: u8, third: u8, form: u8) -> [u8; 7]
     ensures { result ≡ seven_bytes first second third form }
 {
@@ -186,13 +139,15 @@ fn seven_bytes(first: u8, second: u8, third: u8, form: u8) -> [u8; 7]
     ]
 }
 
+#[tactic(auto, unfolding(crate::specs::Time::present_text))]
 fn present_text(t: Time) -> [u8; 7]
     ensures { result ≡ present_text t }
 {
     if t.form == b'h' {
-        return seven_bytes(t.hour, t.minute, t.second, t.form);
+        seven_bytes(t.hour, t.minute, t.second, t.form)
+    } else {
+        seven_bytes(t.day, t.hour, t.minute, t.form)
     }
-    seven_bytes(t.day, t.hour, t.minute, t.form)
 }
 
 // Writes those seven bytes, or none where there is no time. A number out of range is 15, and so is another letter; a buffer without

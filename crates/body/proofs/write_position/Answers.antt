@@ -1,15 +1,10 @@
 -- No report, no addressee; and then what the writers of a time and of a place say. Assumes nothing.
-use Rattle.body.specs.Range.{position_in_range}
-use Rattle.body.proofs.Writing.{judged, time_out, behind_fits, behind_within, left_long, end_fits, position_out, position_written}
+use Rattle.body.proofs.Writing.{time_out, behind_fits, behind_within, left_long, end_fits, position_out, position_written}
 use borrow.Author.Rules.{rules}
 use Rattle.body.proofs.write_position.Goals as goal
 
-pub overflow_add-result : goal.overflow_add-result
-overflow_add-result c = search (rules, end_fits)
-
-pub returns-then-not-is_place_alone : goal.returns-then-not-is_place_alone
-unfolding position_in_range
-returns-then-not-is_place_alone c = search (rules, judged)
+pub overflow_add-behind-2 : goal.overflow_add-behind-2
+overflow_add-behind-2 c = search (rules, end_fits)
 
 pub returns-then-t-ne0 : goal.returns-then-t-ne0
 returns-then-t-ne0 c = search (rules, time_out)

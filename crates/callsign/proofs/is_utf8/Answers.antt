@@ -5,7 +5,7 @@ use Rattle.callsign.proofs.is_utf8.Goals as goal
 use Rattle.callsign.proofs.is_utf8.Goals.{then-owed-eq0+in-Some, else-owed-eq0+then-owed-b+then-b-owed, else-owed-b-via-then-owed-b+else-b-owed, else-owed-b-via-else-owed-b}
 
 pub loop-b-init : goal.loop-b-init
-loop-b-init c = rw c.any_tails-owed.ensures (none_begun _)
+loop-b-init c = rw c.new-owed.ensures (none_begun _)
 
 pub returns-in_default : goal.returns-in_default
 returns-in_default c = search (rules, none_begins)

@@ -1,13 +1,16 @@
--- `read_latitude`: the length, the point, and then the six places and the letter. Assumes nothing.
+-- `read_latitude`: eight bytes with the point at its place, and then the six places and the letter. Assumes nothing.
+use Rattle.std.proofs.Common.{◌≡◌, length, arith, rules}
 use Rattle.lonlat.proofs.Reading.{latitude_length, latitude_point, latitude_whole}
-use Rattle.std.proofs.Common.{rules}
 use Rattle.lonlat.proofs.read_latitude.Goals as goal
 
-pub returns-then-s-ne8 : goal.returns-then-s-ne8
-returns-then-s-ne8 c = search (rules, latitude_length)
+pub returns-in_default : goal.returns-in_default
+returns-in_default c = latitude_length c.args.s.now (λ eight. omega arith)
 
-pub returns-then-s-ne46 : goal.returns-then-s-ne46
-returns-then-s-ne46 c = search (rules, latitude_point)
+pub returns-in_default-2 : goal.returns-in_default-2
+returns-in_default-2 c = latitude_length c.args.s.now (λ eight. omega arith)
+
+pub returns-then-point-ne46 : goal.returns-then-point-ne46
+returns-then-point-ne46 c = let eight : length c.args.s.now ≡ 8 = omega arith in search (rules, latitude_point)
 
 pub returns : goal.returns
-returns c = search (rules, latitude_whole)
+returns c = let eight : length c.args.s.now ≡ 8 = omega arith in search (rules, latitude_whole)

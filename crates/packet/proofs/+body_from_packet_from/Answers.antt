@@ -1,15 +1,8 @@
--- The packet reader calls the body reader, which calls the packet reader: each answers what the definition reads. Assumes nothing.
-use Rattle.std.proofs.Common.{◌+◌, drop, length-drop, arith, rules}
+-- The packet reader calls the body reader, which calls the packet reader: there is a byte, and room for the places inside. Assumes nothing.
+use Rattle.std.proofs.Common.{◌+◌, drop, length-drop, arith}
 use Rattle.packet.proofs.Packets.{brace_within}
 use Rattle.packet.proofs.Given.{inside_given}
-use Rattle.packet.proofs.ByItself.{from_held, from_alone, inside_fifth, inside_text_lem}
 use Rattle.packet.proofs.+body_from_packet_from.Goals as goal
-
-pub body_from-returns-then-left-eq0 : goal.body_from-returns-then-left-eq0
-body_from-returns-then-left-eq0 t c = search (rules, inside_fifth)
-
-pub body_from-returns : goal.body_from-returns
-body_from-returns t c = search (rules, inside_text_lem)
 
 pub packet_from-overflow_add-o : goal.packet_from-overflow_add-o
 packet_from-overflow_add-o t c =
@@ -27,9 +20,3 @@ packet_from-packet_around-requires t c =
     let w = brace_within a.s.now a.o.at _ c.holds_packet.ensures c.if-holds_packet.true in
     let g = inside_given a.strict a.left (drop (a.o.at + 1) a.s.now) _ c.body_from.ensures in
     omega (arith, w, length-drop (a.o.at + 1) a.s.now, g.number, g.within, g.identifier_within)
-
-pub packet_from-returns-then-holds_packet : goal.packet_from-returns-then-holds_packet
-packet_from-returns-then-holds_packet t c = search (rules, from_held)
-
-pub packet_from-returns : goal.packet_from-returns
-packet_from-returns t c = search (rules, from_alone)

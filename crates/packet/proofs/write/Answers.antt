@@ -13,17 +13,17 @@ returns-then-not-is_blank c = search (rules, inner_not_blank)
 pub returns-then-b-ne0 : goal.returns-then-b-ne0
 returns-then-b-ne0 c = search (rules, body_unwritten)
 
-pub slice_bounds-bytes-end : goal.slice_bounds-bytes-end
-slice_bounds-bytes-end c = search (rules, body_within)
-
 pub slice_bounds-write_behind-end : goal.slice_bounds-write_behind-end
 slice_bounds-write_behind-end c = search (rules, part_length, body_within)
 
-pub slice_bounds-tail-end : goal.slice_bounds-tail-end
-slice_bounds-tail-end c = search (rules, tail_within)
-
 pub slice_bounds-write_behind-end-2 : goal.slice_bounds-write_behind-end-2
 slice_bounds-write_behind-end-2 c = search (rules, part_length, tail_within)
+
+pub shared_ref_as_front-write_behind : goal.shared_ref_as_front-write_behind
+shared_ref_as_front-write_behind c = search (rules, body_within)
+
+pub shared_ref_as_front-write_behind-2 : goal.shared_ref_as_front-write_behind-2
+shared_ref_as_front-write_behind-2 c = search (rules, tail_within)
 
 pub write_behind-requires : goal.write_behind-requires
 write_behind-requires c = search (rules, body_short, length_unmapped)

@@ -4,15 +4,17 @@ use Rattle.lonlat.specs.Angle.{most_longitude}
 use Rattle.numbers.proofs.Sign.{back}
 use Rattle.position.proofs.Boxes.{reach_most, box_out, box_contradicted, box_below, box_above, width_near, wide_fits, wide_is, wide_small}
 use Rattle.position.proofs.box_of.Goals as goal
+use Rattle.position.proofs.box_of.Goals.{then-not-in_reach-via-then-not-in_reach, then-not-in_reach-via-else-not-in_reach+then-not-is_on}
 
 near : (z : ℤ) (most : ℕ) → SFits w32 z → nat_abs z ≤ most → most ≤ most_longitude → nat_abs (to_z w32 (of_z w32 z)) ≤ most_longitude
 near z most f h m = rw (back z f) (omega arith)
 
 pub returns-then-not-in_reach : goal.returns-then-not-in_reach
-returns-then-not-in_reach c = let b = back c.args.angle c.ranges.angle in search (rules, box_out)
-
-pub returns-then-not-is_on : goal.returns-then-not-is_on
-returns-then-not-is_on c = let b = back c.args.angle c.ranges.angle in search (rules, box_contradicted)
+returns-then-not-in_reach c = let b = back c.args.angle c.ranges.angle in
+    elim c.then-not-in_reach.branch [
+      | then-not-in_reach-via-then-not-in_reach w ↦ search (rules, box_out)
+      | then-not-in_reach-via-else-not-in_reach+then-not-is_on w ↦ search (rules, box_contradicted)
+    ]
 
 pub overflow_mul-wide : goal.overflow_mul-wide
 overflow_mul-wide c = search (rules, wide_fits)
@@ -25,16 +27,16 @@ around-requires c = let s = c.args in
 
 pub returns-then-minus : goal.returns-then-minus
 returns-then-minus c = let b = back c.args.angle c.ranges.angle in
-    let w = wide_is _ _ c.width-w.ensures in
+    let w = wide_is _ _ c.width-wide.ensures in
     search (rules, box_below)
 
-pub around-requires-2 : goal.around-requires-2
-around-requires-2 c = let s = c.args in
+pub around-requires-else-minus : goal.around-requires-else-minus
+around-requires-else-minus c = let s = c.args in
     let b = back s.angle c.ranges.angle in
     let h : nat_abs s.angle ≤ s.most = search (rules, reach_most) in
     let n = near s.angle s.most c.ranges.angle h c.requires in search (rules, width_near, wide_small)
 
-pub returns : goal.returns
-returns c = let b = back c.args.angle c.ranges.angle in
-    let w = wide_is _ _ c.width-w.ensures in
+pub returns-else-minus : goal.returns-else-minus
+returns-else-minus c = let b = back c.args.angle c.ranges.angle in
+    let w = wide_is _ _ c.width-wide.ensures in
     search (rules, box_above)
