@@ -6,8 +6,7 @@ use Rattle.buffer.specs.declared.Answer.{Answer}
 use Rattle.buffer.specs.Filled.{Filled, filled, front_of, added}
 use Rattle.buffer.proofs.Wrote.{refused_as}
 use Rattle.buffer.proofs.Filled.{added_len, first_front}
-use Rattle.mic_e.specs.declared.Field.{Field}
-use Rattle.fields.specs.Each.{flat}
+use Rattle.fields.specs.Each.{Field, flat}
 use Rattle.fields.specs.Lists.{listed}
 use Rattle.fields.proofs.Stored.{length_flat}
 

@@ -1,7 +1,7 @@
 -- Counting: at most m at each of the places of a list, and nothing elsewhere; so with the first, the second and the third
 -- byte of fields.
 -- Assumes nothing.
-use Rattle.std.proofs.Common.{◌≡◌, ℕ, zero, suc, ◌+◌, ◌-◌, ◌*◌, ◌<◌, ◌≤◌, Bool, true, false, cond, eqb, ◌⊎◌, List, [], ◌∷◌, ◌++◌, length, sym, refl, ap, ◌∙◌, inl, inr, ⊎_elim, suc-mul, arith, length-append, eq-eqb, ne_eqb, eqb-true}
+use Rattle.std.proofs.Common.{◌≡◌, ℕ, Option, Some, None, zero, suc, ◌+◌, ◌-◌, ◌*◌, ◌<◌, ◌≤◌, Bool, true, false, cond, eqb, ◌⊎◌, List, [], ◌∷◌, ◌++◌, length, sym, refl, ap, ◌∙◌, inl, inr, ⊎_elim, suc-mul, arith, length-append, eq-eqb, ne_eqb, eqb-true}
 use mathlib.Core.List.Memᴰ
 use mathlib.Core.List.{Memᴰ}
 use borrow.Author.Tests.{eqb-false}
@@ -9,8 +9,6 @@ use Rattle.laws.proofs.Tests.{bool_cases}
 use Rattle.fields.specs.Each.{each, cell, row, all_fields}
 use Rattle.fields.proofs.Each.{each_same, each_none, cell_none, row_none}
 use Rattle.fields.specs.Search.{fields_of, third_at}
-use Rattle.fields.specs.declared.Third.{Third}
-use Rattle.fields.specs.declared.Third.TheVariants.{At, Nowhere}
 use Rattle.fields.proofs.Hits.{third_at_lem}
 
 module _ {A : Type 0} where
@@ -86,10 +84,10 @@ member k (j ∷ js) =
 
 -- ---- fields
 
-one_third : (a b : ℕ) (x : Third) → length (fields_of a b x) ≤ 1
+one_third : (a b : ℕ) (x : Option ℕ) → length (fields_of a b x) ≤ 1
 unfolding fields_of
-one_third a b (At c) = omega arith
-one_third a b Nowhere = omega arith
+one_third a b (Some c) = omega arith
+one_third a b None = omega arith
 
 module _ (test : ℕ → ℕ → ℕ → Bool) (a : ℕ) where
   -- where the third byte can only be one

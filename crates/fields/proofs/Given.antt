@@ -8,14 +8,12 @@ use Rattle.numbers.proofs.Sign.{on_own}
 use Rattle.mic_e.specs.Turn.{less_if}
 use Rattle.mic_e.specs.Motion.{knots, degrees, read_motion}
 use Rattle.mic_e.specs.Longitude.{offset_of, wrapped, size_of, read_longitude}
-use Rattle.mic_e.specs.declared.Field.{Field}
 use Rattle.mic_e.proofs.MotionFacts.{Moves}
 use Rattle.mic_e.proofs.LongitudeFacts.{Lies}
 use Rattle.mic_e.proofs.Turn.{less_if_split}
-use Rattle.fields.specs.Each.{each, field}
+use Rattle.fields.specs.Each.{Field, each, field}
 use Rattle.fields.specs.Lists.{is_motion, is_longitude, same_angle, motion_fields, longitude_fields}
-use Rattle.fields.specs.Search.{hits, fields_of, third_at}
-use Rattle.fields.specs.declared.Target.TheVariants.{Moving, Lying}
+use Rattle.fields.specs.Search.{motion_hits, size_hits, fields_of, third_at}
 use Rattle.fields.proofs.Hits.{motion_hit, course_left, course_left_lem, longitude_hit, size_left}
 use Rattle.fields.proofs.Sides.{on_side_lem}
 use Rattle.fields.proofs.Skip.{skip_row, skipped}
@@ -40,10 +38,10 @@ may_row_lem s t a b c l h =
     (λ q. rw (in_band_lem (10 * (a - 28)) s (omega arith) (omega arith)))
     (less_if_split 800 (10 * (a - 28) + (b - 28) / 10))
 
-quick : (s t : ℕ) → motion_fields s t ≡ each 256 (skip_row (hits (Moving s t)) (may_row s) (λ a b. course_left t b))
-unfolding motion_fields hits
+quick : (s t : ℕ) → motion_fields s t ≡ each 256 (skip_row (motion_hits s t) (may_row s) (λ a b. course_left t b))
+unfolding motion_fields motion_hits
 quick s t =
-    skipped (hits (Moving s t)) (may_row s) (λ a b. course_left t b)
+    skipped (motion_hits s t) (may_row s) (λ a b. course_left t b)
     (λ a b c k l q. may_row_lem s t a b c k (motion_hit s t a b c q))
     (λ a b c l q. course_left_lem s t a b c l (motion_hit s t a b c q))
 
@@ -56,12 +54,12 @@ sixteen =
     ∷ field 108 28 28 ∷ field 108 30 228 ∷ field 108 31 128 ∷ field 108 32 28 ∷ []
 
 pub sixteen_listed : motion_fields 0 0 ≡ sixteen
-unfolding sixteen each skip_row fields_of third_at course_left may_row in_band hits is_motion read_motion knots degrees less_if
+unfolding sixteen each skip_row fields_of third_at course_left may_row in_band motion_hits is_motion read_motion knots degrees less_if
 sixteen_listed = quick 0 0 ∙ refl
 
 -- the bound of 36 is met
 pub thirty_six_listed : length (motion_fields 20 200) ≡ 36
-unfolding each skip_row fields_of third_at course_left may_row in_band hits is_motion read_motion knots degrees less_if
+unfolding each skip_row fields_of third_at course_left may_row in_band motion_hits is_motion read_motion knots degrees less_if
 thirty_six_listed = ap length (quick 20 200) ∙ refl
 
 -- ---- longitude
@@ -79,17 +77,17 @@ near_row_lem m hundred a b c k l h =
 
 -- a longitude that lies east
 quick_east : (m : ℕ) (hundred : Bool)
-    → longitude_fields hundred false (pos m) ≡ each 256 (skip_row (hits (Lying m hundred)) (near_row m hundred) (λ a b. m - size_of (offset_of hundred) a b 28))
+    → longitude_fields hundred false (pos m) ≡ each 256 (skip_row (size_hits m hundred) (near_row m hundred) (λ a b. m - size_of (offset_of hundred) a b 28))
 unfolding is_minus
 quick_east m hundred =
     on_side_lem hundred false (pos m) (on_own (pos m))
-    ∙ skipped (hits (Lying m hundred)) (near_row m hundred) (λ a b. m - size_of (offset_of hundred) a b 28)
+    ∙ skipped (size_hits m hundred) (near_row m hundred) (λ a b. m - size_of (offset_of hundred) a b 28)
     (λ a b c k l q. near_row_lem m hundred a b c k l (longitude_hit m hundred a b c q))
     (λ a b c l q. size_left m (offset_of hundred) a b c (longitude_hit m hundred a b c q))
 
 -- "45 degrees east with offset 100: none, count 0"
 pub none_listed : longitude_fields true false (pos 270000) ≡ []
-unfolding each skip_row fields_of third_at near_row hits is_longitude same_angle read_longitude size_of wrapped less_if offset_of signed_of
+unfolding each skip_row fields_of third_at near_row size_hits is_longitude same_angle read_longitude size_of wrapped less_if offset_of signed_of
 none_listed = quick_east 270000 true ∙ refl
 
 -- "Longitude 0, offset 100, east: 118,28,28 and 118,88,28."
@@ -97,10 +95,10 @@ pub two : List Field
 two = field 118 28 28 ∷ field 118 88 28 ∷ []
 
 pub two_listed : longitude_fields true false (pos 0) ≡ two
-unfolding two each skip_row fields_of third_at near_row hits is_longitude same_angle read_longitude size_of wrapped less_if offset_of signed_of
+unfolding two each skip_row fields_of third_at near_row size_hits is_longitude same_angle read_longitude size_of wrapped less_if offset_of signed_of
 two_listed = quick_east 0 true ∙ refl
 
 -- the bound of 24 is met
 pub twenty_four_listed : length (longitude_fields true false (pos 612200)) ≡ 24
-unfolding each skip_row fields_of third_at near_row hits is_longitude same_angle read_longitude size_of wrapped less_if offset_of signed_of
+unfolding each skip_row fields_of third_at near_row size_hits is_longitude same_angle read_longitude size_of wrapped less_if offset_of signed_of
 twenty_four_listed = ap length (quick_east 612200 true) ∙ refl

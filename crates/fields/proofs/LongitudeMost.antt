@@ -9,17 +9,13 @@ use Rattle.laws.proofs.Every.{all_at}
 use Rattle.laws.proofs.Tests.{bool_cases}
 use Rattle.mic_e.specs.Turn.{less_if}
 use Rattle.mic_e.specs.Longitude.{offset_of, wrapped, size_of}
-use Rattle.mic_e.specs.declared.Field.{Field}
 use Rattle.mic_e.proofs.LongitudeFacts.{Lies}
 use Rattle.mic_e.proofs.Turn.{less_if_split, wrapped_plain, wrapped_mid, wrapped_high, wrapped_past}
-use Rattle.fields.specs.Each.{each, row, all_fields, cell}
-use Rattle.fields.specs.Search.{hits}
-use Rattle.fields.specs.declared.Target.TheVariants.{Lying, Moving}
+use Rattle.fields.specs.Each.{Field, each, row, all_fields, cell}
+use Rattle.fields.specs.Search.{size_hits}
 use Rattle.fields.proofs.Each.{row_none}
 use Rattle.fields.proofs.Hits.{longitude_hit, size_left}
 use Rattle.fields.proofs.Count.{few, member, near, near_mem, cell_few, row_few}
-use Rattle.fields.specs.declared.Target.{Target}
-use Rattle.fields.proofs.MotionMost.{motion_few}
 
 -- the second bytes that go with q whole minutes
 seconds : ℕ → List ℕ
@@ -113,9 +109,9 @@ wrapped_two x =
     (bool_cases (ltb x 180))
 
 module _ (m : ℕ) (hundred : Bool) where
-  longitude_cell : (a b : ℕ) → length (cell (hits (Lying m hundred)) a b) ≤ 1
+  longitude_cell : (a b : ℕ) → length (cell (size_hits m hundred) a b) ≤ 1
   longitude_cell a b =
-      cell_few (hits (Lying m hundred)) a b (m - size_of (offset_of hundred) a b 28) (λ c l q. size_left m (offset_of hundred) a b c (longitude_hit m hundred a b c q))
+      cell_few (size_hits m hundred) a b (m - size_of (offset_of hundred) a b 28) (λ c l q. size_left m (offset_of hundred) a b c (longitude_hit m hundred a b c q))
 
   both : ℕ → List ℕ
   both d = (28 + d - offset_of hundred) ∷ (28 + other d - offset_of hundred) ∷ []
@@ -141,18 +137,18 @@ module _ (m : ℕ) (hundred : Bool) where
       two_ways b (less_if 60 (b - 28)) ((m - 6000 * wide a) / 100) (omega arith) (omega arith)
       (⊎_elim (λ q. inl (omega arith)) (λ q. inr (omega arith, omega arith)) (less_if_split 60 (b - 28)))
 
-  row_most : (a : ℕ) → length (row (hits (Lying m hundred)) a) ≤ most ((m - 6000 * wide a) / 100)
+  row_most : (a : ℕ) → length (row (size_hits m hundred) a) ≤ most ((m - 6000 * wide a) / 100)
   unfolding most
   row_most a =
       omega (
         arith,
-        row_few (hits (Lying m hundred)) a (seconds ((m - 6000 * wide a) / 100)) (longitude_cell a)
+        row_few (size_hits m hundred) a (seconds ((m - 6000 * wide a) / 100)) (longitude_cell a)
             (λ b c k l q. second a b c l (longitude_hit m hundred a b c q)),
       )
 
   -- the rows whose degrees are i short of the size's
   part : ℕ → ℕ → List Field
-  part i a = cond (eqb (wide a + i) (m / 6000)) (row (hits (Lying m hundred)) a) []
+  part i a = cond (eqb (wide a + i) (m / 6000)) (row (size_hits m hundred) a) []
 
   q : ℕ
   q = m % 6000 / 100
@@ -161,11 +157,11 @@ module _ (m : ℕ) (hundred : Bool) where
   unfolding part q
   part_most i a = go (eqb (wide a + i) (m / 6000)) refl
     where
-      go : (t : Bool) → eqb (wide a + i) (m / 6000) ≡ t → length (cond t (row (hits (Lying m hundred)) a) []) ≤ most (m % 6000 / 100 + 60 * i)
+      go : (t : Bool) → eqb (wide a + i) (m / 6000) ≡ t → length (cond t (row (size_hits m hundred) a) []) ≤ most (m % 6000 / 100 + 60 * i)
       go true e =
           let d : wide a + i ≡ m / 6000 = eqb-true _ _ e in
           let r : (m - 6000 * wide a) / 100 ≡ m % 6000 / 100 + 60 * i = omega arith in
-          subst (λ (n : ℕ). length (row (hits (Lying m hundred)) a) ≤ most n) r (row_most a)
+          subst (λ (n : ℕ). length (row (size_hits m hundred) a) ≤ most n) r (row_most a)
       go false e = omega arith
 
   -- a first byte of those degrees is one of two, or begins nothing
@@ -173,7 +169,7 @@ module _ (m : ℕ) (hundred : Bool) where
   unfolding part wide
   stands i a = go (eqb (wide a + i) (m / 6000)) refl
     where
-      go : (t : Bool) → eqb (wide a + i) (m / 6000) ≡ t → Memᴰ a (both (m / 6000 - i)) ⊎ (cond t (row (hits (Lying m hundred)) a) [] ≡ [])
+      go : (t : Bool) → eqb (wide a + i) (m / 6000) ≡ t → Memᴰ a (both (m / 6000 - i)) ⊎ (cond t (row (size_hits m hundred) a) [] ≡ [])
       go true e =
           let d : wide a + i ≡ m / 6000 = eqb-true _ _ e in
           ⊎_elim inl
@@ -189,12 +185,12 @@ module _ (m : ℕ) (hundred : Bool) where
   unfolding wide size_of
   close a b c k l h = (omega arith, ⊎_elim (λ q. omega arith) (λ q. omega arith) (less_if_split 60 (b - 28)))
 
-  shared : (a : ℕ) → length (row (hits (Lying m hundred)) a) ≤ length (part 0 a) + length (part 1 a) + length (part 2 a)
+  shared : (a : ℕ) → length (row (size_hits m hundred) a) ≤ length (part 0 a) + length (part 1 a) + length (part 2 a)
   unfolding part
   shared a = go (eqb (wide a + 0) (m / 6000)) refl (eqb (wide a + 1) (m / 6000)) refl (eqb (wide a + 2) (m / 6000)) refl
     where
       go : (t : Bool) → eqb (wide a + 0) (m / 6000) ≡ t → (u : Bool) → eqb (wide a + 1) (m / 6000) ≡ u → (v : Bool) → eqb (wide a + 2) (m / 6000) ≡ v
-          → length (row (hits (Lying m hundred)) a) ≤ length (cond t (row (hits (Lying m hundred)) a) []) + length (cond u (row (hits (Lying m hundred)) a) []) + length (cond v (row (hits (Lying m hundred)) a) [])
+          → length (row (size_hits m hundred) a) ≤ length (cond t (row (size_hits m hundred) a) []) + length (cond u (row (size_hits m hundred) a) []) + length (cond v (row (size_hits m hundred) a) [])
       go true e u f v g = omega arith
       go false e true f v g = omega arith
       go false e false f true g = omega arith
@@ -202,21 +198,16 @@ module _ (m : ℕ) (hundred : Bool) where
           let n₀ : wide a + 0 ≡ m / 6000 → ⊥ = eqb-false _ _ e in
           let n₁ : wide a + 1 ≡ m / 6000 → ⊥ = eqb-false _ _ f in
           let n₂ : wide a + 2 ≡ m / 6000 → ⊥ = eqb-false _ _ g in
-          rw (row_none (hits (Lying m hundred)) a (λ b c k l t. let w = close a b c k l (longitude_hit m hundred a b c t) in omega arith)) (omega arith)
+          rw (row_none (size_hits m hundred) a (λ b c k l t. let w = close a b c k l (longitude_hit m hundred a b c t) in omega arith)) (omega arith)
 
-  pub longitude_fewest : length (all_fields (hits (Lying m hundred))) ≤ 24
+  pub longitude_fewest : length (all_fields (size_hits m hundred)) ≤ 24
   unfolding all_fields q
   longitude_fewest =
       omega (
         arith,
-        each_three 256 (row (hits (Lying m hundred))) (part 0) (part 1) (part 2) (λ a l. shared a),
+        each_three 256 (row (size_hits m hundred)) (part 0) (part 1) (part 2) (λ a l. shared a),
         rw (add-zero q) at (part_few 0),
         part_few 1,
         part_few 2,
         twelve (m % 6000 / 100) (omega arith),
       )
-
--- a target of either kind
-pub few_fields : (t : Target) → length (all_fields (hits t)) ≤ 36
-few_fields (Moving s t) = motion_few s t
-few_fields (Lying m hundred) = omega (arith, longitude_fewest m hundred)

@@ -8,18 +8,17 @@ use Rattle.mic_e.specs.Motion.{knots, degrees}
 use Rattle.mic_e.proofs.MotionFacts.{Moves}
 use Rattle.mic_e.proofs.Turn.{less_if_split}
 use Rattle.fields.specs.Each.{cell, row, all_fields}
-use Rattle.fields.specs.Search.{hits}
-use Rattle.fields.specs.declared.Target.TheVariants.{Moving}
+use Rattle.fields.specs.Search.{motion_hits}
 use Rattle.fields.proofs.Count.{near, near_mem, cell_few, row_few, fields_few}
 use Rattle.fields.proofs.Hits.{motion_hit, course_left, course_left_lem}
 
 module _ (s t : ℕ) where
   hit : ℕ → ℕ → ℕ → Bool
-  hit = hits (Moving s t)
+  hit = motion_hits s t
 
   motion_cell : (a b : ℕ) → length (cell hit a b) ≤ 1
   unfolding hit
-  motion_cell a b = cell_few (hits (Moving s t)) a b (course_left t b) (λ c l q. course_left_lem s t a b c l (motion_hit s t a b c q))
+  motion_cell a b = cell_few (motion_hits s t) a b (course_left t b) (λ c l q. course_left_lem s t a b c l (motion_hit s t a b c q))
 
   turns : ℕ → List ℕ
   turns base = near base (t / 100) ++ near base ((t + 400) / 100)
@@ -48,7 +47,7 @@ module _ (s t : ℕ) where
   motion_row : (a : ℕ) → length (row hit a) ≤ 6
   unfolding hit turns near
   motion_row a =
-      row_few (hits (Moving s t)) a (turns (base_of_lem a)) (motion_cell a)
+      row_few (motion_hits s t) a (turns (base_of_lem a)) (motion_cell a)
       (λ b c k l q. let h = motion_hit s t a b c q in turn (base_of_lem a) a b c l h (based a b c k h))
 
   firsts : List ℕ
@@ -62,7 +61,7 @@ module _ (s t : ℕ) where
       (λ q. Memᴰ.append_left (near 28 ((s + 800) / 10)) (near_mem 28 a (a - 28) (s / 10) (omega arith) (omega arith) (omega arith)))
       (less_if_split 800 (10 * (a - 28) + (b - 28) / 10))
 
-  pub motion_few : length (all_fields (hits (Moving s t))) ≤ 36
+  pub motion_few : length (all_fields (motion_hits s t)) ≤ 36
   unfolding hit firsts near
   motion_few =
-      fields_few (hits (Moving s t)) firsts 6 motion_row (λ a b c k l q. first a b c k (motion_hit s t a b c q))
+      fields_few (motion_hits s t) firsts 6 motion_row (λ a b c k l q. first a b c k (motion_hit s t a b c q))

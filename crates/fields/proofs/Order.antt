@@ -5,8 +5,7 @@ use Rattle.std.proofs.Common.{◌≡◌, ℕ, zero, suc, ◌+◌, ◌*◌, ◌<�
 use mathlib.Core.Path.{fun_ext}
 use mathlib.Core.List.Memᴰ
 use mathlib.Core.List.{Memᴰ}
-use Rattle.mic_e.specs.declared.Field.{Field}
-use Rattle.fields.specs.Each.{each, field, cell, row, all_fields}
+use Rattle.fields.specs.Each.{Field, each, field, cell, row, all_fields}
 
 -- ---- kept of all the every_field
 

@@ -9,8 +9,7 @@ use Rattle.mic_e.specs.Longitude.{offset_of, size_of, read_longitude}
 use Rattle.mic_e.proofs.LongitudeFacts.{Lies, reads_lies, lies_reads}
 use Rattle.fields.specs.Each.{all_fields}
 use Rattle.fields.specs.Lists.{is_longitude, longitude_fields}
-use Rattle.fields.specs.Search.{hits}
-use Rattle.fields.specs.declared.Target.TheVariants.{Lying}
+use Rattle.fields.specs.Search.{size_hits}
 use Rattle.fields.proofs.Each.{fields_none}
 use Rattle.fields.proofs.Hits.{is_longitude_lem, longitude_is, longitude_hit, hit_longitude}
 
@@ -26,7 +25,7 @@ module _ (hundred west : Bool) (z : ℤ) where
       let n : nat_abs z ≡ size_of (offset_of hundred) a b c = ap nat_abs h.1 ∙ size_signed west (size_of (offset_of hundred) a b c) in
       (rw n h.0, rw h.1 (on_signed west (size_of (offset_of hundred) a b c)))
 
-  pub on_side_lem : is_on west z ≡ true → longitude_fields hundred west z ≡ all_fields (hits (Lying (nat_abs z) hundred))
+  pub on_side_lem : is_on west z ≡ true → longitude_fields hundred west z ≡ all_fields (size_hits (nat_abs z) hundred)
   unfolding longitude_fields
   on_side_lem e =
       ap all_fields (fun_ext (λ a. fun_ext (λ b. fun_ext (λ c.

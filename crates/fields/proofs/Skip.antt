@@ -3,8 +3,7 @@
 -- Assumes nothing.
 use Rattle.std.proofs.Common.{◌≡◌, ℕ, ◌+◌, ◌<◌, Bool, true, false, List, [], sym, refl, ◌∙◌}
 use mathlib.Core.Bool.{false≢true}
-use Rattle.mic_e.specs.declared.Field.{Field}
-use Rattle.fields.specs.Each.{each, cell, row, all_fields}
+use Rattle.fields.specs.Each.{Field, each, cell, row, all_fields}
 use Rattle.fields.specs.Search.{fields_of, third_at}
 use Rattle.fields.proofs.Hits.{third_at_lem}
 use Rattle.fields.proofs.Each.{each_same, each_none, cell_none}

@@ -6,7 +6,7 @@ use Rattle.mic_e.specs.Turn.{less_if}
 use Rattle.mic_e.specs.Longitude.{offset_of, size_of}
 use Rattle.mic_e.proofs.LongitudeFacts.{Lies}
 use Rattle.mic_e.proofs.Turn.{less_if_le, less_if_split}
-use Rattle.fields.specs.Search.{span_from, ten_from, Spans}
+use Rattle.fields.specs.Search.{span_from, ten_from, no_span, Spans}
 use Rattle.fields.proofs.Each.{cell_none}
 use Rattle.fields.proofs.Hits.{Based}
 
@@ -41,8 +41,8 @@ ten_spans test a gap h = go (ltb 22 gap) refl (eqb gap 22) refl
         spans_by test a (28 + 10 * gap) (38 + 10 * gap) (omega arith) (omega arith) (λ b c l m e. let r : (28 ≤ b) × ((b - 28) / 10 ≡ gap) = h b c l m e in (omega arith, omega arith))
 
 -- nothing passes at all
-pub no_span_lem : (test : ℕ → ℕ → ℕ → Bool) (a : ℕ) → ((b c : ℕ) → b < 256 → c < 256 → test a b c ≡ true → ⊥) → Spans test a (ten_from 23)
-no_span_lem test a h = ten_spans test a 23 (λ b c l m e. absurd (h b c l m e))
+pub no_span_lem : (test : ℕ → ℕ → ℕ → Bool) (a : ℕ) → ((b c : ℕ) → b < 256 → c < 256 → test a b c ≡ true → ⊥) → Spans test a no_span
+no_span_lem test a h = spans_by test a 0 0 (omega arith) (omega arith) (λ b c l m e. absurd (h b c l m e))
 
 -- a longitude's minutes are at most two short of what is left, and the second byte may stand for 60 more
 pub record Band (m low b : ℕ) : Type 0 where

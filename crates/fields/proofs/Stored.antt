@@ -3,8 +3,7 @@
 use Rattle.std.proofs.Common.{◌≡◌, ℕ, suc, ◌+◌, ◌*◌, ◌<◌, ◌≤◌, List, [], ◌∷◌, ◌++◌, length, refl, ap, ◌∙◌, add-one, arith, length-append}
 use Rattle.buffer.specs.Filled.{Filled, filled, added}
 use Rattle.buffer.proofs.Filled.{added_none, added_len, added_length, then_added}
-use Rattle.mic_e.specs.declared.Field.{Field}
-use Rattle.fields.specs.Each.{each, flat}
+use Rattle.fields.specs.Each.{Field, each, flat}
 use Rattle.fields.proofs.Each.{each_mono}
 
 flat_append : (xs ys : List Field) → flat (xs ++ ys) ≡ flat xs ++ flat ys

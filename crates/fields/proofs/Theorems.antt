@@ -1,7 +1,7 @@
 -- What the two lists are: every field that reads as the target, in strictly ascending order, each once, the writer's among
 -- them; and the lists that document 01 gives.
 -- Assumes nothing.
-use Rattle.std.proofs.Common.{◌≡◌, ℕ, ◌<◌, ◌≤◌, Bool, true, false, List, length, ℤ, pos, nat_abs, sym, refl, ◌∙◌, ⊎_elim, arith, le-ltb}
+use Rattle.std.proofs.Common.{◌≡◌, ℕ, Some, ◌<◌, ◌≤◌, Bool, true, false, List, length, ℤ, pos, nat_abs, sym, refl, ◌∙◌, ⊎_elim, arith, le-ltb}
 use mathlib.Core.List.{Memᴰ}
 use Rattle.buffer.specs.Wrote.{ends, done_by}
 use Rattle.lonlat.specs.Longitude.{longitude_refusal}
@@ -10,15 +10,12 @@ use Rattle.lonlat.specs.Angle.{most_longitude}
 use Rattle.numbers.specs.Sign.{is_minus, is_on}
 use Rattle.mic_e.specs.Motion.{most_speed, most_course, read_motion, motion_field}
 use Rattle.mic_e.specs.Longitude.{read_longitude, hundred_of, longitude_field}
-use Rattle.mic_e.specs.declared.Field.{Field}
-use Rattle.mic_e.specs.declared.Motion.TheVariants.{Read as Motion-read}
-use Rattle.mic_e.specs.declared.LongitudeField.TheVariants.{Read as Longitude-read}
-use Rattle.mic_e.proofs.MotionFacts.{Bytes, motion_bytes}
+use Rattle.mic_e.proofs.MotionFacts.{motion, Bytes, motion_bytes}
 use Rattle.mic_e.proofs.LongitudeFacts.{longitude_bytes}
 use Rattle.mic_e.proofs.Theorems.{motion_reads_back, longitude_reads_back}
+use Rattle.fields.specs.Each.{Field, field_at, bytes_of}
 use Rattle.fields.specs.Lists.{listed, is_motion, is_longitude, motion_fields, longitude_fields}
-use Rattle.fields.specs.Search.{hits}
-use Rattle.fields.specs.declared.Target.TheVariants.{Moving}
+use Rattle.fields.specs.Search.{motion_hits}
 use Rattle.fields.proofs.MotionMost.{motion_few}
 use Rattle.fields.proofs.LongitudeMost.{longitude_fewest}
 use Rattle.fields.proofs.Answers.{empty_list}
@@ -40,27 +37,27 @@ longitude_kept hundred west z = kept _
 -- ---- a field of bytes is listed exactly when it reads so
 
 pub motion_listed_reads : (s t : ℕ) (f : Field) → Memᴰ f (motion_fields s t)
-    → Bytes f × (read_motion f.first f.second f.third ≡ Motion-read (record { 0 = s }) (record { 0 = t }))
-unfolding motion_fields hits
+    → Bytes (bytes_of f) × (read_motion f.first f.second f.third ≡ Some (motion s t))
+unfolding motion_fields motion_hits
 motion_listed_reads s t f m =
-    let h = member_passes (hits (Moving s t)) f m in
+    let h = member_passes (motion_hits s t) f m in
     (record { first_byte = h.first_byte; second_byte = h.second_byte; third_byte = h.third_byte }, motion_reads s t _ _ _ h.passes)
 
-pub motion_reads_listed : (s t : ℕ) (f : Field) → Bytes f → read_motion f.first f.second f.third ≡ Motion-read (record { 0 = s }) (record { 0 = t })
+pub motion_reads_listed : (s t : ℕ) (f : Field) → Bytes (bytes_of f) → read_motion f.first f.second f.third ≡ Some (motion s t)
     → Memᴰ f (motion_fields s t)
-unfolding motion_fields hits
+unfolding motion_fields motion_hits
 motion_reads_listed s t f b e =
-    passes_member (hits (Moving s t)) f (record { first_byte = b.first_byte; second_byte = b.second_byte; third_byte = b.third_byte; passes = reads_motion s t _ _ _ e })
+    passes_member (motion_hits s t) f (record { first_byte = b.first_byte; second_byte = b.second_byte; third_byte = b.third_byte; passes = reads_motion s t _ _ _ e })
 
 module _ (hundred west : Bool) (z : ℤ) (f : Field) where
   pub longitude_listed_reads : Memᴰ f (longitude_fields hundred west z)
-      → Bytes f × (read_longitude hundred west f.first f.second f.third ≡ Longitude-read (record { 0 = z }))
+      → Bytes (bytes_of f) × (read_longitude hundred west f.first f.second f.third ≡ Some (record { 0 = z }))
   unfolding longitude_fields
   longitude_listed_reads m =
       let h = member_passes (λ a b c. is_longitude z (read_longitude hundred west a b c)) f m in
       (record { first_byte = h.first_byte; second_byte = h.second_byte; third_byte = h.third_byte }, is_longitude_lem z _ h.passes)
 
-  pub longitude_reads_listed : Bytes f → read_longitude hundred west f.first f.second f.third ≡ Longitude-read (record { 0 = z })
+  pub longitude_reads_listed : Bytes (bytes_of f) → read_longitude hundred west f.first f.second f.third ≡ Some (record { 0 = z })
       → Memᴰ f (longitude_fields hundred west z)
   unfolding longitude_fields
   longitude_reads_listed b e =
@@ -79,12 +76,15 @@ longitude_ascends hundred west z = fields_ascend _
 
 -- ---- the writer's field is on the list
 
-pub motion_written_listed : (s t : ℕ) → s ≤ most_speed → t ≤ most_course → Memᴰ (motion_field s t) (motion_fields s t)
-motion_written_listed s t h k = motion_reads_listed s t (motion_field s t) (motion_bytes s t h k) (motion_reads_back s t h k)
+as_bytes : {l : List ℕ} → Bytes l → Bytes (bytes_of (field_at l))
+as_bytes b = record { first_byte = b.first_byte; second_byte = b.second_byte; third_byte = b.third_byte }
 
-pub longitude_written_listed : (z : ℤ) → nat_abs z < most_longitude → Memᴰ (longitude_field (nat_abs z)) (longitude_fields (hundred_of z) (is_minus z) z)
+pub motion_written_listed : (s t : ℕ) → s ≤ most_speed → t ≤ most_course → Memᴰ (field_at (motion_field s t)) (motion_fields s t)
+motion_written_listed s t h k = motion_reads_listed s t (field_at (motion_field s t)) (as_bytes (motion_bytes s t h k)) (motion_reads_back s t h k)
+
+pub longitude_written_listed : (z : ℤ) → nat_abs z < most_longitude → Memᴰ (field_at (longitude_field (nat_abs z))) (longitude_fields (hundred_of z) (is_minus z) z)
 longitude_written_listed z h =
-    longitude_reads_listed (hundred_of z) (is_minus z) z (longitude_field (nat_abs z)) (longitude_bytes (nat_abs z) h) (longitude_reads_back z h)
+    longitude_reads_listed (hundred_of z) (is_minus z) z (field_at (longitude_field (nat_abs z))) (as_bytes (longitude_bytes (nat_abs z) h)) (longitude_reads_back z h)
 
 -- ---- the other side
 
@@ -103,7 +103,7 @@ zero_either_side hundred = on_side_lem hundred true (pos 0) refl ∙ sym (on_sid
 -- ---- no list of motions holds more than 36 fields, and none of longitudes more than 24
 
 pub motion_at_most : (s t : ℕ) → length (motion_fields s t) ≤ 36
-unfolding motion_fields hits
+unfolding motion_fields motion_hits
 motion_at_most s t = motion_few s t
 
 pub longitude_at_most : (hundred west : Bool) (z : ℤ) → length (longitude_fields hundred west z) ≤ 24

@@ -2,16 +2,13 @@
 -- reports the number of fields, and three times as many bytes change; at 16 it returns those bytes." A list target may be
 -- 180 degrees: its refusal is `longitude_refusal` of lonlat, as for a longitude in text.
 -- Assumes nothing.
-use Rattle.std.specs.Prelude.{ℕ, Bool, false, cond, ◌&&◌, List, length, ℤ, pos, negsuc, ◌==◌}
+use Rattle.std.specs.Prelude.{ℕ, Bool, false, cond, ◌&&◌, List, length, ℤ, pos, negsuc, ◌==◌, Option, Some, None}
 use Rattle.buffer.specs.Wrote.{Wrote, wrote_as}
 use Rattle.mic_e.specs.Motion.{read_motion, motion_out}
 use Rattle.mic_e.specs.Longitude.{read_longitude}
-use Rattle.mic_e.specs.declared.Field.{Field}
 use Rattle.mic_e.specs.declared.Motion.{Motion}
-use Rattle.mic_e.specs.declared.Motion.TheVariants.{Read as Moves, Refused as Still}
-use Rattle.mic_e.specs.declared.LongitudeField.{LongitudeField}
-use Rattle.mic_e.specs.declared.LongitudeField.TheVariants.{Read as Lies, Refused as Lost}
-use Rattle.fields.specs.Each.{all_fields, flat}
+use Rattle.lonlat.specs.declared.Longitude.{Longitude}
+use Rattle.fields.specs.Each.{Field, all_fields, flat}
 
 -- the fields' number reported, their bytes written
 unfoldable pub listed : ℕ → List Field → List ℕ → Wrote
@@ -20,9 +17,9 @@ listed refusal fields out = wrote_as refusal (length fields) (flat fields) out
 -- ---- motion
 
 -- a motion that was read is that speed and that course
-unfoldable pub is_motion : ℕ → ℕ → Motion → Bool
-is_motion speed course (Moves s c) = s.0 == speed && c.0 == course
-is_motion speed course Still = false
+unfoldable pub is_motion : ℕ → ℕ → Option Motion → Bool
+is_motion speed course (Some m) = m.speed.0 == speed && m.course.0 == course
+is_motion speed course None = false
 
 -- all the fields that read as that speed and course
 unfoldable pub motion_fields : ℕ → ℕ → List Field
@@ -42,9 +39,9 @@ same_angle (negsuc a) (pos b) = false
 same_angle (negsuc a) (negsuc b) = a == b
 
 -- a longitude that was read is that one
-unfoldable pub is_longitude : ℤ → LongitudeField → Bool
-is_longitude target (Lies l) = same_angle l.0 target
-is_longitude target Lost = false
+unfoldable pub is_longitude : ℤ → Option Longitude → Bool
+is_longitude target (Some l) = same_angle l.0 target
+is_longitude target None = false
 
 -- under an offset and a side
 unfoldable pub longitude_fields : Bool → Bool → ℤ → List Field

@@ -282,7 +282,6 @@ fn is_last(c: u8) -> bool
 }
 
 // The digit or blank that a character shows: `0-9`, `A-J` and `P-Y` are digits.
-#[tactic(auto, unfolding(crate::specs::Character::digit_of))]
 fn digit_of(c: u8) -> u8
     ensures { result ≡ digit_of c }
 {
@@ -298,7 +297,6 @@ fn digit_of(c: u8) -> u8
 }
 
 // The bit of a character: `A-K` is custom, `P-Z` standard.
-#[tactic(auto, unfolding(crate::specs::Character::bit_of))]
 fn bit_of(c: u8) -> Bit
     ensures { result ≡ bit_of c }
 {
@@ -312,7 +310,6 @@ fn bit_of(c: u8) -> Bit
 }
 
 // The character of a bit and a digit; of any other byte than a digit, the bit's blank.
-#[tactic(auto, unfolding(crate::specs::Character::character_of))]
 fn character_of(bit: Bit, d: u8) -> u8
     ensures { result ≡ character_of bit d }
 {

@@ -1,31 +1,39 @@
--- `fill`: below a, the fields that begin with a byte below a were put. Assumes nothing.
-use Rattle.std.proofs.Common.{◌≡◌, arith, rules}
+-- `fill`: the rows have room, and each is put behind those before it; the last, of 255, ends the loop. Assumes nothing.
+use Rattle.std.proofs.Common.{◌≡◌, ◌+◌, ◌∙◌, refl, arith}
 use Rattle.fields.specs.Each.{row, all_fields}
-use Rattle.fields.specs.Search.{hits}
 use Rattle.fields.proofs.Each.{each_none}
-use Rattle.fields.proofs.Stored.{put_length, stored_none, stored_step, stored_room}
+use Rattle.fields.proofs.Stored.{stored_none, stored_step, stored_room}
 use Rattle.fields.proofs.fill.Goals as goal
 
 pub loop-a-init : goal.loop-a-init
 unfolding all_fields
-loop-a-init c = (search rules, stored_none _ c.args.out.now 0 256 (omega (arith, c.requires)) 0 (each_none 0 _ (λ k l. absurd (omega arith))))
+loop-a-init g c =
+    record {
+      same = refl;
+      so_far = stored_none (row (g.T.Target.hits c.args.t.now)) c.args.out.now.bytes.now c.args.out.now.len 256 c.requires 0 (each_none 0 _ (λ k l. absurd (omega arith)));
+    }
 
-pub fill_row-at-requires : goal.fill_row-at-requires
+pub fill_row-requires : goal.fill_row-requires
 unfolding all_fields
-fill_row-at-requires c = stored_room (row (hits c.args.t)) c.args.out.now 0 256 (omega (arith, c.requires)) c.loop-a.a c.loop-a.at c.loop-a.out (omega arith) c.loop-a.invariant.1
+fill_row-requires g c =
+    stored_room (row (g.T.Target.hits c.args.t.now)) c.args.out.now.bytes.now c.args.out.now.len 256 c.requires c.loop-a.a c.loop-a.out.len c.loop-a.out.bytes.now (omega arith) c.loop-a.invariant.so_far
 
 pub loop-a-preserved : goal.loop-a-preserved
 unfolding all_fields
-loop-a-preserved c = let q = c.fill_row-at in (
-  search rules,
-  stored_step (row (hits c.args.t)) c.args.out.now 0 256 (omega (arith, c.requires)) c.loop-a.a c.loop-a.at c.loop-a.out
-      (omega arith) c.loop-a.invariant.1 q.result _ q.ensures,
-)
+loop-a-preserved g c =
+    record {
+      same = c.fill_row.ensures.same_reference ∙ c.loop-a.invariant.same;
+      so_far =
+          stored_step (row (g.T.Target.hits c.args.t.now)) c.args.out.now.bytes.now c.args.out.now.len 256 c.requires c.loop-a.a c.loop-a.out.len c.loop-a.out.bytes.now (omega arith) c.loop-a.invariant.so_far
+          _ _ c.fill_row.ensures.value;
+    }
 
-pub shape_of-out : goal.shape_of-out
-shape_of-out c = put_length _ _ _ _ _ c.loop-a.invariant.1
+pub returns-2-clause-same_reference : goal.returns-2-clause-same_reference
+returns-2-clause-same_reference g c = c.fill_row.ensures.same_reference ∙ c.loop-a.invariant.same
 
-pub returns : goal.returns
+pub returns-2-clause-value : goal.returns-2-clause-value
 unfolding all_fields
-returns c = let e : c.loop-a.a ≡ 256 = omega arith in
-    rw e at c.loop-a.invariant.1
+returns-2-clause-value g c =
+    let last : c.loop-a.a + 1 ≡ 256 = omega arith in
+    rw last at (stored_step (row (g.T.Target.hits c.args.t.now)) c.args.out.now.bytes.now c.args.out.now.len 256 c.requires c.loop-a.a c.loop-a.out.len c.loop-a.out.bytes.now (omega arith) c.loop-a.invariant.so_far
+    _ _ c.fill_row.ensures.value)

@@ -2,9 +2,11 @@
 use Rattle.std.proofs.Common.{◌≡◌, ℕ, ◌<◌, ◌≤◌, le-ltb, lt-ltb}
 use Rattle.mic_e.specs.Motion.{most_speed, most_course, motion_out}
 use Rattle.fields.specs.Lists.{motion_fields, motion_refusal}
-use Rattle.fields.specs.Search.{hits}
+use Rattle.fields.specs.Search.{motion_hits}
 use Rattle.fields.proofs.Answers.{out_of_range}
+use Rattle.fields.proofs.MotionMost.{motion_few}
 use Rattle.fields.proofs.list_motion.Goals as goal
+use Rattle.fields.proofs.list_motion.Goals.{then-speed-gt799-via-then-speed-gt799, then-speed-gt799-via-else-speed-gt799+then-course-gt360}
 
 fast : (s t : ℕ) → most_speed < s → motion_refusal s t ≡ 15
 unfolding motion_refusal motion_out
@@ -18,12 +20,16 @@ inside : (s t : ℕ) → s ≤ most_speed → t ≤ most_course → motion_refus
 unfolding motion_refusal motion_out
 inside s t h k = rw (le-ltb most_speed s h, le-ltb most_course t k)
 
-pub returns-then-s-gt799 : goal.returns-then-s-gt799
-returns-then-s-gt799 c = out_of_range _ _ _ _ (fast _ _ c.if-s-gt799.true) c.refused.ensures
+pub returns-then-speed-gt799 : goal.returns-then-speed-gt799
+returns-then-speed-gt799 c =
+    elim c.then-speed-gt799.branch [
+      | then-speed-gt799-via-then-speed-gt799 w ↦ out_of_range _ _ _ _ (fast _ _ w.if-speed-gt799.true) c.refused.ensures
+      | then-speed-gt799-via-else-speed-gt799+then-course-gt360 w ↦ out_of_range _ _ _ _ (turned _ _ w.if-speed-gt799.false w.if-course-gt360.true) c.refused.ensures
+    ]
 
-pub returns-then-c-gt360 : goal.returns-then-c-gt360
-returns-then-c-gt360 c = out_of_range _ _ _ _ (turned _ _ c.if-s-gt799.false c.if-c-gt360.true) c.refused-then-c-gt360.ensures
+pub list-requires : goal.list-requires
+list-requires c = motion_few c.args.speed.0 c.args.course.0
 
 pub returns : goal.returns
-unfolding motion_fields hits
-returns c = rw (inside _ _ c.if-s-gt799.false c.if-c-gt360.false) c.list.ensures
+unfolding motion_fields motion_hits
+returns c = rw (inside _ _ c.if-speed-gt799.false c.if-course-gt360.false) c.list.ensures

@@ -1,24 +1,22 @@
 -- `put`: three bytes are the one field; nothing put is no field. Assumes nothing.
-use Rattle.std.proofs.Common.{◌≡◌, ℕ, List, [], ◌∷◌, rules}
-use Rattle.buffer.specs.Filled.{filled, added}
+use Rattle.std.proofs.Common.{◌≡◌, ℕ, [], ◌∷◌, Option, Some, None}
+use Rattle.buffer.specs.Filled.{Filled, added}
 use Rattle.buffer.proofs.Filled.{added_none}
 use Rattle.fields.specs.Each.{flat}
 use Rattle.fields.specs.Search.{fields_of}
-use Rattle.fields.specs.declared.Third.{Third}
-use Rattle.fields.specs.declared.Third.TheVariants.{At, Nowhere}
 use Rattle.fields.proofs.put.Goals as goal
 
-module _ (x : Third) (a b at : ℕ) (out : List ℕ) where
-  one : (d r : ℕ) (out' : List ℕ) → x ≡ At d → filled out' r ≡ added (filled out at) (a ∷ b ∷ d ∷ []) → filled out' r ≡ added (filled out at) (flat (fields_of a b x))
+module _ (x : Option ℕ) (a b : ℕ) (old : Filled) where
+  one : (d : ℕ) (new : Filled) → x ≡ Some d → new ≡ added old (a ∷ b ∷ d ∷ []) → new ≡ added old (flat (fields_of a b x))
   unfolding fields_of flat
-  one d r out' e w = rw e w
+  one d new e w = rw e w
 
-  none : x ≡ Nowhere → filled out at ≡ added (filled out at) (flat (fields_of a b x))
+  none : x ≡ None → old ≡ added old (flat (fields_of a b x))
   unfolding fields_of flat
-  none e = rw e (added_none (filled out at))
+  none e = rw e (added_none old)
 
-pub returns-in-At : goal.returns-in-At
-returns-in-At c = search (rules, one)
+pub returns-in-Some-clause-value : goal.returns-in-Some-clause-value
+returns-in-Some-clause-value c = one _ _ _ _ _ _ c.in-Some.is c.put.ensures.value
 
-pub returns-in-Nowhere : goal.returns-in-Nowhere
-returns-in-Nowhere c = search (rules, none)
+pub returns-in_default-clause-value : goal.returns-in_default-clause-value
+returns-in_default-clause-value c = none _ _ _ _ c.in_default.is
