@@ -3,7 +3,7 @@
 #![tactic(auto)]
 
 use buffer::Pieces;
-use std::io::Write;
+use std::io::{Read, Write};
 use stream::{Failure, Input, Output};
 
 // Puts the line that answers a request.
@@ -14,12 +14,8 @@ fn answer(request: &[u8], out: &mut Pieces) {
     out.put_byte(b'\n');
 }
 
-// Answers each request of standard input.
-fn run(rt: HostRuntime) -> Result<(), Failure> {
-    let mut read = [0; 65536];
-    let mut held = [0; 65536];
-    let mut input = Input::new(rt.stdin(), &mut read);
-    let mut out = Output::new(rt.stdout(), &mut held);
+// Answers each request of an input.
+fn run(input: &mut Input<'_, impl Read>, out: &mut Output<'_, impl Write>) -> Result<(), Failure> {
     for _ in 0..u64::MAX {
         let Some(request) = input.next_line(4096).map_err(Failure::Unread)? else {
             break;
@@ -31,7 +27,11 @@ fn run(rt: HostRuntime) -> Result<(), Failure> {
 }
 
 fn main(rt: HostRuntime) {
-    if let Err(failure) = run(rt) {
+    let mut read = [0; 65536];
+    let mut held = [0; 65536];
+    let mut input = Input::new(rt.stdin(), &mut read);
+    let mut out = Output::new(rt.stdout(), &mut held);
+    if let Err(failure) = run(&mut input, &mut out) {
         let _ = eprintln!(rt; "{failure}");
     }
 }

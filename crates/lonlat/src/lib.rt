@@ -16,6 +16,7 @@ ghost use Rattle.lonlat.specs.Longitude.{longitude_in, read_longitude, longitude
 pub struct Latitude(pub i32);
 
 // A longitude: signed hundredths of a minute, east positive.
+// Kept: a type beside Latitude, both of the C interface, so that neither is taken for the other.
 #[repr(C)]
 #[derive(Clone, Copy, Debug, Default, PartialEq, Eq)]
 pub struct Longitude(pub i32);

@@ -113,7 +113,7 @@ held z = to_z w32 (of_z w32 z)
 -- ---- the code's own numbers: w is the width
 
 module _ (blanks : ℕ) (w : ℤ) (e : w ≡ pos (width_of blanks)) where
-  width_held : held w ≡ pos (width_of blanks)
+  pub width_held : held w ≡ pos (width_of blanks)
   width_held = back w (rw e (record { sfits = omega (arith, width_small blanks) })) ∙ e
 
   pub width_near : nat_abs (held w) ≤ widest

@@ -12,10 +12,6 @@ pub six_thousand : of_bits binary64 4663319084467748864 ≡ whole 6000
 unfolding of_bits of_int
 six_thousand = refl
 
-pub six_hundred : of_bits binary64 4648488871632306176 ≡ whole 600
-unfolding of_bits of_int
-six_hundred = refl
-
 pub six : of_bits binary64 4618441417868443648 ≡ whole 6
 unfolding of_bits of_int
 six = refl

@@ -227,18 +227,25 @@ fn center(angle: i32) -> f64
     if angle < 0 { -size } else { size }
 }
 
-// The width that the blanks leave, in degrees.
+// The width that the blanks leave, in hundredths of a minute.
+fn width(blanks: u8) -> i32
+    ensures { result ≡ pos (width_of blanks) }
+{
+    match blanks {
+        0 => 1,
+        1 => 10,
+        2 => 100,
+        3 => 1000,
+        4 => 6000,
+        _ => 60000,
+    }
+}
+
+// The same in degrees.
 fn degree_width(blanks: u8) -> f64
     ensures { result ≡ degree_width blanks }
 {
-    match blanks {
-        0 => 1.0 / 6000.0,
-        1 => 1.0 / 600.0,
-        2 => 1.0 / 60.0,
-        3 => 1.0 / 6.0,
-        4 => 1.0,
-        _ => 10.0,
-    }
+    f64::from(width(blanks)) / 6000.0
 }
 
 // Half the width to either side of the center.
@@ -271,6 +278,7 @@ fn bounds_of(most: u32, angle: i32, blanks: u8) -> BoundsAnswer
     }
 }
 
+// Kept: one for each type of angle, as of the boxes, since the C interface has both; they share bounds_of and box_of.
 // The bounds between which a latitude lies whose last digits are blank, as many as blanks says.
 pub fn latitude_bounds(l: Latitude, blanks: u8) -> BoundsAnswer
     ensures { result ≡ bounds_of most_latitude l.0 blanks }
@@ -292,20 +300,6 @@ pub struct PageBox {
     pub refusal: u8,
     pub from: i32,
     pub to: i32,
-}
-
-// The width that the blanks leave, in hundredths of a minute.
-fn width(blanks: u8) -> i32
-    ensures { result ≡ pos (width_of blanks) }
-{
-    match blanks {
-        0 => 1,
-        1 => 10,
-        2 => 100,
-        3 => 1000,
-        4 => 6000,
-        _ => 60000,
-    }
 }
 
 fn no_box() -> PageBox
