@@ -6,6 +6,7 @@ use mathlib.Core.Path.{◌≡◌, refl}
 use mathlib.Core.Bool.{Bool, true, false}
 use mathlib.Core.List.{List, [], ◌∷◌, ◌++◌}
 use Prim.Native.Nat.{ℕ, ◌+◌, ◌*◌}
+use Rattle.std.specs.Prelude.{Option, Some}
 use lib.IntN.{pos, neg_ℤ}
 use Rattle.laws.specs.Bytes.{star, comma, point, digit0, colon, greater, within, capital_a, capital_b, capital_c, capital_l, capital_n, capital_s, capital_t, capital_u}
 use Rattle.laws.specs.Lists.{index_of, any_of, same_bytes, pad_to}
@@ -17,20 +18,15 @@ use Rattle.callsign.specs.Range.{call_part, ssid_part, text_of, with_star}
 use Rattle.callsign.specs.Address.{read_address}
 use Rattle.callsign.specs.Packed.{bit, write_address}
 use Rattle.callsign.proofs.Theorems.{P10, p10_read}
-use Rattle.lonlat.specs.Latitude.{read_latitude, latitude_number}
+use Rattle.lonlat.specs.Latitude.{latitude_read, read_latitude, latitude_number}
 use Rattle.lonlat.specs.declared.LatitudeRead.{LatitudeRead}
-use Rattle.lonlat.specs.declared.LatitudeRead.TheVariants.{Read as Stands}
 use Rattle.lonlat.proofs.Theorems.{ninety_degrees, sixty_minutes, past_ninety}
 use Rattle.mic_e.specs.Turn.{less_if}
 use Rattle.mic_e.specs.Motion.{degrees as course, read_motion, motion_number, motion_out, motion_field}
 use Rattle.mic_e.specs.Longitude.{read_longitude, longitude_out, longitude_field, hundred_of}
 use Rattle.mic_e.specs.Destination.{read_destination, destination_number}
-use Rattle.mic_e.specs.declared.Field.{Field}
 use Rattle.mic_e.specs.declared.Message.TheVariants.{M3, Emergency}
 use Rattle.mic_e.specs.declared.Motion.{Motion}
-use Rattle.mic_e.specs.declared.Motion.TheVariants.{Read as Moves}
-use Rattle.mic_e.specs.declared.LongitudeField.TheVariants.{Read as Lies}
-use Rattle.mic_e.specs.declared.DestinationRead.TheVariants.{Read}
 use Rattle.mic_e.proofs.Cases.{cases}
 use Rattle.header.specs.declared.Hop as hops
 use Rattle.header.specs.Hop.{qAC, is_q_name, heard_as, call_hop, q_hop, is_heard, is_q_element, heard_if}
@@ -40,11 +36,11 @@ use Rattle.header.specs.Text.{on_first, fields, first_of, others_of, starts_q, h
 -- ---- what the table's lines are written with
 
 -- three bytes
-abbrev bytes : ℕ → ℕ → ℕ → Field
-bytes a b c = record { first = a; second = b; third = c }
+abbrev bytes : ℕ → ℕ → ℕ → List ℕ
+bytes a b c = a ∷ b ∷ c ∷ []
 
-abbrev moving : ℕ → ℕ → Motion
-moving knots degree = Moves (record { 0 = knots }) (record { 0 = degree })
+abbrev moving : ℕ → ℕ → Option Motion
+moving knots degree = Some (record { speed = record { 0 = knots }; course = record { 0 = degree } })
 
 abbrev degrees : ℕ → ℕ
 degrees d = d * 6000
@@ -96,8 +92,8 @@ abbrev north : ℕ → ℕ → ℕ → ℕ → ℕ → ℕ → List ℕ
 north a b c d e f = digit a ∷ digit b ∷ digit c ∷ digit d ∷ point ∷ digit e ∷ digit f ∷ capital_n ∷ []
 
 -- a northern latitude without blanks, its minutes below 60 or not
-abbrev at_north : ℕ → Bool → LatitudeRead
-at_north size sixty = Stands (record { 0 = pos size }) 0 false sixty
+abbrev at_north : ℕ → Bool → Option LatitudeRead
+at_north size sixty = Some (latitude_read (pos size) 0 false sixty)
 
 -- ---- the table
 
@@ -113,17 +109,17 @@ pub record BenchValues : Type 0 where
   -- "P5 28,37,28: course 500, so 12."
   pub p5 : (course 37 28 ≡ 500) × (motion_number (read_motion 28 37 28) ≡ 12)
   -- "P6 longitude 118,88,28, offset 100, east: 0."
-  pub p6 : read_longitude true false 118 88 28 ≡ Lies (record { 0 = pos 0 })
+  pub p6 : read_longitude true false 118 88 28 ≡ Some (record { 0 = pos 0 })
   -- "P7 105 degrees east: written 113,88,28, offset 100."
   pub p7 : (longitude_out (pos (degrees 105)) ≡ false)
       × (longitude_field (degrees 105) ≡ bytes 113 88 28) × (hundred_of (pos (degrees 105)) ≡ true)
   -- "P8 destination S32U6T: 200564, no blanks, M3, offset 0, west."
   pub p8 : read_destination S32U6T
-      ≡ Read (record { latitude = record { 0 = pos 200564 }; message = M3; blanks = 0; south = false; hundred = false; west = true; sixty = false })
+      ≡ Some (record { latitude = record { 0 = pos 200564 }; message = M3; blanks = 0; south = false; hundred = false; west = true; sixty = false })
   -- "P9 LLLLLL: 11; 4LLLLL: -240000, five blanks, Emergency."
   pub p9 : (destination_number (read_destination LLLLLL) ≡ 11)
       × (read_destination 4LLLLL
-      ≡ Read (record { latitude = record { 0 = neg_ℤ (pos 240000) }; message = Emergency; blanks = 5; south = true; hundred = false; west = false; sixty = false }))
+      ≡ Some (record { latitude = record { 0 = neg_ℤ (pos 240000) }; message = Emergency; blanks = 5; south = true; hundred = false; west = false; sixty = false }))
   -- "P10 hop N0CALL-1, heard, last: 9c 60 86 82 98 98 e3."
   pub p10 : (write_address (made N0CALL (digit 1 ∷ [])) (Hop true) true ≡ record { refusal = 0; bytes = address })
       × (read_address address ≡ record { refusal = 0; call = made N0CALL (digit 1 ∷ []); heard = true; last = true })

@@ -46,13 +46,21 @@ fn compare(s: &[u8], tally: &mut Tally, out: &mut impl Write) -> io::Result<()> 
     write_line(b"ok ", question, out)
 }
 
-// A line of the table; an empty one is passed over, and a heading, which starts with `#`, is printed as it stands.
-fn take(s: &[u8], tally: &mut Tally, out: &mut impl Write) -> io::Result<()> {
+// A line of the table, once there is room for what it prints; an empty one is passed over, and a heading, which starts with `#`, is
+// printed as it stands.
+fn take(s: &[u8], tally: &mut Tally, out: &mut Output<'_, impl Write>) -> io::Result<()> {
+    out.make_room()?;
     match s {
         [] => Ok(()),
         [b'#', ..] => write_line(b"", s, out),
         _ => compare(s, tally, out),
     }
+}
+
+// The totals, and all that is not written yet.
+fn finish(tally: Tally, out: &mut impl Write) -> io::Result<()> {
+    writeln!(out, "{tally}")?;
+    out.flush()
 }
 
 fn run(rt: HostRuntime) -> Result<(), Failure> {
@@ -65,11 +73,9 @@ fn run(rt: HostRuntime) -> Result<(), Failure> {
         let Some(line) = input.next_line(8192).map_err(Failure::Unread)? else {
             break;
         };
-        out.make_room().map_err(Failure::Unwritten)?;
         take(line, &mut tally, &mut out).map_err(Failure::Unwritten)?;
     }
-    writeln!(out, "{tally}").map_err(Failure::Unwritten)?;
-    out.flush().map_err(Failure::Unwritten)
+    finish(tally, &mut out).map_err(Failure::Unwritten)
 }
 
 fn main(rt: HostRuntime) {

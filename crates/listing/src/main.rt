@@ -46,9 +46,7 @@ fn is_strict(rt: &impl Env) -> Result<bool, Failure> {
     }
     let mut word = [0; 8];
     match rt.arg(1, &mut word) {
-        Ok(n) if lines::cut(&word, n) == b"--strict".as_slice() && !stream::is_given(rt, 2) => Ok(
-            true,
-        ),
+        Ok(8) if word == *b"--strict" && !stream::is_given(rt, 2) => Ok(true),
         _ => Err(Failure::Usage("--strict is the only argument")),
     }
 }

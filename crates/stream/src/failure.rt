@@ -1,15 +1,15 @@
 // Why a program did not do what it was asked.
-use std::fmt;
+use std::error::Error;
 use std::fmt::{Display, Formatter, InlineText};
-use std::io::Error;
+use std::{fmt, io};
 
 // What is said on standard error, in one line. ./tusselgro turns its first word into a status.
-#[derive(Clone, Copy)]
+#[derive(Clone, Copy, Debug)]
 pub enum Failure {
     Usage(&'static str),
     Refused(&'static str),
-    Unread(Error),
-    Unwritten(Error),
+    Unread(io::Error),
+    Unwritten(io::Error),
 }
 
 impl Display for Failure {
@@ -23,9 +23,11 @@ impl Display for Failure {
     }
 }
 
+impl Error for Failure {}
+
 // The system's words for an error, without the number that it puts behind them in parentheses.
 #[derive(Clone, Copy)]
-struct Reason(Error);
+struct Reason(io::Error);
 
 impl Display for Reason {
     fn fmt<W: fmt::Write>(&self, f: &mut Formatter<W>) -> fmt::Result {
