@@ -10,15 +10,14 @@ use native.Mathlib.Numerals.{add-one}
 use native.Mathlib.Omega.{arith}
 use lib.Dec.{ltb, leb}
 use borrow.Author.Tests.{ltb-true, ltb-false, leb-true, leb-false, le-leb, lt-leb}
-use lib.ListN.{length, get_or, set, take, drop, take-append-drop, length-append, length-drop, drop_of_length-le}
-use lib.Seq.{length-take-le, set_split, drop-drop, take_at, drop-append-add, get_or-append-add, get_or-drop}
+use lib.ListN.{length, set, take, drop, take-append-drop, length-append, length-drop, drop_of_length-le}
+use lib.Seq.{length-take-le, set_split, drop-drop, take_at, drop-append-add}
 use borrow.Author.Rules.{part_to_end}
 use borrow.Rule.Slice.PartMut.{put_mid}
 use Rattle.laws.specs.Lists.{together}
-use Rattle.laws.proofs.Lists.{copy_more}
 use Rattle.buffer.specs.declared.Answer.{Answer}
 use Rattle.buffer.specs.Wrote.{Wrote, ends, no_room, done_by, wrote_as, wrote}
-use Rattle.buffer.specs.Filled.{Filled, filled, front_of, added, added_all, shifted}
+use Rattle.buffer.specs.Filled.{Filled, filled, front_of, added, added_all}
 
 -- ---- a piece that fits, and one that does not
 

@@ -1,6 +1,7 @@
 -- A buffer that is filled from its front: one piece behind those that are there, and the last ones moved to the front.
 -- Assumes nothing.
 use Rattle.std.specs.Prelude.{ℕ, ◌+◌, ◌-◌, cond, ◌&&◌, List, [], ◌∷◌, ◌++◌, length, take, drop, leb}
+use Rattle.buffer.specs.declared.Pieces.{Pieces}
 
 -- a buffer, and how many bytes at its front are in use
 pub record Filled : Type 0 where
@@ -9,6 +10,10 @@ pub record Filled : Type 0 where
 
 abbrev pub filled : List ℕ → ℕ → Filled
 filled bytes len = record { bytes = bytes; len = len }
+
+-- what pieces were put into
+abbrev pub in_use : Pieces → Filled
+in_use p = filled p.bytes.now p.len
 
 -- the bytes in use
 unfoldable pub front_of : Filled → List ℕ

@@ -5,7 +5,7 @@
 ghost use Rattle.std.specs.Prelude.{◌≡◌, [], ◌∷◌, ◌++◌, ◌+◌, ◌≤◌, length, take};
 ghost use Rattle.std.proofs.Math.Seq.{paste};
 ghost use Rattle.buffer.specs.Wrote.{refused_by, no_room, done_by, ends, over_by, wrote};
-ghost use Rattle.buffer.specs.Filled.{filled, added, shifted};
+ghost use Rattle.buffer.specs.Filled.{filled, in_use, added, shifted};
 
 // What a writer or lister answers: the refusal's number or 0, what it reports (bytes written or fields
 // listed), and at 16 the bytes needed.
@@ -116,7 +116,7 @@ impl<'a> Pieces<'a> {
     // A buffer of which nothing is in use.
     pub fn new(bytes: &'a mut [u8]) -> Pieces<'a>
         ensures same_reference { result.bytes.ghost_name ≡ bytes.entry.ghost_name }
-        ensures value { filled result.bytes.now result.len ≡ filled bytes.old 0 }
+        ensures value { in_use result ≡ filled bytes.old 0 }
     {
         Pieces { bytes, len: 0 }
     }
@@ -124,7 +124,7 @@ impl<'a> Pieces<'a> {
     // A buffer whose first `len` bytes are in use.
     pub fn behind(bytes: &'a mut [u8], len: usize) -> Pieces<'a>
         ensures same_reference { result.bytes.ghost_name ≡ bytes.entry.ghost_name }
-        ensures value { filled result.bytes.now result.len ≡ filled bytes.old len }
+        ensures value { in_use result ≡ filled bytes.old len }
     {
         Pieces { bytes, len }
     }
@@ -132,7 +132,7 @@ impl<'a> Pieces<'a> {
     // Puts a text.
     pub fn put(&mut self, s: &[u8])
         ensures same_reference { self.new.bytes.ghost_name ≡ self.old.bytes.ghost_name }
-        ensures value { filled self.new.bytes.now self.new.len ≡ added (filled self.old.bytes.now self.old.len) s.now }
+        ensures value { in_use self.new ≡ added (in_use self.old) s.now }
     {
         if self.len <= self.bytes.len() {
             let answer = write(s, &mut self.bytes[self.len..]);
@@ -143,7 +143,7 @@ impl<'a> Pieces<'a> {
     // Puts one byte.
     pub fn put_byte(&mut self, b: u8)
         ensures same_reference { self.new.bytes.ghost_name ≡ self.old.bytes.ghost_name }
-        ensures value { filled self.new.bytes.now self.new.len ≡ added (filled self.old.bytes.now self.old.len) (b ∷ []) }
+        ensures value { in_use self.new ≡ added (in_use self.old) (b ∷ []) }
     {
         if self.len < self.bytes.len() {
             self.bytes[self.len] = b;

@@ -1,6 +1,6 @@
 -- An address that is written reads back, and what is read from an address is in range.
 -- Assumes nothing.
-use Rattle.std.proofs.Common.{◌≡◌, ℕ, zero, suc, ◌+◌, ◌-◌, ◌*◌, ◌/◌, ◌%◌, ◌<◌, ◌≤◌, Bool, true, false, cond, not, ◌&&◌, T, eqb, ltb, leb, ◌⊎◌, List, [], ◌∷◌, ◌++◌, map, length, get_or, take, replicate, refl, ap, ◌∙◌, inl, inr, arith, length-append, length-take-le, take_at, ltb-false, lt-ltb, eq-eqb, ne_eqb, eqb-true, leb-true}
+use Rattle.std.proofs.Common.{◌≡◌, ℕ, zero, suc, ◌+◌, ◌-◌, ◌*◌, ◌/◌, ◌%◌, ◌<◌, ◌≤◌, Bool, true, false, cond, not, ◌&&◌, T, eqb, ltb, leb, ◌⊎◌, List, [], ◌∷◌, ◌++◌, map, length, get_or, take, replicate, refl, ap, ◌∙◌, inl, inr, arith, length-append, length-take-le, take_at, ltb-false, lt-ltb, eq-eqb, ne_eqb, eqb-true, leb-true, Option, Some, None, Result, Ok, Err}
 use lib.Seq.{get_or_at}
 use Rattle.laws.specs.Bytes.{space, dash, is_letter_or_digit, raised}
 use Rattle.laws.specs.Lists.{every}
@@ -9,12 +9,11 @@ use Rattle.laws.proofs.Every.{all, all_at}
 use Rattle.callsign.specs.declared.Callsign.{Callsign}
 use Rattle.callsign.specs.declared.AddressRead.{AddressRead}
 use Rattle.callsign.specs.declared.Field.{Field}
-use Rattle.numbers.specs.declared.Count.{Count}
-use Rattle.numbers.specs.declared.Count.TheVariants.{Is, Over, Bad}
+use Rattle.numbers.specs.declared.CountError.{CountError}
 use Rattle.callsign.specs.Utf8.{ascii}
 use Rattle.callsign.specs.Text.{joined, made, is_zero}
 use Rattle.callsign.specs.Range.{in_range, call_part, ssid_part}
-use Rattle.callsign.specs.Address.{ssid_of, heard_of, last_of, Unpacked, malformed, call, onto, are_spaces, unpacked, ssid_text, address_refused, address_of, read_address}
+use Rattle.callsign.specs.Address.{ssid_of, heard_of, last_of, onto, are_spaces, unpacked, ssid_text, address_refused, address_of, read_address}
 use Rattle.callsign.specs.Packed.{ssid_number, seventh_of, sent, unwritten_by, packed_as, packed_by, write_address}
 use Rattle.callsign.proofs.Unicode.{ascii_utf8}
 use Rattle.callsign.proofs.Numbers.{ssid_small}
@@ -30,7 +29,7 @@ unfolding are_spaces
 spaces zero = refl
 spaces (suc k) = spaces k
 
-call_back : (cs : List ℕ) (k : ℕ) → every is_letter_or_digit cs ≡ true → unpacked (map sent cs ++ replicate k 64) ≡ call (map raised cs)
+call_back : (cs : List ℕ) (k : ℕ) → every is_letter_or_digit cs ≡ true → unpacked (map sent cs ++ replicate k 64) ≡ Some (map raised cs)
 unfolding unpacked onto last_of sent
 call_back [] zero e = refl
 call_back [] (suc k) e = rw (spaces k)
@@ -61,21 +60,19 @@ packed_back cs s e = go (ltb 6 (length cs)) (every is_letter_or_digit cs) refl r
     go false true h k e = bytes_back cs s (ltb-false 6 (length cs) h) k
 
 -- the SSID's number, where it has one
-unfoldable pub number_in : Count → ℕ
-number_in (Is n) = n
-number_in Over = 0
-number_in Bad = 0
+unfoldable pub number_in : Result ℕ CountError → ℕ
+number_in (Ok n) = n
+number_in (Err e) = 0
 
 -- the callsign as an address holds it
 unfoldable pub in_address : Callsign → Callsign
 in_address c = made (map raised (call_part c)) (ssid_text (number_in (ssid_number (ssid_part c))))
 
-number_back : (cs : List ℕ) (m : Count) (field : Field) (last : Bool) → ((n : ℕ) → m ≡ Is n → n ≤ 15) → (packed_by cs m field last).refusal ≡ 0
+number_back : (cs : List ℕ) (m : Result ℕ CountError) (field : Field) (last : Bool) → ((n : ℕ) → m ≡ Ok n → n ≤ 15) → (packed_by cs m field last).refusal ≡ 0
     → read_address (packed_by cs m field last).bytes ≡ address_as (made (map raised cs) (ssid_text (number_in m))) (heard_in field) last
 unfolding packed_by unwritten_by number_in
-number_back cs Over field last h e = absurd (omega arith)
-number_back cs Bad field last h e = absurd (omega arith)
-number_back cs (Is n) field last h e =
+number_back cs (Err f) field last h e = absurd (omega arith)
+number_back cs (Ok n) field last h e =
     let k : n ≤ 15 = h n refl in
     packed_back cs (seventh_of field n last) e
     ∙ rw (ssid_back field n last k, heard_back field n last k, last_back field n last k)
@@ -120,11 +117,10 @@ packed_refusal cs s = go (ltb 6 (length cs)) (every is_letter_or_digit cs)
     go false true = inl refl
     go false false = inr refl
 
-number_refusal : (cs : List ℕ) (m : Count) (field : Field) (last : Bool) → ((packed_by cs m field last).refusal ≡ 0) ⊎ ((packed_by cs m field last).refusal ≡ 13)
+number_refusal : (cs : List ℕ) (m : Result ℕ CountError) (field : Field) (last : Bool) → ((packed_by cs m field last).refusal ≡ 0) ⊎ ((packed_by cs m field last).refusal ≡ 13)
 unfolding packed_by unwritten_by
-number_refusal cs (Is n) field last = packed_refusal cs (seventh_of field n last)
-number_refusal cs Over field last = inr refl
-number_refusal cs Bad field last = inr refl
+number_refusal cs (Ok n) field last = packed_refusal cs (seventh_of field n last)
+number_refusal cs (Err e) field last = inr refl
 
 pub within_range : (c : Callsign) (field : Field) (last : Bool) → in_range c ≡ true → ((write_address c field last).refusal ≡ 0) ⊎ ((write_address c field last).refusal ≡ 13)
 unfolding write_address
@@ -135,30 +131,30 @@ pub address_refusal : (s : List ℕ) → ((read_address s).refusal ≡ 0 → ⊥
 unfolding read_address address_refused address_of
 address_refusal s = go (eqb (length s) 7) (unpacked (take 6 s))
   where
-    go : (b : Bool) (u : Unpacked) → ((cond b (address_of u (get_or s 6 0)) (address_refused 3)).refusal ≡ 0 → ⊥) → (cond b (address_of u (get_or s 6 0)) (address_refused 3)).refusal ≡ 3
-    go true malformed z = refl
-    go true (call cs) z = absurd (z refl)
+    go : (b : Bool) (u : Option (List ℕ)) → ((cond b (address_of u (get_or s 6 0)) (address_refused 3)).refusal ≡ 0 → ⊥) → (cond b (address_of u (get_or s 6 0)) (address_refused 3)).refusal ≡ 3
+    go true None z = refl
+    go true (Some cs) z = absurd (z refl)
     go false u z = refl
 
 -- ---- what is read is in range
 
 -- a call that is unpacked is short and ASCII
-Plain : ℕ → Unpacked → Type 0
-Plain n malformed = T true
-Plain n (call cs) = (length cs ≤ n) × (every ascii cs ≡ true)
+Plain : ℕ → Option (List ℕ) → Type 0
+Plain n None = T true
+Plain n (Some cs) = (length cs ≤ n) × (every ascii cs ≡ true)
 
 plain : (bs : List ℕ) → Plain (length bs) (unpacked bs)
 unfolding Plain unpacked onto every
 plain [] = (omega arith, refl)
 plain (b ∷ bs) = go (last_of b) (eqb (b / 2) space) (are_spaces bs) (is_letter_or_digit (b / 2)) refl (unpacked bs) (plain bs)
   where
-    go : (p q s r : Bool) → is_letter_or_digit (b / 2) ≡ r → (u : Unpacked) → Plain (length bs) u
-        → Plain (suc (length bs)) (cond p malformed (cond q (cond s (call []) malformed) (cond r (onto (raised (b / 2)) u) malformed)))
+    go : (p q s r : Bool) → is_letter_or_digit (b / 2) ≡ r → (u : Option (List ℕ)) → Plain (length bs) u
+        → Plain (suc (length bs)) (cond p None (cond q (cond s (Some []) None) (cond r (onto (raised (b / 2)) u) None)))
     go true q s r e u h = tt
     go false true true r e u h = (omega arith, refl)
     go false true false r e u h = tt
-    go false false s true e malformed h = tt
-    go false false s true e (call cs) h = (omega (arith, h.0), rw (lt-ltb (raised (b / 2)) 0x80 (raises (b / 2) e).ascii) h.1)
+    go false false s true e None h = tt
+    go false false s true e (Some cs) h = (omega (arith, h.0), rw (lt-ltb (raised (b / 2)) 0x80 (raises (b / 2) e).ascii) h.1)
     go false false s false e u h = tt
 
 -- an SSID's text: computed at each number
@@ -190,10 +186,10 @@ unfolding joined
 joined_short a [] h k = omega arith
 joined_short a (x ∷ b) h k = omega (arith, length-append a (dash ∷ x ∷ b))
 
-unpacked_range : (u : Unpacked) (s : ℕ) → Plain 6 u → in_range (address_of u s).call ≡ true
+unpacked_range : (u : Option (List ℕ)) (s : ℕ) → Plain 6 u → in_range (address_of u s).call ≡ true
 unfolding Plain address_of address_refused ssid_of
-unpacked_range malformed s h = blank_range
-unpacked_range (call cs) s h =
+unpacked_range None s h = blank_range
+unpacked_range (Some cs) s h =
     let f = fit_at (s / 2 % 16) (omega arith) in
     made_range cs (ssid_text (s / 2 % 16)) (joined_short cs _ h.0 f.short) (ascii_utf8 cs h.1) (ascii_utf8 _ f.plain_text) f.nonzero
 

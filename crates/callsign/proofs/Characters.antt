@@ -1,55 +1,55 @@
 -- Laws of an address read, for any loop over its six characters: what is left of `unpacked` after those passed.
 -- Assumes nothing.
-use Rattle.std.proofs.Common.{◌≡◌, ℕ, suc, ◌+◌, ◌/◌, ◌%◌, ◌<◌, ◌≤◌, Bool, true, false, cond, ◌&&◌, List, [], ◌∷◌, ◌++◌, length, get_or, take, drop, set, sym, refl, ap, ◌∙◌, append_assoc, append-nil, add-one, arith, length-drop, length-set, drop_of_length-le, length-take, length-take-le, get_or-drop, drop-cons, get_or-take, take-suc-set, eq-eqb, ne_eqb, eqb-true}
+use Rattle.std.proofs.Common.{◌≡◌, ℕ, suc, ◌+◌, ◌/◌, ◌%◌, ◌<◌, ◌≤◌, Bool, true, false, cond, ◌&&◌, List, [], ◌∷◌, ◌++◌, length, get_or, take, drop, set, sym, refl, ap, ◌∙◌, append_assoc, append-nil, add-one, arith, length-drop, length-set, drop_of_length-le, length-take, length-take-le, get_or-drop, drop-cons, get_or-take, take-suc-set, eq-eqb, ne_eqb, eqb-true, Option, Some, None}
 use borrow.Author.Tests.{eqb-false}
 use Rattle.laws.specs.Bytes.{space, is_letter_or_digit, raised}
 use Rattle.callsign.specs.declared.Callsign.{Callsign}
 use Rattle.callsign.specs.declared.AddressRead.{AddressRead}
 use Rattle.callsign.specs.Text.{made}
-use Rattle.callsign.specs.Address.{ssid_of, heard_of, last_of, Unpacked, malformed, call, onto, are_spaces, unpacked, ssid_text, address_refused, address_of, read_address}
+use Rattle.callsign.specs.Address.{ssid_of, heard_of, last_of, onto, are_spaces, unpacked, ssid_text, address_refused, address_of, read_address}
 
 -- ---- one character
 
 -- what the bytes that are left hold, after a space or not
-pub rest : Bool → List ℕ → Unpacked
-rest true l = cond (are_spaces l) (call []) malformed
+pub rest : Bool → List ℕ → Option (List ℕ)
+rest true l = cond (are_spaces l) (Some []) None
 rest false l = unpacked l
 
-pub behind : List ℕ → Unpacked → Unpacked
-behind xs malformed = malformed
-behind xs (call cs) = call (xs ++ cs)
+pub behind : List ℕ → Option (List ℕ) → Option (List ℕ)
+behind xs None = None
+behind xs (Some cs) = Some (xs ++ cs)
 
 none_yet : (l : List ℕ) → unpacked l ≡ behind [] (rest false l)
 unfolding rest behind
 none_yet l = sym (go (unpacked l))
   where
-    go : (k : Unpacked) → behind [] k ≡ k
-    go malformed = refl
-    go (call cs) = refl
+    go : (k : Option (List ℕ)) → behind [] k ≡ k
+    go None = refl
+    go (Some cs) = refl
 
-at_end : (sp : Bool) (xs : List ℕ) → behind xs (rest sp []) ≡ call xs
+at_end : (sp : Bool) (xs : List ℕ) → behind xs (rest sp []) ≡ Some xs
 unfolding rest behind unpacked are_spaces
-at_end true xs = ap call (append-nil xs)
-at_end false xs = ap call (append-nil xs)
+at_end true xs = ap Some (append-nil xs)
+at_end false xs = ap Some (append-nil xs)
 
-first_not_space : (d : ℕ) (l : List ℕ) → (d ≡ 64 → ⊥) → rest true (d ∷ l) ≡ malformed
+first_not_space : (d : ℕ) (l : List ℕ) → (d ≡ 64 → ⊥) → rest true (d ∷ l) ≡ None
 unfolding rest are_spaces
-first_not_space d l h = ap (λ (t : Bool). cond (t && are_spaces l) (call []) malformed) (ne_eqb d 64 h)
+first_not_space d l h = ap (λ (t : Bool). cond (t && are_spaces l) (Some []) None) (ne_eqb d 64 h)
 
-odd : (sp : Bool) (d : ℕ) (l : List ℕ) → last_of d ≡ true → rest sp (d ∷ l) ≡ malformed
+odd : (sp : Bool) (d : ℕ) (l : List ℕ) → last_of d ≡ true → rest sp (d ∷ l) ≡ None
 unfolding rest last_of unpacked
 odd true d l h = first_not_space d l (λ e. let o : d % 2 ≡ 1 = eqb-true (d % 2) 1 h in omega arith)
 odd false d l h = rw h
 
 blank : (sp : Bool) (d : ℕ) (l : List ℕ) → last_of d ≡ false → d / 2 ≡ space → rest sp (d ∷ l) ≡ rest true l
 unfolding rest last_of unpacked are_spaces
-blank true d l h e = ap (λ (t : Bool). cond (t && are_spaces l) (call []) malformed) (eq-eqb d 64 (let o : d % 2 ≡ 1 → ⊥ = eqb-false (d % 2) 1 h in omega arith))
+blank true d l h e = ap (λ (t : Bool). cond (t && are_spaces l) (Some []) None) (eq-eqb d 64 (let o : d % 2 ≡ 1 → ⊥ = eqb-false (d % 2) 1 h in omega arith))
 blank false d l h e = rw (h, eq-eqb (d / 2) space e)
 
-late : (d : ℕ) (l : List ℕ) → (d / 2 ≡ space → ⊥) → rest true (d ∷ l) ≡ malformed
+late : (d : ℕ) (l : List ℕ) → (d / 2 ≡ space → ⊥) → rest true (d ∷ l) ≡ None
 late d l h = first_not_space d l (λ e. h (omega arith))
 
-other : (d : ℕ) (l : List ℕ) → last_of d ≡ false → (d / 2 ≡ space → ⊥) → is_letter_or_digit (d / 2) ≡ false → rest false (d ∷ l) ≡ malformed
+other : (d : ℕ) (l : List ℕ) → last_of d ≡ false → (d / 2 ≡ space → ⊥) → is_letter_or_digit (d / 2) ≡ false → rest false (d ∷ l) ≡ None
 unfolding rest unpacked
 other d l h e k = rw (h, ne_eqb (d / 2) space e, k)
 
@@ -58,9 +58,9 @@ character : (xs : List ℕ) (d : ℕ) (l : List ℕ) → last_of d ≡ false →
 unfolding rest behind unpacked onto
 character xs d l h e k = rw (h, ne_eqb (d / 2) space e, k) (go (unpacked l))
   where
-    go : (c : Unpacked) → behind xs (onto (raised (d / 2)) c) ≡ behind (xs ++ raised (d / 2) ∷ []) c
-    go malformed = refl
-    go (call cs) = ap call (sym (append_assoc xs (raised (d / 2) ∷ []) cs))
+    go : (c : Option (List ℕ)) → behind xs (onto (raised (d / 2)) c) ≡ behind (xs ++ raised (d / 2) ∷ []) c
+    go None = refl
+    go (Some cs) = ap Some (sym (append_assoc xs (raised (d / 2) ∷ []) cs))
 
 -- ---- a loop's state: of the seven bytes s, i characters are read, n of them stand in cs, a space was met or not
 
@@ -74,11 +74,25 @@ pub record Sofar (s cs : List ℕ) (n : ℕ) (sp : Bool) (i : ℕ) : Type 0 wher
 pub start : (s cs : List ℕ) → length s ≡ 7 → length cs ≡ 6 → Sofar s cs 0 false 0
 start s cs h k = record { seven = h; inside = omega arith; few = omega arith; places = k; agrees = none_yet (take 6 s) }
 
+-- a place among the first six of seven bytes, or behind them
+module _ (s : List ℕ) (i : ℕ) (seven : length s ≡ 7) where
+  six : length (take 6 s) ≡ 6
+  six = length-take-le 6 s (omega arith)
+
+  pub place : i < length (take 6 s) → i < 6
+  place h = rw six at h
+
+  pub behind_six : length (take 6 s) ≤ i → 6 ≤ i
+  behind_six h = rw six at h
+
+  pub byte : i < length (take 6 s) → get_or s i 0 ≡ get_or (take 6 s) i 0
+  byte h = sym (get_or-take 6 s i 0 (place h))
+
 pub not_seven : (s : List ℕ) → (length s ≡ 7 → ⊥) → read_address s ≡ address_refused 3
 unfolding read_address
 not_seven s h = rw (ne_eqb (length s) 7 h)
 
-refuses : (s : List ℕ) → length s ≡ 7 → unpacked (take 6 s) ≡ malformed → read_address s ≡ address_refused 3
+refuses : (s : List ℕ) → length s ≡ 7 → unpacked (take 6 s) ≡ None → read_address s ≡ address_refused 3
 unfolding read_address address_of
 refuses s h e = rw (eq-eqb (length s) 7 h, e)
 
@@ -92,7 +106,7 @@ module _ (s cs : List ℕ) (n : ℕ) (sp : Bool) (i : ℕ) (so : Sofar s cs n sp
   now_is : unpacked (take 6 s) ≡ behind (take n cs) (rest sp (d ∷ drop (i + 1) (take 6 s)))
   now_is = so.agrees ∙ ap (λ (l : List ℕ). behind (take n cs) (rest sp l)) next
 
-  stops : rest sp (d ∷ drop (i + 1) (take 6 s)) ≡ malformed → read_address s ≡ address_refused 3
+  stops : rest sp (d ∷ drop (i + 1) (take 6 s)) ≡ None → read_address s ≡ address_refused 3
   unfolding behind
   stops e = refuses s so.seven (now_is ∙ ap (behind (take n cs)) e)
 
@@ -140,7 +154,7 @@ pub reads : (s cs : List ℕ) (n : ℕ) (sp : Bool) (i : ℕ) → Sofar s cs n s
 unfolding read_address address_of
 reads s cs n sp i so over b is c h l ec eh el =
     let g : length (take 6 s) ≤ i = simp length-take (omega arith) in
-    let all : unpacked (take 6 s) ≡ call (take n cs) =
+    let all : unpacked (take 6 s) ≡ Some (take n cs) =
     so.agrees ∙ ap (λ (x : List ℕ). behind (take n cs) (rest sp x)) (drop_of_length-le (take 6 s) g) ∙ at_end sp (take n cs) in
     rw (eq-eqb (length s) 7 so.seven, all, is, ec, eh, el)
 

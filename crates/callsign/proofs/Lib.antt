@@ -2,7 +2,7 @@ pub mod Unicode
 pub mod Numbers
 pub mod Bits
 pub mod Padded
-pub mod Flags
+pub mod Ascii
 pub mod Ranges
 pub mod Writes
 pub mod Texts

@@ -1,7 +1,7 @@
 -- The mark of a dropped `0` (document 02, R-2): a text sets it exactly where its SSID is `0`, nothing that judges or writes a callsign
 -- looks at it ("Writers ignore it"), and no address sets it ("In frames it is never set").
 -- Assumes nothing.
-use Rattle.std.proofs.Common.{◌≡◌, ℕ, suc, ◌-◌, Bool, true, false, cond, not, eqb, ltb, List, [], length, get_or, take, drop, refl, arith, drop_of_length-le, eqb-true}
+use Rattle.std.proofs.Common.{◌≡◌, ℕ, suc, ◌-◌, Bool, true, false, cond, not, eqb, ltb, List, [], length, get_or, take, drop, refl, arith, drop_of_length-le, eqb-true, Option, Some, None}
 use Rattle.laws.specs.Bytes.{star, dash}
 use Rattle.laws.specs.Lists.{index_of}
 use Rattle.callsign.specs.declared.Callsign.{Callsign}
@@ -9,7 +9,7 @@ use Rattle.callsign.specs.declared.Field.{Field}
 use Rattle.callsign.specs.Utf8.{utf8}
 use Rattle.callsign.specs.Text.{made, marked_as, blank_call, is_zero, call_refused, call_accepted, parted, read_unstarred, read_text}
 use Rattle.callsign.specs.Range.{call_part, ssid_part, text_len, is_dashed, in_range, is_blank_call, text_of}
-use Rattle.callsign.specs.Address.{ssid_of, Unpacked, malformed, call, unpacked, ssid_text, address_refused, address_of, read_address}
+use Rattle.callsign.specs.Address.{ssid_of, unpacked, ssid_text, address_refused, address_of, read_address}
 use Rattle.callsign.specs.Packed.{write_address}
 
 module _ (zero : Bool) (c : Callsign) where
@@ -41,9 +41,9 @@ pub unmarked_address : (b : List ℕ) → unmarked_call (read_address b).call �
 unfolding read_address address_refused address_of blank_call
 unmarked_address b = go (eqb (length b) 7) (unpacked (take 6 b))
   where
-    go : (p : Bool) (u : Unpacked) → unmarked_call (cond p (address_of u (get_or b 6 0)) (address_refused 3)).call ≡ (cond p (address_of u (get_or b 6 0)) (address_refused 3)).call
-    go true (call cs) = unmarked_made cs (ssid_text (ssid_of (get_or b 6 0)))
-    go true malformed = unmarked_made [] []
+    go : (p : Bool) (u : Option (List ℕ)) → unmarked_call (cond p (address_of u (get_or b 6 0)) (address_refused 3)).call ≡ (cond p (address_of u (get_or b 6 0)) (address_refused 3)).call
+    go true (Some cs) = unmarked_made cs (ssid_text (ssid_of (get_or b 6 0)))
+    go true None = unmarked_made [] []
     go false u = unmarked_made [] []
 
 -- ---- a text

@@ -1,6 +1,6 @@
 -- Laws of the range: a callsign by its parts, the tests that the code makes, and what being in range gives.
 -- Assumes nothing.
-use Rattle.std.proofs.Common.{◌≡◌, ℕ, ◌+◌, ◌-◌, ◌<◌, ◌≤◌, min, Bool, true, false, cond, not, ◌&&◌, eqb, leb, List, [], ◌∷◌, ◌++◌, length, get_or, take, drop, sym, refl, ap, ◌∙◌, add-zero, add-one, arith, length-append, length-drop, length-take, length-take-le, get_or-drop, get_or-take, take-suc, take-add, eq-eqb, ne_eqb, eqb-true, le-leb, leb-true}
+use Rattle.std.proofs.Common.{◌≡◌, ℕ, ◌+◌, ◌<◌, ◌≤◌, Bool, true, false, cond, not, ◌&&◌, eqb, leb, List, [], ◌∷◌, ◌++◌, length, get_or, take, drop, sym, refl, ap, ◌∙◌, add-zero, add-one, arith, length-append, length-drop, length-take, length-take-le, get_or-drop, get_or-take, take-suc, take-add, eq-eqb, ne_eqb, eqb-true, le-leb, leb-true}
 use mathlib.Core.Bool.{and-true, and-false, and_assoc}
 use borrow.Author.Tests.{eqb-false, lt-leb, not-true, not-false}
 use lib.Seq.{append_snoc}
@@ -15,17 +15,17 @@ use Rattle.callsign.proofs.Unicode.{utf8_split}
 
 -- ---- an SSID that is `0` alone
 
-pub zero_alone : (l : List ℕ) → length l ≡ 1 → get_or l 0 0 ≡ digit0 → is_zero l ≡ true
+pub zero_one : (l : List ℕ) → length l ≡ 1 → is_zero l ≡ eqb (get_or l 0 0) digit0
 unfolding is_zero
-zero_alone [] h e = absurd (omega arith)
-zero_alone (x ∷ []) h e = eq-eqb x digit0 e
-zero_alone (x ∷ y ∷ l) h e = absurd (omega arith)
+zero_one [] h = absurd (omega arith)
+zero_one (x ∷ []) h = refl
+zero_one (x ∷ y ∷ l) h = absurd (omega arith)
 
-pub not_zero : (l : List ℕ) → (length l ≡ 1 → get_or l 0 0 ≡ digit0 → ⊥) → is_zero l ≡ false
+pub zero_other : (l : List ℕ) → (length l ≡ 1 → ⊥) → is_zero l ≡ false
 unfolding is_zero
-not_zero [] h = refl
-not_zero (x ∷ []) h = ne_eqb x digit0 (h refl)
-not_zero (x ∷ y ∷ l) h = refl
+zero_other [] h = refl
+zero_other (x ∷ []) h = absurd (h refl)
+zero_other (x ∷ y ∷ l) h = refl
 
 pub utf8_none : utf8 [] ≡ true
 unfolding utf8 characters
@@ -98,10 +98,10 @@ module _ (c : Callsign) (k : c.ssid_len ≡ 0 → ⊥) where
       full_utf8 : utf8 (take (c.call_len + 1 + c.ssid_len) c.text) ≡ (utf8 (call_part c) && utf8 (ssid_part c))
       full_utf8 = ap utf8 full_split ∙ utf8_split dash (omega arith) (call_part c) (ssid_part c)
 
--- ---- the range, by the facts that the code's tests leave
+-- ---- the range, by the code's tests
 
 module _ (c : Callsign) where
-  out_of : 16 < text_len c → false ≡ in_range c
+  pub out_of : 16 < text_len c → false ≡ in_range c
   unfolding in_range
   out_of h = rw (lt-leb (text_len c) 16 h)
 
@@ -113,42 +113,74 @@ module _ (c : Callsign) where
       go true = omega arith
       go false = omega arith
 
-  pub range_long : 16 < c.call_len → false ≡ in_range c
-  range_long h = out_of (omega (arith, length_over))
+  -- what stands behind the call
+  abbrev pub parted : Bool
+  parted = not (is_zero (ssid_part c)) && is_dashed c
 
-  module _ (h : c.call_len ≤ 16) where
-    pub range_bare : (r : Bool) → c.ssid_len ≡ 0 → r ≡ sound c.text c.call_len → r ≡ in_range c
-    range_bare r k q = q ∙ sym (bare_range c k ∙ rw (le-leb c.call_len 16 h))
+  module _ (h : text_len c ≤ 16) where
+    pub none_parted : c.ssid_len ≡ 0 → true ≡ parted
+    none_parted k = rw (bare_ssid c k, zero_none, bare_dashed c k)
 
     module _ (k : c.ssid_len ≡ 0 → ⊥) where
-      pub range_wide : 16 - c.call_len ≤ c.ssid_len → false ≡ in_range c
-      range_wide w = out_of (omega (arith, full_length c k))
+      fits : c.call_len + 1 + c.ssid_len ≤ 16
+      fits = rw (full_length c k) at h
 
-      module _ (w : c.ssid_len < 16 - c.call_len) where
-        pub range_dash : (get_or c.text c.call_len 0 ≡ dash → ⊥) → false ≡ in_range c
-        unfolding in_range
-        range_dash d = simp (full_dashed c k, ne_eqb (get_or c.text c.call_len 0) dash d, and-false)
+      pub dash_inside : c.call_len < 16
+      dash_inside = omega (arith, fits)
 
-        module _ (long : length c.text ≡ 16) (d : get_or c.text c.call_len 0 ≡ dash) where
-          fits : c.call_len + 1 + c.ssid_len ≤ 16
-          fits = omega arith
+      pub ssid_inside : c.call_len + 1 < 16
+      ssid_inside = omega (arith, fits)
 
-          pub range_zero : c.ssid_len ≡ 1 → get_or c.text (c.call_len + 1) 0 ≡ digit0 → false ≡ in_range c
-          unfolding in_range
-          range_zero o z =
-              simp (zero_alone (ssid_part c) (ssid_length c k long fits ∙ o) (ssid_first c k long fits ∙ z), and-false)
+      pub undashed : (get_or c.text c.call_len 0 ≡ dash → ⊥) → false ≡ parted
+      undashed d = rw (full_dashed c k, ne_eqb (get_or c.text c.call_len 0) dash d, and-false)
 
-          kept : (r : Bool) → is_zero (ssid_part c) ≡ false → r ≡ sound c.text (c.call_len + 1 + c.ssid_len) → r ≡ in_range c
-          unfolding in_range sound
-          kept r z q =
-              q ∙ rw (full_utf8 c k long fits d)
-              (simp (full_length c k, le-leb (c.call_len + 1 + c.ssid_len) 16 fits, z, full_dashed c k, eq-eqb (get_or c.text c.call_len 0) dash d, and-true))
+      module _ (long : length c.text ≡ 16) where
+        pub one_parted : c.ssid_len ≡ 1 → get_or c.text c.call_len 0 ≡ dash → not (eqb (get_or c.text (c.call_len + 1) 0) digit0) ≡ parted
+        one_parted o d =
+            rw (full_dashed c k, eq-eqb (get_or c.text c.call_len 0) dash d, and-true, zero_one (ssid_part c) (ssid_length c k long fits ∙ o), ssid_first c k long fits)
 
-          pub range_one : (r : Bool) → c.ssid_len ≡ 1 → (get_or c.text (c.call_len + 1) 0 ≡ digit0 → ⊥) → r ≡ sound c.text (c.call_len + 1 + c.ssid_len) → r ≡ in_range c
-          range_one r o z q = kept r (not_zero (ssid_part c) (λ a b. z (sym (ssid_first c k long fits) ∙ b))) q
+        pub more_parted : (c.ssid_len ≡ 1 → ⊥) → eqb (get_or c.text c.call_len 0) dash ≡ parted
+        more_parted o = rw (zero_other (ssid_part c) (λ e. o (sym (ssid_length c k long fits) ∙ e)), full_dashed c k)
 
-          pub range_more : (r : Bool) → (c.ssid_len ≡ 1 → ⊥) → r ≡ sound c.text (c.call_len + 1 + c.ssid_len) → r ≡ in_range c
-          range_more r o q = kept r (not_zero (ssid_part c) (λ a b. o (sym (ssid_length c k long fits) ∙ a))) q
+    -- call and SSID are judged as one text
+    module _ (long : length c.text ≡ 16) where
+      bare_judged : c.ssid_len ≡ 0 → in_range c ≡ (parted && sound c.text (text_len c))
+      bare_judged k =
+          let m : c.call_len ≤ 16 = omega (arith, length_over) in
+          bare_range c k ∙ rw (le-leb c.call_len 16 m, bare_ssid c k, zero_none, bare_dashed c k, bare_length c k)
+
+      mix : (u v z s : Bool) → ((((u && v) && not z) && true) && s) ≡ ((not z && true) && ((u && v) && s))
+      mix u v true s = rw (and-false (u && v))
+      mix u v false s = simp (and-true)
+
+      full_judged : (c.ssid_len ≡ 0 → ⊥) → in_range c ≡ (parted && sound c.text (text_len c))
+      unfolding in_range sound
+      full_judged k = go (is_dashed c) refl
+        where
+          go : (b : Bool) → is_dashed c ≡ b → in_range c ≡ (parted && sound c.text (text_len c))
+          go false e = simp (e, and-false)
+          go true e =
+              let d : get_or c.text c.call_len 0 ≡ dash = eqb-true (get_or c.text c.call_len 0) dash (sym (full_dashed c k) ∙ e) in
+              rw (e, le-leb (text_len c) 16 h, full_length c k, full_utf8 c k long (fits k) d) (mix (utf8 (call_part c)) (utf8 (ssid_part c)) (is_zero (ssid_part c)) (zeros (drop (c.call_len + 1 + c.ssid_len) c.text)))
+
+      pub judged : in_range c ≡ (parted && sound c.text (text_len c))
+      judged = go (eqb c.ssid_len 0) refl
+        where
+          go : (b : Bool) → eqb c.ssid_len 0 ≡ b → in_range c ≡ (parted && sound c.text (text_len c))
+          go true q = bare_judged (eqb-true c.ssid_len 0 q)
+          go false q = full_judged (eqb-false c.ssid_len 0 q)
+
+-- as the code's tests leave it: n is the length, p what is_parted answered
+module _ (c : Callsign) (n : ℕ) (m : n ≡ text_len c) where
+  pub too_long : 16 < n → false ≡ in_range c
+  too_long h = out_of c (omega arith)
+
+  module _ (h : n ≤ 16) (long : length c.text ≡ 16) (p : Bool) (e : p ≡ parted c) where
+    pub unparted : p ≡ false → false ≡ in_range c
+    unparted t = let k : text_len c ≤ 16 = omega arith in sym (judged c k long ∙ rw (← e, t))
+
+    pub sounded : (r : Bool) → p ≡ true → r ≡ sound c.text n → r ≡ in_range c
+    sounded r t q = let k : text_len c ≤ 16 = omega arith in q ∙ sym (judged c k long ∙ rw (← e, t, ← m))
 
 -- ---- what being in range gives, and what gives it
 
@@ -247,23 +279,6 @@ unfolding with_star
 star_short c true e = let m = text_short c e in rw (length-append (text_of c) (star ∷ [])) (omega arith)
 star_short c false e = let m = text_short c e in omega arith
 
--- ---- how many bytes of any callsign's text are shown
-
-module _ (c : Callsign) where
-  pub len_over : 16 < c.call_len → 16 ≡ min (text_len c) 16
-  len_over h = omega (arith, length_over c)
-
-  module _ (h : c.call_len ≤ 16) where
-    pub len_bare : c.ssid_len ≡ 0 → c.call_len ≡ min (text_len c) 16
-    len_bare e = omega (arith, bare_length c e)
-
-    module _ (some : c.ssid_len ≡ 0 → ⊥) where
-      pub len_cut : 16 - c.call_len ≤ c.ssid_len → 16 ≡ min (text_len c) 16
-      len_cut k = omega (arith, full_length c some)
-
-      pub len_full : c.ssid_len < 16 - c.call_len → c.call_len + 1 + c.ssid_len ≡ min (text_len c) 16
-      len_full k = omega (arith, full_length c some)
-
 -- ---- nothing in it
 
 pub blank_is_in_range : (c : Callsign) → is_blank_call c ≡ true → in_range c ≡ true
@@ -272,7 +287,7 @@ blank_is_in_range c e =
     let b = and_both (eqb c.call_len 0) (eqb c.ssid_len 0 && zeros c.text) e in
     let d = and_both (eqb c.ssid_len 0) (zeros c.text) b.1 in
     let n = eqb-true c.call_len 0 b.0 in
-    sym (range_bare c (omega arith) true (eqb-true c.ssid_len 0 d.0) (rw (n, d.1)))
+    bare_range c (eqb-true c.ssid_len 0 d.0) ∙ rw (n, d.1)
 
 -- ---- the same where the code has made the test
 

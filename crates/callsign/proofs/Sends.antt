@@ -1,6 +1,6 @@
 -- Laws of an address written: one character more, the seventh byte, and the range in front.
 -- Assumes nothing.
-use Rattle.std.proofs.Common.{◌≡◌, ℕ, suc, ◌+◌, ◌-◌, ◌*◌, ◌%◌, ◌<◌, ◌≤◌, Bool, true, false, not, ◌&&◌, ◌||◌, T, eqb, ltb, List, [], ◌∷◌, ◌++◌, map, length, get_or, take, drop, set, replicate, sym, refl, ap, ◌∙◌, append_assoc, add-one, arith, length-append, length-set, length-take-le, take_all, take-suc, w8, Fits, ltb-false, ltb-true, le-ltb, lt-ltb, eqb-true}
+use Rattle.std.proofs.Common.{◌≡◌, ℕ, suc, ◌+◌, ◌-◌, ◌*◌, ◌%◌, ◌<◌, ◌≤◌, Bool, true, false, not, ◌&&◌, ◌||◌, T, eqb, ltb, List, [], ◌∷◌, ◌++◌, map, length, get_or, take, drop, set, replicate, sym, refl, ap, ◌∙◌, append_assoc, add-one, arith, length-append, length-set, length-take-le, take_all, take-suc, w8, Fits, ltb-false, ltb-true, le-ltb, lt-ltb, eqb-true, Result, Ok, Err}
 use mathlib.Core.Bool.{and-false, false≢true}
 use mathlib.Core.List.{map-append}
 use borrow.Author.Tests.{lt-leb, not-true, not-false}
@@ -14,8 +14,7 @@ use Rattle.laws.proofs.Every.{all, all_at}
 use Rattle.callsign.specs.declared.AddressWritten.{AddressWritten}
 use Rattle.callsign.specs.declared.Callsign.{Callsign}
 use Rattle.callsign.specs.declared.Field.{Field}
-use Rattle.numbers.specs.declared.Count.{Count}
-use Rattle.numbers.specs.declared.Count.TheVariants.{Is, Over, Bad}
+use Rattle.numbers.specs.declared.CountError.{CountError}
 use Rattle.callsign.specs.Range.{in_range, call_part, ssid_part}
 use Rattle.callsign.specs.Packed.{sent, ssid_number, seventh_of, unwritten_by, packed_as, packed_by, write_address}
 use Rattle.callsign.proofs.Ranges.{bare_ssid, length_over, from_range, found_in_range}
@@ -154,19 +153,22 @@ module _ (c : Callsign) (u : Bool) (e : u ≡ in_range c) where
     pub call_room : c.call_len ≤ length c.text
     call_room = omega (arith, length_over c, (from_range c in_range_lem).size)
 
+    pub call_fits : c.call_len ≤ 16
+    call_fits = omega (arith, length_over c, (from_range c in_range_lem).size)
+
     pub call_size : c.call_len ≡ length (take c.call_len c.text)
     call_size = part_length c.text c.call_len call_room
 
     module _ (r : AddressWritten) (field : Field) (last : Bool) where
-      by_number : (m : Count) → m ≡ ssid_number (ssid_part c) → r ≡ packed_by (call_part c) m field last → r ≡ write_address c field last
+      by_number : (m : Result ℕ CountError) → m ≡ ssid_number (ssid_part c) → r ≡ packed_by (call_part c) m field last → r ≡ write_address c field last
       unfolding write_address
       by_number m f q = q ∙ sym (rw (in_range_lem, ← f))
 
       pub bare_sent : (s : ℕ) → c.ssid_len ≡ 0 → s ≡ seventh_of field 0 last → r ≡ packed_as (take c.call_len c.text) s → r ≡ write_address c field last
       unfolding packed_by call_part ssid_number
-      bare_sent s k f q = by_number (Is 0) (sym (ap ssid_number (bare_ssid c k))) (q ∙ ap (packed_as (take c.call_len c.text)) f)
+      bare_sent s k f q = by_number (Ok 0) (sym (ap ssid_number (bare_ssid c k))) (q ∙ ap (packed_as (take c.call_len c.text)) f)
 
-      module _ (m : Count) (f : m ≡ ssid_number (take (c.call_len + 1 + c.ssid_len - (c.call_len + 1)) (drop (c.call_len + 1) c.text))) where
+      module _ (m : Result ℕ CountError) (f : m ≡ ssid_number (take (c.call_len + 1 + c.ssid_len - (c.call_len + 1)) (drop (c.call_len + 1) c.text))) where
         number_is : m ≡ ssid_number (ssid_part c)
         unfolding ssid_part
         number_is =
@@ -175,20 +177,16 @@ module _ (c : Callsign) (u : Bool) (e : u ≡ in_range c) where
             let w : n + 1 + k - (n + 1) ≡ k = omega arith in
             f ∙ ap (λ (j : ℕ). ssid_number (take j (drop (n + 1) c.text))) w
 
-        pub over_sent : m ≡ Over → r ≡ unwritten_by 13 → r ≡ write_address c field last
+        pub none_sent : (e : CountError) → m ≡ Err e → r ≡ unwritten_by 13 → r ≡ write_address c field last
         unfolding packed_by
-        over_sent g q = by_number m number_is (rw g q)
+        none_sent e g q = by_number m number_is (rw g q)
 
-        pub bad_sent : m ≡ Bad → r ≡ unwritten_by 13 → r ≡ write_address c field last
-        unfolding packed_by
-        bad_sent g q = by_number m number_is (rw g q)
-
-        pub fit_small : (v : ℕ) → m ≡ Is v → v < 16
+        pub fit_small : (v : ℕ) → m ≡ Ok v → v < 16
         fit_small v g = let h : v ≤ 15 = ssid_small v (ssid_part c) (sym number_is ∙ g) in omega arith
 
-        pub fit_byte : (v : ℕ) → m ≡ Is v → Fits w8 v
+        pub fit_byte : (v : ℕ) → m ≡ Ok v → Fits w8 v
         fit_byte v g = let h = fit_small v g in record { fits = omega arith }
 
-        pub fit_sent : (v s : ℕ) → m ≡ Is v → s ≡ seventh_of field v last → r ≡ packed_as (take c.call_len c.text) s → r ≡ write_address c field last
+        pub fit_sent : (v s : ℕ) → m ≡ Ok v → s ≡ seventh_of field v last → r ≡ packed_as (take c.call_len c.text) s → r ≡ write_address c field last
         unfolding packed_by call_part
         fit_sent v s g h q = by_number m number_is (rw g (q ∙ ap (packed_as (take c.call_len c.text)) h))

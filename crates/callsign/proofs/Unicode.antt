@@ -1,6 +1,6 @@
 -- Laws of UTF-8: RFC 3629's table by ranges of first bytes, one byte more of a text, and ASCII within a text.
 -- Assumes nothing.
-use Rattle.std.proofs.Common.{◌≡◌, ℕ, zero, suc, ◌+◌, ◌-◌, ◌<◌, ◌≤◌, Bool, true, false, cond, not, ◌&&◌, ◌||◌, T, eqb, leb, List, [], ◌∷◌, ◌++◌, length, get_or, drop, replicate, sym, refl, ap, ◌∙◌, arith, eqb→eq, drop_of_length-le, ltb-true, ne_eqb, le-leb}
+use Rattle.std.proofs.Common.{◌≡◌, ℕ, zero, suc, ◌+◌, ◌-◌, ◌<◌, ◌≤◌, Bool, true, false, cond, not, ◌&&◌, ◌||◌, T, eqb, List, [], ◌∷◌, ◌++◌, length, get_or, drop, replicate, sym, refl, ap, ◌∙◌, arith, eqb→eq, drop_of_length-le, Option, Some, None, ltb-true, ne_eqb, le-leb}
 use mathlib.Core.Bool.{and-false, and_assoc, false≢true}
 use borrow.Author.Tests.{lt-leb}
 use Rattle.laws.specs.Bytes.{within}
@@ -8,7 +8,8 @@ use Rattle.laws.specs.Lists.{every}
 use Rattle.laws.proofs.Each.{every_first, every_rest}
 use Rattle.laws.proofs.Every.{all, all_at, and_left, and_right}
 use Rattle.laws.proofs.Lists.{next}
-use Rattle.callsign.specs.Utf8.{Span, tail, never, after, ascii, owed, characters, utf8}
+use Rattle.callsign.specs.declared.Tails.{Tails}
+use Rattle.callsign.specs.Utf8.{Span, tail, never, after, ascii, owed, asked_by, characters, utf8}
 
 -- ---- the table
 
@@ -30,14 +31,14 @@ same_eq (r ∷ rs) (q ∷ qs) t =
     let z = same_eq rs qs (and_right (eqb r.1 q.1) (same rs qs) u) in
     λ i. (x i, y i) ∷ z i
 
--- every byte from lo to hi, but not `but`, is followed by l
-abbrev pub table : ℕ → ℕ → ℕ → List Span → Bool
+-- every byte from lo to hi is followed by l
+abbrev pub table : ℕ → ℕ → List Span → Bool
 unfolding after within
-table lo hi but l = all 256 (λ b. not (within lo hi b && not (eqb b but)) || same (after b) l)
+table lo hi l = all 256 (λ b. not (within lo hi b) || same (after b) l)
 
-pub after_at : (lo hi but : ℕ) (l : List Span) → T (table lo hi but l) → (b : ℕ) → b < 256 → lo ≤ b → b ≤ hi → (b ≡ but → ⊥) → l ≡ after b
+pub after_at : (lo hi : ℕ) (l : List Span) → T (table lo hi l) → (b : ℕ) → b < 256 → lo ≤ b → b ≤ hi → l ≡ after b
 unfolding after within
-after_at lo hi but l t b f h k n = sym (same_eq (after b) l (go (within lo hi b && not (eqb b but)) (rw (le-leb lo b h, le-leb b hi k, ne_eqb b but n) refl) (all_at 256 (λ (x : ℕ). not (within lo hi x && not (eqb x but)) || same (after x) l) t b f)))
+after_at lo hi l t b f h k = sym (same_eq (after b) l (go (within lo hi b) (rw (le-leb lo b h, le-leb b hi k) refl) (all_at 256 (λ (x : ℕ). not (within lo hi x) || same (after x) l) t b f)))
   where
     go : (p : Bool) → p ≡ true → T (not p || same (after b) l) → T (same (after b) l)
     go true e t = t
@@ -77,6 +78,16 @@ none_owed : (n lo hi : ℕ) (l : List ℕ) → n ≡ 0 → characters (owed n lo
 unfolding owed
 none_owed n lo hi l e = rw e
 
+within_never : (b : ℕ) → within 1 0 b ≡ false
+unfolding within
+within_never zero = refl
+within_never (suc n) = rw (lt-leb (suc n) 0 (omega arith), and-false)
+
+none_in_never : (l : List ℕ) → characters (never ∷ []) l ≡ false
+unfolding characters
+none_in_never [] = refl
+none_in_never (b ∷ l) = rw (within_never b)
+
 module _ (t : List ℕ) (n lo hi i : ℕ) (h : i < length t) (e : utf8 t ≡ characters (owed n lo hi) (drop i t)) where
   here : utf8 t ≡ characters (owed n lo hi) (get_or t i 0 ∷ drop (i + 1) t)
   here = e ∙ ap (characters (owed n lo hi)) (next 0 t i h)
@@ -97,11 +108,13 @@ module _ (t : List ℕ) (n lo hi i : ℕ) (h : i < length t) (e : utf8 t ≡ cha
     unfolding characters
     between = here ∙ none_owed n lo hi (get_or t i 0 ∷ drop (i + 1) t) z
 
-    pub ascii_passed : get_or t i 0 < 0x80 → utf8 t ≡ characters (owed n lo hi) (drop (i + 1) t)
-    ascii_passed k = between ∙ ap (λ (rs : List Span). characters rs (drop (i + 1) t)) (ascii_after (get_or t i 0) k) ∙ sym (none_owed n lo hi (drop (i + 1) t) z)
+    pub none_begins : (o : Option Tails) → o ≡ None → asked_by o ≡ after (get_or t i 0) → false ≡ utf8 t
+    unfolding asked_by
+    none_begins o w q = sym (between ∙ ap (λ (rs : List Span). characters rs (drop (i + 1) t)) (sym q ∙ ap asked_by w) ∙ none_in_never (drop (i + 1) t))
 
-    pub first_passed : (m lo' hi' : ℕ) → owed m lo' hi' ≡ after (get_or t i 0) → utf8 t ≡ characters (owed m lo' hi') (drop (i + 1) t)
-    first_passed m lo' hi' q = between ∙ ap (λ (rs : List Span). characters rs (drop (i + 1) t)) (sym q)
+    pub first_passed : (o : Option Tails) (a : Tails) → o ≡ Some a → asked_by o ≡ after (get_or t i 0) → utf8 t ≡ characters (owed a.count a.lowest a.highest) (drop (i + 1) t)
+    unfolding asked_by
+    first_passed o a w q = between ∙ ap (λ (rs : List Span). characters rs (drop (i + 1) t)) (sym q ∙ ap asked_by w)
 
 at_end : (n lo hi : ℕ) → characters (owed n lo hi) [] ≡ eqb n 0
 unfolding characters owed
@@ -151,14 +164,6 @@ module _ (b : ℕ) (h : b < 0x80) where
   unfolding within
   below_all lo hi k = rw (lt-leb lo b (omega arith))
 
-  not_never : within 1 0 b ≡ false
-  unfolding within
-  not_never = go b
-    where
-      go : (n : ℕ) → (leb 1 n && leb n 0) ≡ false
-      go zero = refl
-      go (suc n) = rw (lt-leb (suc n) 0 (omega arith), and-false)
-
   high : (lo hi : ℕ) (rs : List Span) → 0x80 ≤ lo → apart b rs ≡ true → apart b ((lo, hi) ∷ rs) ≡ true
   high lo hi rs k q = apart_one b (lo, hi) rs (below_all lo hi k) q
 
@@ -179,7 +184,7 @@ module _ (b : ℕ) (h : b < 0x80) where
       (apart_pick b (within 0xf0 0xf0 x) _ _ (high 0x90 0xbf _ (omega arith) two)
       (apart_pick b (within 0xf1 0xf3 x) _ _ (tails _ two)
       (apart_pick b (within 0xf4 0xf4 x) _ _ (high 0x80 0x8f _ (omega arith) two)
-      (apart_one b never [] not_never (apart_none b))))))))))
+      (apart_one b never [] (within_never b) (apart_none b))))))))))
 
   split : (rs : List Span) (x y : List ℕ) → apart b rs ≡ true → characters rs (x ++ b ∷ y) ≡ (characters rs x && utf8 y)
   unfolding characters utf8 apart

@@ -1,6 +1,6 @@
 -- Laws of the text written: the star, and the range in front.
 -- Assumes nothing.
-use Rattle.std.proofs.Common.{◌≡◌, ℕ, ◌≤◌, min, Bool, true, false, not, List, [], ◌∷◌, ◌++◌, length, take, sym, ap, ◌∙◌, arith, length-append, length-take-le}
+use Rattle.std.proofs.Common.{◌≡◌, ℕ, ◌≤◌, min, Bool, true, false, not, List, [], ◌∷◌, ◌++◌, length, take, sym, ap, ◌∙◌, arith, length-append}
 use borrow.Author.Tests.{not-true}
 use Rattle.laws.specs.Bytes.{star}
 use Rattle.buffer.specs.Wrote.{Wrote, ends, refused_by, over_by, wrote}
@@ -22,9 +22,6 @@ module _ (l out : List ℕ) (starred : Bool) (w : Wrote) where
   pub without_star : starred ≡ false → w ≡ wrote 0 l out → w ≡ wrote 0 (with_star l starred) out
   unfolding with_star
   without_star s e = rw s e
-
-pub short_prefix : (l : List ℕ) (n m : ℕ) → length l ≡ m → n ≤ m → length (take n l) ≤ m
-short_prefix l n m e h = rw (length-take-le n l (omega arith)) h
 
 -- ---- the range in front
 

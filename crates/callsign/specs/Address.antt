@@ -4,7 +4,7 @@
 -- are the SSID; 0 means none. Bit 7 is heard; low bit set means last; bits 5 and 6 are ignored." Document 02, R-2, of the mark: "In
 -- frames it is never set."
 -- Assumes nothing.
-use Rattle.std.specs.Prelude.{ℕ, ◌+◌, ◌*◌, ◌/◌, ◌%◌, Bool, true, false, cond, ◌&&◌, List, [], ◌∷◌, length, take, ◌==◌, nat_lt, slice_index}
+use Rattle.std.specs.Prelude.{ℕ, ◌+◌, ◌*◌, ◌/◌, ◌%◌, Bool, true, false, cond, ◌&&◌, List, [], ◌∷◌, length, take, ◌==◌, nat_lt, slice_index, Option, Some, None}
 use Rattle.laws.specs.Bytes.{space, digit0, is_letter_or_digit, raised}
 use Rattle.callsign.specs.Text.{made, blank_call}
 use Rattle.callsign.specs.declared.AddressRead.{AddressRead}
@@ -25,28 +25,23 @@ last_of b = b % 2 == 1
 
 -- ---- the six characters
 
--- the call of six bytes, where they hold one
-pub data Unpacked : Type 0 where
-  malformed : Unpacked
-  call : List ℕ → Unpacked
-
 -- a character in front
-unfoldable pub onto : ℕ → Unpacked → Unpacked
-onto c malformed = malformed
-onto c (call cs) = call (c ∷ cs)
+unfoldable pub onto : ℕ → Option (List ℕ) → Option (List ℕ)
+onto c None = None
+onto c (Some cs) = Some (c ∷ cs)
 
 -- nothing but spaces, each shifted left by one
 unfoldable pub are_spaces : List ℕ → Bool
 are_spaces [] = true
 are_spaces (b ∷ bs) = b == space * 2 && are_spaces bs
 
--- "a low bit set is 3"; spaces only trail; letters are raised
-unfoldable pub unpacked : List ℕ → Unpacked
-unpacked [] = call []
+-- the call of six bytes, where they hold one: "a low bit set is 3"; spaces only trail; letters are raised
+unfoldable pub unpacked : List ℕ → Option (List ℕ)
+unpacked [] = Some []
 unpacked (b ∷ bs) =
-    cond (last_of b) malformed
-    (cond (b / 2 == space) (cond (are_spaces bs) (call []) malformed)
-    (cond (is_letter_or_digit (b / 2)) (onto (raised (b / 2)) (unpacked bs)) malformed))
+    cond (last_of b) None
+    (cond (b / 2 == space) (cond (are_spaces bs) (Some []) None)
+    (cond (is_letter_or_digit (b / 2)) (onto (raised (b / 2)) (unpacked bs)) None))
 
 -- ---- the address
 
@@ -62,9 +57,9 @@ unfoldable pub address_refused : ℕ → AddressRead
 address_refused n = record { refusal = n; call = blank_call; heard = false; last = false }
 
 -- the call and the seventh byte
-unfoldable pub address_of : Unpacked → ℕ → AddressRead
-address_of malformed s = address_refused 3
-address_of (call cs) s = record { refusal = 0; call = made cs (ssid_text (ssid_of s)); heard = heard_of s; last = last_of s }
+unfoldable pub address_of : Option (List ℕ) → ℕ → AddressRead
+address_of None s = address_refused 3
+address_of (Some cs) s = record { refusal = 0; call = made cs (ssid_text (ssid_of s)); heard = heard_of s; last = last_of s }
 
 -- "An AX.25 address is 7 bytes"
 unfoldable pub read_address : List ℕ → AddressRead

@@ -2,11 +2,10 @@
 -- bytes, letters (raised to capitals) and digits; SSID text an optional `+`, then one or more digits, value at most 15.
 -- Upper bits are 111 for a destination, 011 for a source, heard-1-1 for a hop." Refused with 15, then 13.
 -- Assumes nothing.
-use Rattle.std.specs.Prelude.{ℕ, ◌+◌, ◌-◌, ◌*◌, Bool, true, false, cond, not, List, [], ◌∷◌, ◌++◌, map, length, replicate, ◌==◌, nat_lt}
+use Rattle.std.specs.Prelude.{ℕ, ◌+◌, ◌-◌, ◌*◌, Bool, true, false, cond, not, List, [], ◌∷◌, ◌++◌, map, length, replicate, ◌==◌, nat_lt, Result, Ok, Err}
 use Rattle.laws.specs.Bytes.{space, plus, is_letter_or_digit, raised}
 use Rattle.laws.specs.Lists.{every}
-use Rattle.numbers.specs.declared.Count.{Count}
-use Rattle.numbers.specs.declared.Count.TheVariants.{Is, Over, Bad}
+use Rattle.numbers.specs.declared.CountError.{CountError}
 use Rattle.numbers.specs.Numbers.{read_count}
 use Rattle.callsign.specs.Range.{in_range, call_part, ssid_part}
 use Rattle.callsign.specs.declared.Callsign.{Callsign}
@@ -17,8 +16,8 @@ use Rattle.callsign.specs.declared.Field.TheVariants.{Destination, Source, Hop}
 -- ---- the SSID's number
 
 -- no SSID is 0; "an optional `+`, then one or more digits, value at most 15"
-unfoldable pub ssid_number : List ℕ → Count
-ssid_number [] = Is 0
+unfoldable pub ssid_number : List ℕ → Result ℕ CountError
+ssid_number [] = Ok 0
 ssid_number (x ∷ l) = read_count (cond (x == plus) l (x ∷ l)) 15
 
 -- ---- the seven bytes
@@ -54,10 +53,9 @@ packed_as call seventh =
     (record { refusal = 0; bytes = map sent call ++ replicate (6 - length call) (space * 2) ++ seventh ∷ [] }))
 
 -- the call with the SSID's number
-unfoldable pub packed_by : List ℕ → Count → Field → Bool → AddressWritten
-packed_by call (Is ssid) field last = packed_as call (seventh_of field ssid last)
-packed_by call Over field last = unwritten_by 13
-packed_by call Bad field last = unwritten_by 13
+unfoldable pub packed_by : List ℕ → Result ℕ CountError → Field → Bool → AddressWritten
+packed_by call (Ok ssid) field last = packed_as call (seventh_of field ssid last)
+packed_by call (Err e) field last = unwritten_by 13
 
 -- 15, then 13
 unfoldable pub write_address : Callsign → Field → Bool → AddressWritten

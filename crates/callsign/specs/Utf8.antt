@@ -1,7 +1,8 @@
 -- UTF-8 (RFC 3629, section 4): a character is a first byte, and then bytes that each lie in a range.
 -- Assumes nothing.
-use Rattle.std.specs.Prelude.{ℕ, zero, suc, Bool, true, false, cond, ◌&&◌, List, [], ◌∷◌, replicate, nat_lt}
+use Rattle.std.specs.Prelude.{ℕ, zero, suc, Bool, true, false, cond, ◌&&◌, List, [], ◌∷◌, replicate, nat_lt, Option, Some, None}
 use Rattle.laws.specs.Bytes.{within}
+use Rattle.callsign.specs.declared.Tails.{Tails}
 
 -- the lowest and the highest byte of a range
 abbrev pub Span : Type 0
@@ -46,6 +47,11 @@ unfoldable pub owed : ℕ → ℕ → ℕ → List Span
 owed zero lo hi = []
 owed (suc n) lo hi = (lo, hi) ∷ replicate n tail
 
--- a byte of ASCII: for the contract of a private function
+-- what a first byte asks for, where it starts a character: for the contract of a private function
+unfoldable pub asked_by : Option Tails → List Span
+asked_by None = never ∷ []
+asked_by (Some t) = owed t.count t.lowest t.highest
+
+-- a byte of ASCII
 abbrev pub ascii : ℕ → Bool
 ascii b = nat_lt b 0x80

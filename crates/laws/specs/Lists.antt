@@ -1,6 +1,6 @@
 -- Lists: the first place of a byte, a test of every element or of any, zeros, lists that are the same, and a list padded to a length.
 -- Assumes nothing.
-use Rattle.std.specs.Prelude.{ℕ, zero, suc, ◌-◌, Bool, true, false, cond, ◌&&◌, ◌||◌, List, [], ◌∷◌, ◌++◌, length, replicate, ◌==◌}
+use Rattle.std.specs.Prelude.{ℕ, zero, suc, ◌-◌, Bool, true, false, cond, ◌&&◌, List, [], ◌∷◌, ◌++◌, length, replicate, ◌==◌}
 use Rattle.std.specs.List.{list_all, list_any}
 
 -- the place of the first b, or the length where there is none

@@ -1,18 +1,17 @@
 -- Laws of the line at a place: what each answer of `line_at` must show, by the place of the first LF and the byte
 -- before it.
 -- Assumes nothing.
-use mathlib.Core.Path.{◌≡◌, refl, sym, ap, ap₂, ◌∙◌}
+use mathlib.Core.Path.{◌≡◌, sym, ap, ◌∙◌}
 use mathlib.Core.List.{List}
 use Prim.Native.Nat.{ℕ, ◌+◌, ◌-◌, ◌<◌, ◌≤◌}
 use native.Mathlib.Omega.{arith}
-use borrow.Author.Tests.{lt-ltb, le-ltb, eq-eqb, ne_eqb}
-use lib.ListN.{length, get_or, take, drop, length-drop}
-use lib.Seq.{length-take-le, get_or-take}
-use Rattle.laws.specs.Bytes.{line_feed, carriage_return}
+use borrow.Author.Tests.{lt-ltb, le-ltb}
+use lib.ListN.{length, take, drop, length-drop}
+use lib.Seq.{length-take-le}
+use Rattle.laws.specs.Bytes.{line_feed}
 use Rattle.laws.specs.Lists.{index_of}
 use Rattle.laws.proofs.Places.{index_le}
-use Rattle.std.specs.Prelude.{Option, Some, None}
-use Rattle.lines.specs.declared.Line.{Line}
+use Rattle.std.specs.Prelude.{Some, None}
 use Rattle.lines.specs.Lines.{placed, without_return, line_from, line_at}
 use Rattle.lines.proofs.Bare.{bare_length}
 

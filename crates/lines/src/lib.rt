@@ -22,6 +22,7 @@ pub fn tail(s: &[u8], n: usize) -> &[u8]
 }
 
 // The first word of s.
+#[tactic(auto, unfolding(crate::specs::Parts::first_word))]
 pub fn first(s: &[u8]) -> &[u8]
     ensures { result.now ≡ first_word s.now }
 {
@@ -29,6 +30,7 @@ pub fn first(s: &[u8]) -> &[u8]
 }
 
 // What stands behind the first word and its space.
+#[tactic(auto, unfolding(crate::specs::Parts::other_words))]
 pub fn rest(s: &[u8]) -> &[u8]
     ensures { result.now ≡ other_words s.now }
 {

@@ -1,19 +1,17 @@
 -- Laws of numbers read: one digit more at a time, a number that grows past the most, and a dash before it.
 -- Assumes nothing.
-use Rattle.std.specs.Prelude.{Option, Some, None, Result, Ok, Err}
-use Rattle.std.proofs.Common.{ℤ, ◌≡◌, ℕ, ◌+◌, ◌-◌, ◌*◌, ◌%◌, ◌^◌, ◌<◌, ◌≤◌, Bool, true, false, cond, eqb, leb, List, [], ◌∷◌, ◌++◌, length, get_or, drop, sym, refl, ◌∙◌, arith, drop_of_length-le, eq-eqb, ne_eqb, le-leb, leb-true}
+use Rattle.std.specs.Prelude.{Ok, Err}
+use Rattle.std.proofs.Common.{◌≡◌, ℕ, ◌+◌, ◌-◌, ◌*◌, ◌%◌, ◌^◌, ◌<◌, ◌≤◌, Bool, true, false, cond, eqb, leb, List, [], ◌∷◌, ◌++◌, length, get_or, drop, sym, refl, ◌∙◌, arith, drop_of_length-le, le-leb, leb-true}
 use borrow.Author.Tests.{lt-leb}
-use Rattle.laws.specs.Bytes.{dash, digit0, digit9, is_digit}
+use Rattle.laws.specs.Bytes.{digit0, digit9, is_digit}
 use Rattle.laws.specs.Lists.{every}
 use Rattle.laws.proofs.Lists.{next}
 use Rattle.laws.proofs.Each.{every_more, every_not, every_end, every_at}
 use Rattle.laws.proofs.Tests.{within_low, within_high}
 use Rattle.laws.proofs.Classes.{in_class, not_in_class, class_place}
-use Rattle.numbers.specs.Sign.{number_on}
 use Rattle.numbers.specs.Numbers.{number_after, number_of}
-use Rattle.numbers.specs.declared.CountError.{CountError}
 use Rattle.numbers.specs.declared.CountError.TheVariants.{Over, Malformed}
-use Rattle.numbers.specs.Numbers.{count_of, read_count, on_side, read_number}
+use Rattle.numbers.specs.Numbers.{count_of, read_count}
 
 -- ---- digits alone
 
@@ -77,19 +75,6 @@ module _ (s : List ℕ) (i v : ℕ) (e : number_of s ≡ number_after v (drop i 
   unfolding count_of
   grown_all most h k = rw (grown_whole h, le-leb v most k)
 
-pub count_none : (s : List ℕ) (most : ℕ) → length s ≡ 0 → Err Malformed ≡ read_count s most
-unfolding read_count
-count_none s most h = rw (eq-eqb (length s) 0 h)
-
-module _ (s : List ℕ) (most : ℕ) (digit : Bool) (e : digit ≡ every is_digit s) where
-  pub count_read : (r : Result ℕ CountError) → (length s ≡ 0 → ⊥) → digit ≡ true → r ≡ count_of s most → r ≡ read_count s most
-  unfolding read_count
-  count_read r h d p = rw (ne_eqb (length s) 0 h, ← e, d) p
-
-  pub count_bad : (length s ≡ 0 → ⊥) → digit ≡ false → Err Malformed ≡ read_count s most
-  unfolding read_count
-  count_bad h d = rw (ne_eqb (length s) 0 h, ← e, d)
-
 -- what is read is at most the most
 pub count_small : (s : List ℕ) (most n : ℕ) → Ok n ≡ read_count s most → n ≤ most
 unfolding read_count count_of
@@ -100,13 +85,3 @@ count_small s most n e = go (eqb (length s) 0) (every is_digit s) (leb (number_o
     go false true true f e = let m : n ≡ number_of s = cc in omega (arith, leb-true (number_of s) most f)
     go false true false f e = absurd (let z : ◌≡◌ {A = ℕ} 0 1 = cc in omega arith)
     go false false t f e = absurd (let z : ◌≡◌ {A = ℕ} 0 1 = cc in omega arith)
-
--- ---- a dash, or none
-
-pub with_dash : (s t : List ℕ) (r : Option ℤ) → get_or s 0 0 ≡ dash → t ≡ drop 1 s → r ≡ on_side true (read_count t 2147483648) → r ≡ read_number s
-unfolding read_number
-with_dash s t r h e p = rw (eq-eqb (get_or s 0 0) dash h, ← e) p
-
-pub without_dash : (s : List ℕ) (r : Option ℤ) → (get_or s 0 0 ≡ dash → ⊥) → r ≡ on_side false (read_count s 2147483648) → r ≡ read_number s
-unfolding read_number
-without_dash s r h p = rw (ne_eqb (get_or s 0 0) dash h) p

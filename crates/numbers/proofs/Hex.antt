@@ -1,25 +1,10 @@
 -- Laws of hexadecimal digits, and that a digit written reads back.
 -- Assumes nothing.
-use Rattle.std.specs.Prelude.{Option, Some, None, Result, Ok, Err}
-use Rattle.std.proofs.Common.{Bool, false, T, eqb, eqb→eq, ap, ◌≡◌, ℕ, ◌+◌, ◌-◌, ◌/◌, ◌%◌, ◌^◌, ◌<◌, ◌≤◌, [], ◌∷◌, ap₂, arith, le-ltb, lt-ltb}
-use Rattle.laws.specs.Bytes.{digit0, small_a, within}
-use Rattle.laws.proofs.Classes.{in_class, not_in_class, class_place}
+use Rattle.std.specs.Prelude.{Option, Some, None}
+use Rattle.std.proofs.Common.{Bool, false, T, eqb, eqb→eq, ap, ◌≡◌, ℕ, ◌<◌}
+use Rattle.laws.specs.Bytes.{within}
 use Rattle.laws.proofs.Every.{all_at}
-use Rattle.numbers.specs.Numbers.{hex_digit, hex_pair, hex_value, small_f}
-use Rattle.numbers.proofs.Counts.{digit_yes, digit_no, digit_value}
-
-module _ (n : ℕ) where
-  pub digit_low : n % 16 < 10 → digit0 + n % 16 ≡ hex_digit n
-  unfolding hex_digit
-  digit_low h = rw (lt-ltb (n % 16) 10 h)
-
-  pub digit_high : 10 ≤ n % 16 → small_a + n % 16 - 10 ≡ hex_digit n
-  unfolding hex_digit
-  digit_high h = rw (le-ltb (n % 16) 10 h)
-
-pub pair_is : (b high low : ℕ) → high ≡ hex_digit (b / 16) → low ≡ hex_digit b → high ∷ low ∷ [] ≡ hex_pair b
-unfolding hex_pair
-pair_is b high low p q = ap₂ (λ (x y : ℕ). x ∷ y ∷ []) p q
+use Rattle.numbers.specs.Numbers.{hex_digit, hex_value}
 
 -- whether a digit was read as k
 reads : Option ℕ → ℕ → Bool

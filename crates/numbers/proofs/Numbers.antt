@@ -1,6 +1,6 @@
 -- Numbers as text: they read back as the number, no zero stands in front, and two numbers have two texts.
 -- Assumes nothing.
-use Rattle.std.specs.Prelude.{Option, Some, None, Result, Ok, Err}
+use Rattle.std.specs.Prelude.{Some, Ok}
 use Rattle.std.proofs.Common.{◌≡◌, ℕ, zero, suc, ◌+◌, ◌/◌, ◌%◌, ◌<◌, ◌≤◌, Bool, true, false, cond, eqb, ltb, List, [], ◌∷◌, ◌++◌, length, get_or, ℤ, pos, negsuc, neg_ℤ, sym, refl, ap, ◌∙◌, arith, length-append, w32, SFits, ltb-false, ltb-true, ne_eqb, le-leb}
 use lib.ListN.{get_or-append}
 use Rattle.laws.specs.Bytes.{dash, digit0, digit9, is_digit}

@@ -1,13 +1,13 @@
 -- Numbers put together and taken apart. First the laws of a side and a size that callers cite, then the machine's signed
 -- numbers: an `i32` is made and taken apart by way of an `i64`.
 -- Assumes nothing.
-use Rattle.std.specs.Prelude.{Option, Some, None, Result, Ok, Err}
-use Rattle.std.proofs.Common.{le-ltb, ◌≡◌, ℕ, zero, suc, ◌<◌, ◌≤◌, Bool, true, false, T, ℤ, pos, negsuc, ◌-ℤ◌, neg_ℤ, nat_abs, sym, refl, ap, ◌∙◌, subst, arith, to_z-of_z, w32, w64, Fits, SFits, to_z, of_z, ltb-true, le-leb}
+use Rattle.std.specs.Prelude.{Option, Some, None}
+use Rattle.std.proofs.Common.{le-ltb, ◌≡◌, ℕ, zero, suc, ◌<◌, ◌≤◌, Bool, true, false, ℤ, pos, negsuc, ◌-ℤ◌, neg_ℤ, nat_abs, sym, refl, ap, ◌∙◌, subst, arith, to_z-of_z, w32, w64, SFits, to_z, of_z, le-leb}
 use mathlib.Core.Bool.{false≢true}
 use borrow.Author.Tests.{lt-leb}
 use lib.IntN.{+ℤ_idl}
-use lib.Signed.{lt_z, le_z, non_neg}
-use mir.Facts.{to_z_pos, sfits_widen, Fits-nat_abs}
+use lib.Signed.{lt_z}
+use mir.Facts.{to_z_pos}
 use Rattle.numbers.specs.Sign.{signed_of, most_on, number_on, is_minus, is_on, sides_of}
 use Rattle.numbers.specs.declared.Sides.{Sides}
 
@@ -139,13 +139,3 @@ is_below (negsuc n) = refl
 pub taken_apart : (z y : ℤ) (size : ℕ) → y ≡ z → size ≡ nat_abs z → record { size = size; minus = lt_z y (pos 0) } ≡ sides_of z
 unfolding sides_of
 taken_apart z y size e f = rw (e, f, is_below z)
-
--- the tests of a side: z is the number as the code has it
-module _ (minus : Bool) (a z : ℤ) (e : z ≡ a) where
-  pub on_minus : minus ≡ true → le_z z (pos 0) ≡ is_on minus a
-  unfolding is_on
-  on_minus h = rw (h, e)
-
-  pub on_plus : minus ≡ false → le_z (pos 0) z ≡ is_on minus a
-  unfolding is_on
-  on_plus h = rw (h, e)

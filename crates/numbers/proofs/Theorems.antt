@@ -1,6 +1,6 @@
 -- What the definitions amount to: numbers written read back, and two numbers have two texts.
 -- Assumes nothing.
-use Rattle.std.specs.Prelude.{Option, Some, None, Result, Ok, Err}
+use Rattle.std.specs.Prelude.{Some, Ok}
 use Rattle.std.proofs.Common.{◌≡◌, ℕ, ◌<◌, ◌≤◌, get_or, ℤ, w32, SFits}
 use Rattle.laws.specs.Bytes.{digit0}
 use Rattle.numbers.specs.Numbers.{digits, decimal, read_count, read_number, hex_digit, hex_value}

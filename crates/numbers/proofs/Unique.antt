@@ -1,6 +1,6 @@
 -- What each public function promises fixes its result: two results that meet one promise are equal.
 -- Assumes nothing.
-use Rattle.std.specs.Prelude.{Option, Some, None, Result, Ok, Err}
+use Rattle.std.specs.Prelude.{Option, Result}
 use Rattle.std.proofs.Common.{◌≡◌, ℕ, Bool, List, ℤ}
 use Rattle.laws.proofs.Unique.{one_value}
 use Rattle.buffer.specs.Filled.{filled, added}

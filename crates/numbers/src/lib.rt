@@ -5,7 +5,7 @@
 ghost use Rattle.std.specs.Prelude.{◌≡◌, ◌<◌, true, length, drop};
 ghost use Rattle.laws.specs.Bytes.{is_digit};
 ghost use Rattle.laws.specs.Lists.{every};
-ghost use Rattle.buffer.specs.Filled.{filled, added};
+ghost use Rattle.buffer.specs.Filled.{in_use, added};
 ghost use Rattle.numbers.specs.Sign.{sides_of, number_on, is_on};
 ghost use Rattle.numbers.specs.Numbers.{digits, decimal, count_of, read_count, on_side, read_number, hex_digit, hex_pair, hex_value};
 
@@ -138,6 +138,7 @@ fn spell(n: u64, text: &mut [u8]) -> usize
 {
     let mut at: usize = 20;
     let mut rest = n;
+    // Kept: a `while`, since there are as many turns as the number has digits.
     while 10 <= rest {
         at -= 1;
         text[at] = b'0' + (rest % 10) as u8;
@@ -151,7 +152,7 @@ fn spell(n: u64, text: &mut [u8]) -> usize
 // A number that has no sign, in decimal.
 pub fn put_count(n: usize, out: &mut Pieces)
     ensures same_reference { out.new.bytes.ghost_name ≡ out.old.bytes.ghost_name }
-    ensures value { filled out.new.bytes.now out.new.len ≡ added (filled out.old.bytes.now out.old.len) (digits n) }
+    ensures value { in_use out.new ≡ added (in_use out.old) (digits n) }
 {
     let mut text = [0u8; 20];
     let from = spell(n as u64, &mut text);
@@ -161,7 +162,7 @@ pub fn put_count(n: usize, out: &mut Pieces)
 // A number that may have one.
 pub fn put_number(n: i32, out: &mut Pieces)
     ensures same_reference { out.new.bytes.ghost_name ≡ out.old.bytes.ghost_name }
-    ensures value { filled out.new.bytes.now out.new.len ≡ added (filled out.old.bytes.now out.old.len) (decimal n) }
+    ensures value { in_use out.new ≡ added (in_use out.old) (decimal n) }
 {
     let sides = parts(n);
     let mut text = [0u8; 20];
@@ -189,7 +190,7 @@ fn hex_digit(n: u8) -> u8
 #[tactic(auto, unfolding(crate::specs::Numbers::hex_pair))]
 pub fn put_hex(b: u8, out: &mut Pieces)
     ensures same_reference { out.new.bytes.ghost_name ≡ out.old.bytes.ghost_name }
-    ensures value { filled out.new.bytes.now out.new.len ≡ added (filled out.old.bytes.now out.old.len) (hex_pair b) }
+    ensures value { in_use out.new ≡ added (in_use out.old) (hex_pair b) }
 {
     out.put(&[hex_digit(b / 16), hex_digit(b)]);
 }

@@ -4,7 +4,7 @@
 -- keep their destination and have no place, as the Unknown kind. Document 02, R-6: "the listing prints the outermost header", and
 -- the innermost body's place. R-7: a Q element is one of the hops, and never heard.
 -- Assumes nothing.
-use Rattle.std.specs.Prelude.{ℕ, zero, suc, ◌+◌, Bool, cond, List, [], ◌∷◌, eqb, length, take}
+use Rattle.std.specs.Prelude.{ℕ, ◌+◌, Bool, cond, List, [], ◌∷◌, eqb, length, take, count_by}
 use Rattle.laws.specs.Bytes.{space, dash, point, digit0, line_feed}
 use Rattle.laws.specs.Lists.{together}
 use Rattle.numbers.specs.Numbers.{digits, decimal}
@@ -49,8 +49,7 @@ unfoldable pub to_field : ℕ → Kind → Callsign → List ℕ
 to_field inner kind to = cond (eqb inner 0) (own_to_field kind to) (call_field to)
 
 unfoldable pub heard_among : List Hop → ℕ
-heard_among [] = zero
-heard_among (h ∷ l) = cond (is_heard h) (suc (heard_among l)) (heard_among l)
+heard_among hops = count_by is_heard hops
 
 -- "hops, heard hops"
 unfoldable pub heard_hops : Path → ℕ

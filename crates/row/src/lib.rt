@@ -4,11 +4,12 @@
 ghost use Rattle.std.specs.Prelude.{◌≡◌, [], ◌∷◌, ◌≤◌, length, take};
 ghost use Rattle.laws.specs.Bytes.{space};
 ghost use Rattle.buffer.specs.Wrote.{ends, wrote};
-ghost use Rattle.buffer.specs.Filled.{filled, added_all};
+ghost use Rattle.buffer.specs.Filled.{in_use, added_all};
 ghost use Rattle.numbers.specs.Numbers.{digits, decimal};
 ghost use Rattle.row.specs.Row.{call_field, own_to_field, to_field, heard_among, heard_hops, angle_fields, place_fields, record_fields, spaced, row_fields, row_of, row_by, width_of};
 
 use body::Kind;
+use buffer::Pieces;
 use callsign::Callsign;
 use header::{Hop, Path};
 use packet::{PacketRead, Record};
@@ -17,151 +18,135 @@ use position::Place;
 // The first line of the listing.
 pub const HEADING: [u8; 39] = *b"line answer from to hops heard lat lon\n";
 
-// ---- fields, each put behind the first `at` bytes of row with a byte behind it; the place after both is answered
+// ---- fields, each put with a byte behind it
 
-fn put_text(text: &[u8], after: u8, row: &mut [u8], at: usize) -> usize
-    ensures { filled row.new result ≡ added_all (filled row.old at) (text.now ∷ (after ∷ []) ∷ []) }
+fn put_text(text: &[u8], after: u8, out: &mut Pieces)
+    ensures { in_use out.new ≡ added_all (in_use out.old) (text.now ∷ (after ∷ []) ∷ []) }
 {
-    let end = buffer::put(text, row, at);
-    buffer::put_byte(after, row, end)
+    out.put(text);
+    out.put_byte(after);
 }
 
-fn put_count(n: usize, after: u8, row: &mut [u8], at: usize) -> usize
-    ensures written { filled row.new result ≡ added_all (filled row.old at) (digits n ∷ (after ∷ []) ∷ []) }
+fn put_count(n: usize, after: u8, out: &mut Pieces)
+    ensures written { in_use out.new ≡ added_all (in_use out.old) (digits n ∷ (after ∷ []) ∷ []) }
     ensures width { length (digits n) ≤ 20 }
 {
-    let end = numbers::put_count(n, row, at);
-    buffer::put_byte(after, row, end)
+    numbers::put_count(n, out);
+    out.put_byte(after);
 }
 
-fn put_number(n: i32, after: u8, row: &mut [u8], at: usize) -> usize
-    ensures written { filled row.new result ≡ added_all (filled row.old at) (decimal n ∷ (after ∷ []) ∷ []) }
+fn put_number(n: i32, after: u8, out: &mut Pieces)
+    ensures written { in_use out.new ≡ added_all (in_use out.old) (decimal n ∷ (after ∷ []) ∷ []) }
     ensures width { length (decimal n) ≤ 11 }
 {
-    let end = numbers::put_number(n, row, at);
-    buffer::put_byte(after, row, end)
+    numbers::put_number(n, out);
+    out.put_byte(after);
 }
 
-fn put_call(c: Callsign, row: &mut [u8], at: usize) -> usize
-    ensures written { filled row.new result ≡ added_all (filled row.old at) (call_field c ∷ (space ∷ []) ∷ []) }
+fn put_call(c: Callsign, out: &mut Pieces)
+    ensures written { in_use out.new ≡ added_all (in_use out.old) (call_field c ∷ (space ∷ []) ∷ []) }
     ensures width { length (call_field c) ≤ 16 }
 {
     let n = callsign::text_len(c);
     if n == 0 {
-        return put_text(b".", b' ', row, at);
+        put_text(b".", b' ', out);
+    } else {
+        let text = c.text;
+        put_text(&text[..n], b' ', out);
     }
-    let text = c.text;
-    put_text(&text[..n], b' ', row, at)
 }
 
 // The destination of the header that a body belongs to; a Mic-E body leaves it none.
-fn put_own_to(kind: Kind, to: Callsign, row: &mut [u8], at: usize) -> usize
-    ensures written { filled row.new result ≡ added_all (filled row.old at) (own_to_field kind to ∷ (space ∷ []) ∷ []) }
+fn put_own_to(kind: Kind, to: Callsign, out: &mut Pieces)
+    ensures written { in_use out.new ≡ added_all (in_use out.old) (own_to_field kind to ∷ (space ∷ []) ∷ []) }
     ensures width { length (own_to_field kind to) ≤ 16 }
 {
     match kind {
-        Kind::Unknown => put_call(to, row, at),
-        Kind::Position => put_call(to, row, at),
-        Kind::MicE => put_text(b"-", b' ', row, at),
-        Kind::Message => put_call(to, row, at),
-        Kind::Status => put_call(to, row, at),
+        Kind::MicE => put_text(b"-", b' ', out),
+        Kind::Unknown | Kind::Position | Kind::Message | Kind::Status => put_call(to, out),
     }
 }
 
 // The outermost destination: with a packet inside, the body is another header's.
-fn put_to(inner: u8, kind: Kind, to: Callsign, row: &mut [u8], at: usize) -> usize
-    ensures written { filled row.new result ≡ added_all (filled row.old at) (to_field inner kind to ∷ (space ∷ []) ∷ []) }
+fn put_to(inner: u8, kind: Kind, to: Callsign, out: &mut Pieces)
+    ensures written { in_use out.new ≡ added_all (in_use out.old) (to_field inner kind to ∷ (space ∷ []) ∷ []) }
     ensures width { length (to_field inner kind to) ≤ 16 }
 {
     if inner == 0 {
-        return put_own_to(kind, to, row, at);
+        put_own_to(kind, to, out);
+    } else {
+        put_call(to, out);
     }
-    put_call(to, row, at)
 }
 
 // ---- several fields
 
 // How many of the first hops, `count` of them, are heard; a Q element never is.
+#[tactic(auto, unfolding(crate::specs::Row::heard_among, header::specs::Hop::is_heard))]
 fn heard(hops: [Hop; 8], count: usize) -> usize
     ensures { result ≡ heard_among (take count hops) }
 {
-    let mut n: usize = 0;
-    let mut i: usize = 0;
-    while i < 8 {
-        if count <= i {
-            return n;
-        }
-        if hops[i].kind == header::HEARD {
-            n += 1;
-            i += 1;
-            continue;
-        }
-        i += 1;
-    }
-    n
+    hops[..count.min(8)].iter().filter(|h| h.kind == header::HEARD).count()
 }
 
 // The number of hops, and of heard ones.
-fn put_hops(path: Path, row: &mut [u8], at: usize) -> usize
-    ensures written { filled row.new result ≡ added_all (filled row.old at) (digits path.count ∷ (space ∷ []) ∷ digits (heard_hops path) ∷ (space ∷ []) ∷ []) }
+fn put_hops(path: Path, out: &mut Pieces)
+    ensures written { in_use out.new ≡ added_all (in_use out.old) (digits path.count ∷ (space ∷ []) ∷ digits (heard_hops path) ∷ (space ∷ []) ∷ []) }
     ensures width { width_of (digits path.count ∷ digits (heard_hops path) ∷ []) ≤ 42 }
 {
     let hops = path.hops;
     let count = path.count;
-    let end = put_count(count, b' ', row, at);
-    put_count(heard(hops, count), b' ', row, end)
+    put_count(count, b' ', out);
+    put_count(heard(hops, count), b' ', out);
 }
 
 // Latitude and longitude, the last fields of a row.
-fn put_angles(place: Place, row: &mut [u8], at: usize) -> usize
-    ensures written { filled row.new result ≡ added_all (filled row.old at) (spaced (angle_fields place)) }
+fn put_angles(place: Place, out: &mut Pieces)
+    ensures written { in_use out.new ≡ added_all (in_use out.old) (spaced (angle_fields place)) }
     ensures width { width_of (angle_fields place) ≤ 24 }
 {
-    let end = put_number(place.latitude.0, b' ', row, at);
-    put_number(place.longitude.0, b'\n', row, end)
+    put_number(place.latitude.0, b' ', out);
+    put_number(place.longitude.0, b'\n', out);
 }
 
 // The same, where the kind has a place: a position, timed or not, or Mic-E.
-fn put_place(kind: Kind, place: Place, row: &mut [u8], at: usize) -> usize
-    ensures written { filled row.new result ≡ added_all (filled row.old at) (spaced (place_fields kind place)) }
+fn put_place(kind: Kind, place: Place, out: &mut Pieces)
+    ensures written { in_use out.new ≡ added_all (in_use out.old) (spaced (place_fields kind place)) }
     ensures width { width_of (place_fields kind place) ≤ 24 }
 {
     match kind {
-        Kind::Unknown => put_text(b"- -", b'\n', row, at),
-        Kind::Position => put_angles(place, row, at),
-        Kind::MicE => put_angles(place, row, at),
-        Kind::Message => put_text(b"- -", b'\n', row, at),
-        Kind::Status => put_text(b"- -", b'\n', row, at),
+        Kind::Position | Kind::MicE => put_angles(place, out),
+        Kind::Unknown | Kind::Message | Kind::Status => put_text(b"- -", b'\n', out),
     }
 }
 
 // Source, destination and hops of the outermost header, and the body's place.
-fn put_record(r: Record, row: &mut [u8], at: usize) -> usize
-    ensures written { filled row.new result ≡ added_all (filled row.old at) (spaced (record_fields r)) }
+fn put_record(r: Record, out: &mut Pieces)
+    ensures written { in_use out.new ≡ added_all (in_use out.old) (spaced (record_fields r)) }
     ensures width { width_of (record_fields r) ≤ 100 }
 {
     let header = r.header;
     let body = r.body;
-    let kind = body.kind;
-    let mut end = put_call(header.from, row, at);
-    end = put_to(r.inner, kind, header.to, row, end);
-    end = put_hops(header.path, row, end);
-    put_place(kind, body.place, row, end)
+    put_call(header.from, out);
+    put_to(r.inner, body.kind, header.to, out);
+    put_hops(header.path, out);
+    put_place(body.kind, body.place, out);
 }
 
 // ---- the row
 
 // The fields of a line's number and answer, at the front of row; they have 142 bytes at most.
-fn put_fields(number: usize, read: PacketRead, row: &mut [u8]) -> usize
-    ensures written { filled row.new result ≡ added_all (filled row.old 0) (spaced (row_fields number read)) }
+fn put_fields(number: usize, read: PacketRead, out: &mut Pieces)
+    ensures written { in_use out.new ≡ added_all (in_use out.old) (spaced (row_fields number read)) }
     ensures width { length (row_of number read) ≤ 142 }
 {
-    let mut end = put_count(number, b' ', row, 0);
-    end = put_count(read.refusal as usize, b' ', row, end);
+    put_count(number, b' ', out);
+    put_count(read.refusal as usize, b' ', out);
     if read.refusal != 0 {
-        return put_text(b"- - 0 0 - -", b'\n', row, end);
+        put_text(b"- - 0 0 - -", b'\n', out);
+    } else {
+        put_record(read.record, out);
     }
-    put_record(read.record, row, end)
 }
 
 // Writes the row of the listing for a line and its number, or answers 16. The line is read strictly where strict.
@@ -169,6 +154,7 @@ pub fn write_row(number: usize, line: &[u8], strict: bool, out: &mut [u8]) -> bu
     ensures { ends result out.new ≡ wrote 0 (row_by strict number line.now) out.old }
 {
     let mut text = [0u8; 142];
-    let n = put_fields(number, packet::read(line, false, strict), &mut text);
-    buffer::write(lines::cut(&text, n), out)
+    let mut row = Pieces::new(&mut text);
+    put_fields(number, packet::read(line, false, strict), &mut row);
+    buffer::write(row.written(), out)
 }

@@ -1,14 +1,10 @@
--- `capital` takes 32 off a small letter. Assumes nothing.
-use Rattle.laws.specs.Bytes.{raised}
-use Rattle.laws.proofs.Picks.{picks}
-use Rattle.laws.proofs.Classes.{classes}
-use Rattle.std.proofs.Common.{rules}
+-- std raises what the definition raises: computed at each byte. Assumes nothing.
+use Rattle.std.proofs.Common.{◌∙◌}
+use Rattle.std.specs.Char.{to_ascii_uppercase}
+use Rattle.laws.specs.Bytes.{within, raised}
+use Rattle.laws.proofs.Every.{same_below}
 use Rattle.callsign.proofs.capital.Goals as goal
 
-pub returns-then-wrapping_sub_u8-lt26 : goal.returns-then-wrapping_sub_u8-lt26
-unfolding raised
-returns-then-wrapping_sub_u8-lt26 c = search (rules, picks, classes)
-
 pub returns : goal.returns
-unfolding raised
-returns c = search (rules, picks, classes)
+unfolding raised within
+returns c = c.to_ascii_uppercase.ensures.value ∙ same_below 256 to_ascii_uppercase raised tt c.args.c c.ranges.c.fits

@@ -1,26 +1,20 @@
 -- The range by the code's tests; the text is judged whole. Assumes nothing.
-use Rattle.callsign.proofs.Ranges.{range_long, range_bare, range_wide, range_dash, range_zero, range_one, range_more}
-use Rattle.std.proofs.Common.{rules}
+use Rattle.std.proofs.Common.{sym, ◌∙◌, rules}
+use mathlib.Core.Bool.{false≢true}
+use borrow.Author.Tests.{lt-leb}
 use borrow.Author.Rules.{length_unmapped}
+use Rattle.callsign.proofs.Ranges.{too_long, unparted, sounded}
 use Rattle.callsign.proofs.in_range.Goals as goal
+use Rattle.callsign.proofs.in_range.Goals.{then-n-le16, else-n-le16}
 
-pub returns-then-n-gt16 : goal.returns-then-n-gt16
-returns-then-n-gt16 c = search (rules, range_long)
+pub returns-then-is_parted : goal.returns-then-is_parted
+returns-then-is_parted c = elim c.if-n-le16.branch [
+  | then-n-le16 w ↦ let t = sym w.value-is ∙ c.if-is_parted.true in search (rules, sounded, length_unmapped)
+  | else-n-le16 w ↦ absurd (false≢true (sym (lt-leb _ _ w.if-n-le16.false) ∙ sym w.value-is ∙ c.if-is_parted.true))
+]
 
-pub returns-then-k-eq0 : goal.returns-then-k-eq0
-returns-then-k-eq0 c = search (rules, range_bare)
-
-pub returns-then-n-k : goal.returns-then-n-k
-returns-then-n-k c = search (rules, range_wide)
-
-pub returns-then-text-n-ne45 : goal.returns-then-text-n-ne45
-returns-then-text-n-ne45 c = search (rules, range_dash)
-
-pub returns-then-k-ne1 : goal.returns-then-k-ne1
-returns-then-k-ne1 c = search (rules, range_more, length_unmapped)
-
-pub returns-then-text-n-eq48 : goal.returns-then-text-n-eq48
-returns-then-text-n-eq48 c = search (rules, range_zero, length_unmapped)
-
-pub returns : goal.returns
-returns c = search (rules, range_one, length_unmapped)
+pub returns-else-is_parted : goal.returns-else-is_parted
+returns-else-is_parted c = c.if-is_parted.false ∙ elim c.if-n-le16.branch [
+  | then-n-le16 w ↦ let t = sym w.value-is ∙ c.if-is_parted.false in search (rules, unparted, length_unmapped)
+  | else-n-le16 w ↦ search (rules, too_long)
+]

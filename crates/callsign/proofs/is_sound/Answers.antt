@@ -1,21 +1,15 @@
--- UTF-8 in front, which ASCII is, and zeros behind. Assumes nothing.
-use Rattle.laws.proofs.Picks.{picks}
+-- UTF-8 in front, and zeros behind. Assumes nothing.
+use Rattle.std.proofs.Common.{◌∙◌, rules}
+use borrow.Author.Rules.{length_unmapped}
+use Rattle.laws.proofs.Picks.{and_no, picks}
 use Rattle.callsign.specs.Range.{sound}
-use Rattle.laws.proofs.Lists.{prefix_length}
-use Rattle.callsign.proofs.Flags.{sound_by_ascii}
-use Rattle.std.proofs.Common.{rules}
+use Rattle.callsign.proofs.Padded.{spare_zeros}
 use Rattle.callsign.proofs.is_sound.Goals as goal
 
-pub returns-then-is_ascii : goal.returns-then-is_ascii
-returns-then-is_ascii c = search (rules, sound_by_ascii)
-
-pub slice_bounds-is_utf8-end : goal.slice_bounds-is_utf8-end
-slice_bounds-is_utf8-end c = search (rules, prefix_length)
-
-pub returns-then-is_utf8 : goal.returns-then-is_utf8
+pub returns-then-is_text : goal.returns-then-is_text
 unfolding sound
-returns-then-is_utf8 c = search (rules, picks)
+returns-then-is_text c = search (rules, picks, spare_zeros, length_unmapped)
 
-pub returns-else-is_utf8 : goal.returns-else-is_utf8
+pub returns-else-is_text : goal.returns-else-is_text
 unfolding sound
-returns-else-is_utf8 c = search (rules, picks)
+returns-else-is_text c = c.if-is_text.false ∙ and_no _ _ _ c.is_text.ensures c.if-is_text.false

@@ -1,25 +1,20 @@
 -- The reader of characters: what is left of the text stands behind the bytes still owed. Assumes nothing.
-use Rattle.std.proofs.Common.{arith, rules}
-use Rattle.callsign.proofs.Unicode.{none_begun, span_below, span_above, span_passed, ascii_passed, first_passed, all_passed}
+use Rattle.std.proofs.Common.{rules}
+use Rattle.callsign.proofs.Unicode.{none_begun, span_below, span_above, span_passed, none_begins, first_passed, all_passed}
 use Rattle.callsign.proofs.is_utf8.Goals as goal
+use Rattle.callsign.proofs.is_utf8.Goals.{then-owed-eq0+in-Some, else-owed-eq0+then-owed-b+then-b-owed, else-owed-b-via-then-owed-b+else-b-owed, else-owed-b-via-else-owed-b}
 
-pub loop-i-init : goal.loop-i-init
-loop-i-init c = (omega arith, none_begun _)
+pub loop-b-init : goal.loop-b-init
+loop-b-init c = rw c.any_tails-owed.ensures (none_begun _)
 
-pub returns-then-b-lo : goal.returns-then-b-lo
-returns-then-b-lo c = search (rules, span_below)
+pub returns-in_default : goal.returns-in_default
+returns-in_default c = search (rules, none_begins)
 
-pub returns-then-hi-b : goal.returns-then-hi-b
-returns-then-hi-b c = search (rules, span_above)
+pub returns-else-owed-b : goal.returns-else-owed-b
+returns-else-owed-b c = elim c.else-owed-b.branch [ else-owed-b-via-then-owed-b+else-b-owed w ↦ search (rules, span_above) | else-owed-b-via-else-owed-b w ↦ search (rules, span_below) ]
 
-pub loop-i-preserved-then-count-ne0 : goal.loop-i-preserved-then-count-ne0
-loop-i-preserved-then-count-ne0 c = (omega arith, search (rules, span_passed))
-
-pub loop-i-preserved-then-b-lt128 : goal.loop-i-preserved-then-b-lt128
-loop-i-preserved-then-b-lt128 c = (omega arith, search (rules, ascii_passed))
-
-pub loop-i-preserved : goal.loop-i-preserved
-loop-i-preserved c = (omega arith, search (rules, first_passed))
+pub loop-b-preserved : goal.loop-b-preserved
+loop-b-preserved c = elim c.if-owed-eq0.branch [ then-owed-eq0+in-Some w ↦ rw w.owed-is (first_passed _ _ _ _ _ c.loop-b-test.true c.loop-b.invariant w.if-owed-eq0.true _ _ w.in-Some.is w.after_first.ensures) | else-owed-eq0+then-owed-b+then-b-owed w ↦ search (rules, span_passed) ]
 
 pub returns : goal.returns
 returns c = search (rules, all_passed)

@@ -1,10 +1,7 @@
--- `letter_or_digit` tests the three classes of the definition. Assumes nothing.
-use Rattle.std.proofs.Common.{◌≡◌, Bool, ◌||◌, rules}
-use Rattle.laws.proofs.Classes.{classes}
+-- The classes of std are those of the definition. Assumes nothing.
+use Rattle.laws.specs.Bytes.{within}
 use Rattle.callsign.proofs.letter_or_digit.Goals as goal
 
-each : (t u v x y z : Bool) → t ≡ x → u ≡ y → v ≡ z → (t || u || v) ≡ (x || y || z)
-each t u v x y z e f g = rw (e, f, g)
-
 pub returns : goal.returns
-returns c = search (rules, each, classes)
+unfolding within
+returns c = c.is_ascii_alphanumeric.ensures.value

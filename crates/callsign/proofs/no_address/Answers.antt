@@ -4,4 +4,4 @@ use Rattle.callsign.proofs.no_address.Goals as goal
 
 pub returns : goal.returns
 unfolding address_refused
-returns c = rw c.blank-call.ensures
+returns c = rw c.blank.ensures

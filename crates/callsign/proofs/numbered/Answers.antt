@@ -1,14 +1,7 @@
 -- Call, dash and digits go in one after the other. Assumes nothing.
-use Rattle.std.proofs.Common.{arith, length-take, rules}
-use Rattle.laws.proofs.Lists.{prefix_length}
+use Rattle.std.proofs.Common.{rules}
 use Rattle.callsign.proofs.Digits.{no_number, one_digit, two_digits}
 use Rattle.callsign.proofs.numbered.Goals as goal
-
-pub slice_bounds-pad-end : goal.slice_bounds-pad-end
-slice_bounds-pad-end c = search (rules, prefix_length)
-
-pub pad-text-requires : goal.pad-text-requires
-pad-text-requires c = rw length-take (omega arith)
 
 pub returns-then-ssid-eq0 : goal.returns-then-ssid-eq0
 returns-then-ssid-eq0 c = search (rules, no_number)

@@ -1,10 +1,6 @@
 -- The call's characters one by one, and the seventh byte. Assumes nothing.
-use Rattle.std.proofs.Common.{◌-◌, length}
 use Rattle.callsign.proofs.Sends.{Sent}
 use Rattle.callsign.proofs.packed.Given as goal
 
 abbrev pub invariant-loop-i : goal.invariant-loop-i
 invariant-loop-i l = Sent l.call l.bytes l.i
-
-abbrev pub decreases-loop-i : goal.decreases-loop-i
-decreases-loop-i l = length l.call - l.i

@@ -1,16 +1,14 @@
 -- The star off, and then the rest. Assumes nothing.
-use Rattle.callsign.proofs.Texts.{none_starred, starred, unstarred, last_part}
 use Rattle.std.proofs.Common.{rules}
+use Rattle.callsign.proofs.Texts.{starred, unstarred, none_starred}
 use Rattle.callsign.proofs.read_text.Goals as goal
+use Rattle.callsign.proofs.read_text.Goals.{in_default-via-then-s-lt1, in_default-via-else-s-lt1+in_default-1}
 
-pub returns-then-n-eq0 : goal.returns-then-n-eq0
-returns-then-n-eq0 c = search (rules, none_starred)
+pub returns-in-42 : goal.returns-in-42
+returns-in-42 c = search (rules, starred)
 
-pub slice_bounds-read_unstarred-end : goal.slice_bounds-read_unstarred-end
-slice_bounds-read_unstarred-end c = search (rules, last_part)
-
-pub returns-then-s-m-eq42 : goal.returns-then-s-m-eq42
-returns-then-s-m-eq42 c = search (rules, starred)
-
-pub returns-else-s-m-eq42 : goal.returns-else-s-m-eq42
-returns-else-s-m-eq42 c = search (rules, unstarred)
+pub returns-in_default : goal.returns-in_default
+returns-in_default c = elim c.in_default.branch [
+  | in_default-via-then-s-lt1 w ↦ search (rules, none_starred)
+  | in_default-via-else-s-lt1+in_default-1 w ↦ search (rules, unstarred)
+]

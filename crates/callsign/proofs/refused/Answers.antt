@@ -4,4 +4,4 @@ use Rattle.callsign.proofs.refused.Goals as goal
 
 pub returns : goal.returns
 unfolding call_refused
-returns c = rw c.blank-call.ensures
+returns c = rw c.blank.ensures
