@@ -24,7 +24,7 @@ use Rattle.callsign.proofs.Theorems.{text_is_in_range, address_is_in_range}
 use Rattle.header.specs.declared.Hop.{Hop}
 use Rattle.header.specs.declared.HeaderRead.{HeaderRead}
 use Rattle.header.specs.Hop.{heard_as, call_hop, is_heard, is_q_element}
-use Rattle.header.specs.Header.{most_bytes, Hops, blank_hop, path_of, hops_of, header_of, blank_header, header_refused, header_accepted, unless_refused, with_hops}
+use Rattle.header.specs.Header.{most_bytes, Hops, number_of, blank_hop, path_of, hops_of, header_of, blank_header, header_refused, header_accepted, unless_refused, with_hops}
 use Rattle.header.specs.Text.{fields, first_of, others_of, stars_of, carried, read_route, read_before, read_header_text, read_text_header}
 use Rattle.header.specs.Frame.{starts_with_pair, with_pair, read_source, read_frame_header}
 use Rattle.header.specs.Range.{hop_in_range, is_blank, is_blank_header, path_in_range, header_in_range}
@@ -66,7 +66,7 @@ module _ (s : List ℕ) where
   hops_answered : (from to : Callsign) (body : ℕ) {w : Hops} → in_range from ≡ true → in_range to ≡ true → body ≤ length s → Sound InText 8 w
       → Answered InText Starred s (with_hops w (λ l. header_accepted from to (path_of (carried l)) body (stars_of l)))
   unfolding with_hops
-  hops_answered from to body a b m (none n p) = no n p
+  hops_answered from to body a b m (none f p) = no (number_of f) p
   hops_answered from to body a b m (some l k q) = let c = length_carried l in yes from to (carried l) body (stars_of l) a b (omega arith) (carried_range l q) m (record { typed = l; back = refl; number = refl })
 
   route_answered : (from : Callsign) (t : List ℕ) (body : ℕ) → in_range from ≡ true → body ≤ length s → Answered InText Starred s (read_route from t body)
@@ -117,7 +117,7 @@ pair_within s at e = go (drop at s) (length-drop at s) e
 module _ (s : List ℕ) where
   pair_answered : (from to : Callsign) {w : Hops} → in_range from ≡ true → in_range to ≡ true → Sound InFrame 8 w → Answered InFrame Starless s (with_hops w (λ l. with_pair from to (path_of l) s))
   unfolding with_hops with_pair
-  pair_answered from to a b (none n p) = no n p
+  pair_answered from to a b (none f p) = no (number_of f) p
   pair_answered from to a b (some l k q) =
       either InFrame Starless s (starts_with_pair (drop (14 + 7 * (path_of l).count) s))
       (λ e. yes from to l (14 + 7 * (path_of l).count + 2) 0 a b k q (pair_within s (14 + 7 * (path_of l).count) e) (record { number = refl })) (λ e. no 2 two_in_frame)

@@ -10,6 +10,7 @@ use native.Mathlib.Omega.{arith}
 use borrow.Author.Tests.{le-ltb}
 use lib.ListN.{length, take, drop, length-append, length-map}
 use lib.Seq.{take_at, drop_at, drop-drop}
+use Rattle.std.specs.Prelude.{Ok}
 use Rattle.callsign.specs.declared.Callsign.{Callsign}
 use Rattle.callsign.specs.declared.AddressWritten.{AddressWritten}
 use Rattle.callsign.specs.declared.Field.TheVariants.{Destination, Source, Hop as HopField}
@@ -22,7 +23,7 @@ use Rattle.callsign.proofs.Theorems.{address_reads_back}
 use Rattle.header.specs.declared.Hop.{Hop}
 use Rattle.header.specs.declared.Header.{Header}
 use Rattle.header.specs.Hop.{call_hop, is_heard, calls_of}
-use Rattle.header.specs.Header.{most_bytes, these, before, path_of, hops_of, header_accepted, unless_refused, with_hops}
+use Rattle.header.specs.Header.{most_bytes, before, path_of, hops_of, header_accepted, unless_refused, with_hops}
 use Rattle.header.specs.Frame.{pair, starts_with_pair, address_hop, address_then, frame_hops, with_pair, read_source, read_frame_header, is_none, hop_addresses, addresses, first_refusal, address_bytes, header_frame}
 use Rattle.header.specs.Range.{header_in_range, frame_refusal}
 use Rattle.header.proofs.InRange.{route_calls}
@@ -36,7 +37,7 @@ in_frame h = call_hop (in_address h.call) (is_heard h)
 -- ---- hops
 
 hop_back : (h : Hop) (last : Bool) (k : ℕ) (x : List ℕ) → (write_address h.call (HopField (is_heard h)) last).refusal ≡ 0
-    → frame_hops (suc k) ((write_address h.call (HopField (is_heard h)) last).bytes ++ x) ≡ before (in_frame h) (cond last (these []) (frame_hops k x))
+    → frame_hops (suc k) ((write_address h.call (HopField (is_heard h)) last).bytes ++ x) ≡ before (in_frame h) (cond last (Ok []) (frame_hops k x))
 unfolding frame_hops address_then address_hop in_frame heard_in
 hop_back h last k x z =
     let a = write_address h.call (HopField (is_heard h)) last in
@@ -45,7 +46,7 @@ hop_back h last k x z =
     rw (le-ltb (length (a.bytes ++ x)) 7 m, take_at a.bytes x 7 s, drop_at a.bytes x 7 s, address_reads_back h.call (HopField (is_heard h)) last z)
 
 pub hops_back : (h : Hop) (l : List Hop) (k : ℕ) (x : List ℕ) → length (h ∷ l) ≤ k → first_refusal (hop_addresses (h ∷ l)) ≡ 0
-    → frame_hops k (address_bytes (hop_addresses (h ∷ l)) ++ x) ≡ these (map in_frame (h ∷ l))
+    → frame_hops k (address_bytes (hop_addresses (h ∷ l)) ++ x) ≡ Ok (map in_frame (h ∷ l))
 unfolding address_bytes hop_addresses before is_none
 hops_back h l zero x m z = absurd (omega arith)
 hops_back h [] (suc k) x m z =
@@ -60,7 +61,7 @@ hops_back h (h' ∷ l) (suc k) x m z =
 -- ---- the whole frame
 
 all_hops : (l : List Hop) (x : List ℕ) → length l ≤ 8 → first_refusal (hop_addresses l) ≡ 0
-    → cond (is_none l) (these []) (frame_hops 8 (address_bytes (hop_addresses l) ++ x)) ≡ these (map in_frame l)
+    → cond (is_none l) (Ok []) (frame_hops 8 (address_bytes (hop_addresses l) ++ x)) ≡ Ok (map in_frame l)
 unfolding is_none
 all_hops [] x m z = refl
 all_hops (h ∷ l) x m z = hops_back h l 8 x m z

@@ -12,6 +12,7 @@ use lib.ListN.{length, take, length-append, length-take}
 use Rattle.laws.specs.Lists.{every}
 use Rattle.buffer.specs.declared.Answer.{Answer}
 use Rattle.buffer.specs.Wrote.{Wrote, ends, refused_by, wrote}
+use Rattle.buffer.specs.Filled.{front_of}
 use Rattle.buffer.proofs.Wrote.{passed_on}
 use Rattle.callsign.specs.declared.Callsign.{Callsign}
 use Rattle.callsign.specs.declared.AddressWritten.{AddressWritten}
@@ -23,13 +24,16 @@ use Rattle.callsign.proofs.AddressBack.{address_seven}
 use Rattle.callsign.proofs.Theorems.{address_out_of_range, address_within_range}
 use Rattle.header.specs.declared.Hop.{Hop}
 use Rattle.header.specs.declared.Header.{Header}
-use Rattle.header.specs.Hop.{is_heard, is_q_element, calls_of}
+use Rattle.header.specs.Hop.{is_heard, is_q_element, is_call, calls_of}
 use Rattle.header.specs.Header.{hops_of}
 use Rattle.header.specs.Frame.{pair, is_none, hop_addresses, addresses, first_refusal, address_bytes, header_frame}
 use Rattle.header.specs.Range.{hop_in_range, header_in_range, frame_refusal}
-use Rattle.header.specs.Private.{Piece, Building, is_tidy, is_tidy_hop, building, plain, address_piece, end_address_pieces, hop_address_piece, hop_address_pieces, with_piece, with_pieces, frame_pieces, is_sought, up_to}
+use Rattle.header.specs.Private.{is_tidy, is_tidy_hop}
+use Rattle.header.specs.Pieces.{Piece, Building, building, plain, address_piece, end_address_pieces, hop_address_piece, hop_address_pieces, with_piece, with_pieces, frame_pieces}
+use Rattle.std.specs.List.{list_any}
+use Rattle.header.proofs.Chains.{any_any_of}
 use Rattle.header.proofs.Pieces.{bytes_of, greatest, size_of, sizes, bytes_append, greatest_append, sizes_append, sizes_accepted, put_out}
-use Rattle.header.proofs.Putting.{all_put, none_left}
+use Rattle.header.proofs.Putting.{two_put, all_put, none_called}
 use Rattle.header.proofs.InRange.{untidy_hop, tidy_hop, tidy_q, tidy_count, judged_tidy, path_tidy, untidy_out, tidy_range}
 
 -- ---- refusals: the greatest is 15 where a callsign or a hop is out of range, and else the first of an address
@@ -227,19 +231,19 @@ hops_length (h ∷ l) z =
 
 -- ---- the writer's answers
 
-pub frame_put : (h : Header) (last : ℕ) (b b₁ b₂ b₃ : Building) → last ≡ up_to (is_sought false) (take h.path.count h.path.hops) → b₁ ≡ with_pieces b (end_address_pieces h.to h.from (eqb last 0)) → b₂ ≡ with_pieces b₁ (hop_address_pieces (take h.path.count h.path.hops))
-    → b₃ ≡ with_piece b₂ (plain pair) → b₃ ≡ with_pieces b (frame_pieces h)
-unfolding frame_pieces hops_of
-frame_put h last b b₁ b₂ b₃ e p =
-    let z : eqb last 0 ≡ is_none (calls_of (take h.path.count h.path.hops)) = rw e (none_left (take h.path.count h.path.hops)) in
-    all_put b b₁ b₂ b₃ (end_address_pieces h.to h.from (is_none (calls_of (hops_of h.path)))) (hop_address_pieces (hops_of h.path)) (plain pair) (p ∙ rw z)
-
 pub frame_untidy : (u : Bool) (h : Header) (r : Answer) (out : List ℕ) → u ≡ is_tidy h.path → not u ≡ true → r ≡ refused_by 15 → ends r out ≡ wrote (frame_refusal h) (header_frame h) out
 unfolding frame_refusal
 frame_untidy u h r out e t q = passed_on r 15 (frame_refusal h) (header_frame h) out q (λ z. omega arith) (rw (untidy_out h (sym e ∙ not-true u t)))
 
-pub frame_out : (u : Bool) (h : Header) (v t : List ℕ) (r n : ℕ) (w : Wrote) (out : List ℕ) → u ≡ is_tidy h.path → not u ≡ false → building r t n ≡ with_pieces (building 0 v 0) (frame_pieces h)
-    → 72 ≤ length v → w ≡ wrote r (take n t) out → w ≡ wrote (frame_refusal h) (header_frame h) out
-frame_out u h v t r n w out e k q room p =
+pub frame_out : (u : Bool) (h : Header) (v : List ℕ) (any : Bool) (b₀ b₁ b₂ b₃ b₄ : Building) (w : Wrote) (out : List ℕ) → u ≡ is_tidy h.path → not u ≡ false → 72 ≤ length v
+    → any ≡ list_any is_call (take h.path.count h.path.hops) → b₀ ≡ building 0 v 0 → b₁ ≡ with_piece b₀ (address_piece (write_address h.to Destination false))
+    → b₂ ≡ with_piece b₁ (address_piece (write_address h.from Source (not any))) → b₃ ≡ with_pieces b₂ (hop_address_pieces (take h.path.count h.path.hops)) → b₄ ≡ with_piece b₃ (plain pair)
+    → w ≡ wrote b₄.refusal (front_of b₄.array) out → w ≡ wrote (frame_refusal h) (header_frame h) out
+unfolding frame_pieces hops_of
+frame_out u h v any b₀ b₁ b₂ b₃ b₄ w out e k room a e₀ e₁ e₂ e₃ e₄ p =
     let s = judged_tidy u h.path e k in
-    put_out v t r n (frame_pieces h) q (omega (arith, frame_size h s)) w out p ∙ rw (frame_judged h s, frame_spelled h)
+    let l = hops_of h.path in
+    let last : not any ≡ is_none (calls_of l) = rw (a, any_any_of is_call l) (none_called l) in
+    let ends : b₂ ≡ with_pieces b₀ (end_address_pieces h.to h.from (is_none (calls_of l))) = two_put b₀ b₁ b₂ _ _ e₁ (rw last at e₂) in
+    let all : b₄ ≡ with_pieces b₀ (frame_pieces h) = all_put b₀ b₂ b₃ b₄ (end_address_pieces h.to h.from (is_none (calls_of l))) (hop_address_pieces l) (plain pair) ends e₃ e₄ in
+    put_out v b₄ (frame_pieces h) (all ∙ ap (λ (b : Building). with_pieces b (frame_pieces h)) e₀) (omega (arith, frame_size h s)) w out p ∙ rw (frame_judged h s, frame_spelled h)

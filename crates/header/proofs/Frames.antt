@@ -9,6 +9,7 @@ use borrow.Author.Tests.{eq-eqb, ne_eqb, lt-ltb, le-ltb}
 use borrow.Author.Rules.{part_to_end}
 use lib.Dec.{eqb}
 use lib.ListN.{length, get_or, take, drop, length-drop}
+use Rattle.std.specs.Prelude.{Result, Ok, Err}
 use Rattle.laws.specs.Lists.{every}
 use Rattle.laws.proofs.Lists.{next}
 use Rattle.callsign.specs.declared.Callsign.{Callsign}
@@ -16,12 +17,12 @@ use Rattle.callsign.specs.declared.AddressRead.{AddressRead}
 use Rattle.callsign.specs.Address.{read_address}
 use Rattle.header.specs.declared.Hop.{Hop}
 use Rattle.header.specs.declared.Path.{Path}
-use Rattle.header.specs.declared.PathRead.{PathRead}
+use Rattle.header.specs.declared.Fault.{Fault}
 use Rattle.header.specs.declared.HeaderRead.{HeaderRead}
-use Rattle.header.specs.Header.{most_bytes, Hops, refused, these, path_of, header_refused, header_accepted, unless_refused, with_hops}
+use Rattle.header.specs.Header.{most_bytes, Hops, number_of, path_of, header_refused, header_accepted, unless_refused, with_hops}
 use Rattle.header.specs.Frame.{control, protocol, starts_with_pair, frame_hops, with_pair, read_source, read_frame_header}
-use Rattle.header.specs.Private.{path_refused, frame_read}
-use Rattle.header.proofs.Walks.{InFrame, Sound, none, some, frame_sound}
+use Rattle.header.specs.Private.{frame_read}
+use Rattle.header.proofs.Walks.{InFrame, Sound, some, frame_sound}
 
 -- ---- the two bytes behind the addresses
 
@@ -58,36 +59,40 @@ module _ (from to : Callsign) (p : Path) (s : List ℕ) (r : HeaderRead) (u : Bo
 
 -- ---- the hops, of a source that is the last address or not
 
-module _ (last : Bool) (s : List ℕ) (p : PathRead) where
-  pub none_behind : (q : Path) → last ≡ true → q ≡ path_of [] → p ≡ record { path = q; stars = 0; refusal = 0 } → p ≡ frame_read (cond last (these []) (frame_hops 8 (drop 14 s)))
+module _ (last : Bool) (s : List ℕ) where
+  pub none_behind : (q : Path) → last ≡ true → q ≡ path_of [] → Ok q ≡ frame_read (cond last (Ok []) (frame_hops 8 (drop 14 s)))
   unfolding frame_read
-  none_behind q l e w = rw (l, ← e) w
+  none_behind q l e = rw (l, e)
 
-  pub some_behind : last ≡ false → p ≡ frame_read (frame_hops 8 (take (length s - 14) (drop 14 s))) → p ≡ frame_read (cond last (these []) (frame_hops 8 (drop 14 s)))
-  some_behind l e = rw l (e ∙ rw (part_to_end s 14))
+  pub some_behind : (p : Result Path Fault) → last ≡ false → p ≡ frame_read (frame_hops 8 (take (length s - 14) (drop 14 s))) → p ≡ frame_read (cond last (Ok []) (frame_hops 8 (drop 14 s)))
+  some_behind p l e = rw l (e ∙ rw (part_to_end s 14))
 
-hops_sound : (last : Bool) (s : List ℕ) → Sound InFrame 8 (cond last (these []) (frame_hops 8 s))
+hops_sound : (last : Bool) (s : List ℕ) → Sound InFrame 8 (cond last (Ok []) (frame_hops 8 s))
 unfolding every
 hops_sound true s = some [] (omega arith) refl
 hops_sound false s = frame_sound 8 s
 
-sound_count : (k : ℕ) {w : Hops} → Sound InFrame k w → (frame_read w).path.count ≤ k
-unfolding frame_read path_refused path_of
-sound_count k (none n p) = omega arith
-sound_count k (some l m q) = m
+-- what the hops come to, by what the code has of them
+by_fault : (w : Hops) (why : Fault) → Err why ≡ frame_read w → w ≡ Err why
+unfolding frame_read
+by_fault (Err f) why e = cc
+by_fault (Ok l) why e = absurd cc
 
-pub hops_count : (p : PathRead) (last : Bool) (s : List ℕ) → p ≡ frame_read (cond last (these []) (frame_hops 8 s)) → p.path.count ≤ 8
-hops_count p last s e = rw e (sound_count 8 (hops_sound last s))
+by_hops : (w : Hops) (p : Path) → Ok p ≡ frame_read w → (l : List Hop) × ((w ≡ Ok l) × (p ≡ path_of l))
+unfolding frame_read
+by_hops (Err f) p e = absurd cc
+by_hops (Ok l) p e = (l, (refl, cc))
 
-hops_refused : (w : Hops) (next : List Hop → HeaderRead) → ((frame_read w).refusal ≡ 0 → ⊥) → header_refused (frame_read w).refusal ≡ with_hops w next
-unfolding frame_read path_refused with_hops
-hops_refused (refused n) next z = refl
-hops_refused (these l) next z = absurd (z refl)
+sound_count : {l : List Hop} → Sound InFrame 8 (Ok l) → length l ≤ 8
+sound_count (some l m q) = m
 
-hops_given : (next : Path → HeaderRead) {w : Hops} → Sound InFrame 8 w → (frame_read w).refusal ≡ 0 → next (frame_read w).path ≡ with_hops w (λ l. next (path_of l))
-unfolding frame_read path_refused with_hops
-hops_given next (none n p) z = let m = p.low in absurd (omega arith)
-hops_given next (some l m q) z = refl
+pub hops_count : (r : Result Path Fault) (p : Path) (last : Bool) (s : List ℕ) → r ≡ frame_read (cond last (Ok []) (frame_hops 8 s)) → r ≡ Ok p → p.count ≤ 8
+unfolding path_of
+hops_count r p last s e z =
+    let b = by_hops (cond last (Ok []) (frame_hops 8 s)) p (sym z ∙ e) in
+    let m : length b.0 ≤ 8 = sound_count (rw b.1.0 at (hops_sound last s)) in
+    let k : p.count ≡ length b.0 = ap (λ (x : Path). x.count) b.1.1 in
+    omega arith
 
 -- ---- source and hops
 
@@ -101,18 +106,17 @@ module _ (to : Callsign) (s : List ℕ) (r : HeaderRead) where
     unfolding read_source unless_refused
     source_refused z w = rw (le-ltb (length s) 14 h, ← q, ne_eqb from.refusal 0 z) w
 
-    module _ (z : from.refusal ≡ 0) (p : PathRead) (e : p ≡ frame_read (cond from.last (these []) (frame_hops 8 (drop 14 s)))) where
-      pub source_hops_refused : (p.refusal ≡ 0 → ⊥) → r ≡ header_refused p.refusal → r ≡ read_source to s
-      unfolding read_source unless_refused
-      source_hops_refused y w =
-          rw (le-ltb (length s) 14 h, ← q, eq-eqb from.refusal 0 z)
-          (w ∙ rw e (hops_refused (cond from.last (these []) (frame_hops 8 (drop 14 s))) _ (λ x. y (ap (λ (a : PathRead). a.refusal) e ∙ x))))
+    module _ (z : from.refusal ≡ 0) (p : Result Path Fault) (e : p ≡ frame_read (cond from.last (Ok []) (frame_hops 8 (drop 14 s)))) where
+      pub source_hops_refused : (why : Fault) → p ≡ Err why → r ≡ header_refused (number_of why) → r ≡ read_source to s
+      unfolding read_source unless_refused with_hops
+      source_hops_refused why y w =
+          rw (le-ltb (length s) 14 h, ← q, eq-eqb from.refusal 0 z, by_fault (cond from.last (Ok []) (frame_hops 8 (drop 14 s))) why (sym y ∙ e)) w
 
-      pub source_hops : p.refusal ≡ 0 → r ≡ with_pair from.call to p.path s → r ≡ read_source to s
-      unfolding read_source unless_refused
-      source_hops y w =
-          rw (le-ltb (length s) 14 h, ← q, eq-eqb from.refusal 0 z)
-          (w ∙ rw e (hops_given (λ x. with_pair from.call to x s) (hops_sound from.last (drop 14 s)) (sym (ap (λ (a : PathRead). a.refusal) e) ∙ y)))
+      pub source_hops : (path : Path) → p ≡ Ok path → r ≡ with_pair from.call to path s → r ≡ read_source to s
+      unfolding read_source unless_refused with_hops
+      source_hops path y w =
+          let b = by_hops (cond from.last (Ok []) (frame_hops 8 (drop 14 s))) path (sym y ∙ e) in
+          rw (le-ltb (length s) 14 h, ← q, eq-eqb from.refusal 0 z, b.1.0) (w ∙ ap (λ (x : Path). with_pair from.call to x s) b.1.1)
 
 -- ---- the frame
 

@@ -6,27 +6,31 @@ use Prim.Native.Nat.{ℕ, suc, ◌+◌, ◌-◌, ◌<◌, ◌≤◌}
 use native.Mathlib.Omega.{arith}
 use lib.ListN.{length, take, drop, set, replicate, length-append}
 use lib.Seq.{take_at, drop_at}
+use Rattle.std.specs.Prelude.{Result, Ok, Err}
 use Rattle.laws.specs.Lists.{pad_to}
 use Rattle.laws.proofs.Lists.{pad_set}
 use Rattle.header.specs.declared.Hop.{Hop}
-use Rattle.header.specs.Header.{Hops, refused, these, before, blank_hop, path_of, hops_of}
+use Rattle.header.specs.declared.Path.{Path}
+use Rattle.header.specs.declared.StarredPath.{StarredPath}
+use Rattle.header.specs.declared.Fault.{Fault}
+use Rattle.header.specs.Header.{Hops, before, blank_hop, path_of, hops_of}
 use Rattle.header.specs.Text.{carried}
 use Rattle.header.specs.Private.{frame_read, text_read, starred_read}
 
 -- hops, and what follows them
 unfoldable pub after : List Hop → Hops → Hops
-after hs (refused n) = refused n
-after hs (these l) = these (hs ++ l)
+after hs (Err f) = Err f
+after hs (Ok l) = Ok (hs ++ l)
 
 after_none : (w : Hops) → w ≡ after [] w
 unfolding after
-after_none (refused n) = refl
-after_none (these l) = refl
+after_none (Err f) = refl
+after_none (Ok l) = refl
 
 after_one : (hs : List Hop) (h : Hop) (w : Hops) → after hs (before h w) ≡ after (hs ++ h ∷ []) w
 unfolding after before
-after_one hs h (refused n) = refl
-after_one hs h (these l) = ap these (sym (append_assoc hs (h ∷ []) l))
+after_one hs h (Err f) = refl
+after_one hs h (Ok l) = ap {B = Hops} (λ x. Ok x) (sym (append_assoc hs (h ∷ []) l))
 
 pub length_carried : (l : List Hop) → length (carried l) ≡ length l
 unfolding carried
@@ -70,20 +74,20 @@ module _ (whole rest : Hops) (hops : List Hop) (n : ℕ) (g : Going whole rest h
         agrees = g.agrees ∙ rw e (after_one g.done h later);
       }
 
-  pub going_refused : (k : ℕ) → rest ≡ refused k → whole ≡ refused k
+  pub going_refused : (f : Fault) → rest ≡ Err f → whole ≡ Err f
   unfolding after
-  going_refused k e = g.agrees ∙ rw e
+  going_refused f e = g.agrees ∙ rw e
 
-  module _ (e : rest ≡ these []) where
-    all : whole ≡ these g.done
+  module _ (e : rest ≡ Ok []) where
+    all : whole ≡ Ok g.done
     unfolding after
-    all = g.agrees ∙ rw e (ap these (append-nil g.done))
+    all = g.agrees ∙ rw e (ap {B = Hops} (λ x. Ok x) (append-nil g.done))
 
     -- the array and the count are the path of the hops done
-    pub going_done : record { path = record { hops = hops; count = n }; stars = 0; refusal = 0 } ≡ frame_read whole
+    pub going_done : ◌≡◌ {A = Result Path Fault} (Ok (record { count = n; hops = hops })) (frame_read whole)
     unfolding frame_read path_of
     going_done = rw (all, g.held, g.count)
 
-    pub going_carried : starred_read hops n ≡ text_read whole
+    pub going_carried : ◌≡◌ {A = Result StarredPath Fault} (Ok (starred_read (record { count = n; hops = hops }))) (text_read whole)
     unfolding text_read path_of
     going_carried = rw (all, g.held, ← g.count, padded_carried g.done, length_carried g.done, padded_front g.done)

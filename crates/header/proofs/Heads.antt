@@ -8,6 +8,7 @@ use native.Mathlib.Omega.{arith}
 use borrow.Author.Tests.{eq-eqb, ne_eqb}
 use borrow.Author.Rules.{part_to_end}
 use lib.ListN.{length, take, drop}
+use Rattle.std.specs.Prelude.{Result, Ok, Err}
 use Rattle.laws.specs.Bytes.{comma, colon, greater}
 use Rattle.laws.specs.Lists.{index_of}
 use Rattle.laws.proofs.Places.{index_le}
@@ -16,12 +17,12 @@ use Rattle.callsign.specs.declared.CallRead.{CallRead}
 use Rattle.callsign.specs.Text.{read_text}
 use Rattle.header.specs.declared.Hop.{Hop}
 use Rattle.header.specs.declared.Path.{Path}
-use Rattle.header.specs.declared.PathRead.{PathRead}
+use Rattle.header.specs.declared.StarredPath.{StarredPath}
+use Rattle.header.specs.declared.Fault.{Fault}
 use Rattle.header.specs.declared.HeaderRead.{HeaderRead}
-use Rattle.header.specs.Header.{Hops, refused, these, path_of, header_refused, header_accepted, unless_refused, with_hops}
+use Rattle.header.specs.Header.{Hops, number_of, path_of, header_refused, header_accepted, unless_refused, with_hops}
 use Rattle.header.specs.Text.{fields, first_of, others_of, text_hops, stars_of, carried, read_route, read_before, read_header_text}
-use Rattle.header.specs.Private.{path_refused, text_read}
-use Rattle.header.proofs.Walks.{InText, Sound, none, some, text_sound}
+use Rattle.header.specs.Private.{text_read}
 use Rattle.header.proofs.TextHops.{fields_one, fields_two, fields_some, no_parts}
 
 rest_at : (t : List ℕ) (d : ℕ) → take (length t - (d + 1)) (drop (d + 1) t) ≡ drop (suc d) t
@@ -33,21 +34,20 @@ first_part : (t : List ℕ) → first_of (fields t) ≡ take (index_of comma t) 
 unfolding first_of
 first_part t = let p = fields_some t in rw p.1
 
-none_after : (t : List ℕ) → index_of comma t ≡ length t → text_hops 8 (others_of (fields t)) ≡ these []
+none_after : (t : List ℕ) → index_of comma t ≡ length t → text_hops 8 (others_of (fields t)) ≡ Ok []
 unfolding others_of
 none_after t e = rw (fields_one t e, no_parts 8)
 
 -- what the hops come to, by what the code has of them
-hops_refused : (w : Hops) (next : List Hop → HeaderRead) → ((text_read w).refusal ≡ 0 → ⊥) → header_refused (text_read w).refusal ≡ with_hops w next
-unfolding text_read path_refused with_hops
-hops_refused (refused n) next z = refl
-hops_refused (these l) next z = absurd (z refl)
+by_fault : (w : Hops) (why : Fault) → Err why ≡ text_read w → w ≡ Err why
+unfolding text_read
+by_fault (Err f) why e = cc
+by_fault (Ok l) why e = absurd cc
 
-hops_given : (from to : Callsign) (body : ℕ) {w : Hops} → Sound InText 8 w → (text_read w).refusal ≡ 0
-    → header_accepted from to (text_read w).path body (text_read w).stars ≡ with_hops w (λ l. header_accepted from to (path_of (carried l)) body (stars_of l))
-unfolding text_read path_refused with_hops
-hops_given from to body (none n p) z = let m = p.low in absurd (omega arith)
-hops_given from to body (some l m q) z = refl
+by_hops : (w : Hops) (p : StarredPath) → Ok p ≡ text_read w → (l : List Hop) × ((w ≡ Ok l) × (p ≡ record { path = path_of (carried l); stars = stars_of l }))
+unfolding text_read
+by_hops (Err f) p e = absurd cc
+by_hops (Ok l) p e = (l, (refl, cc))
 
 module _ (from : Callsign) (t : List ℕ) (body d : ℕ) (to : CallRead) (r : HeaderRead) (f : d ≡ index_of comma t) (q : to ≡ read_text (take d t)) where
   its_to : read_text (first_of (fields t)) ≡ to
@@ -62,7 +62,7 @@ module _ (from : Callsign) (t : List ℕ) (body d : ℕ) (to : CallRead) (r : He
     unfolding read_route unless_refused with_hops carried stars_of
     to_alone p l e w = rw (its_to, eq-eqb to.refusal 0 z, none_after t (sym f ∙ l), ← e) w
 
-    module _ (p : PathRead) (l : d ≡ length t → ⊥) (e : p ≡ text_read (text_hops 8 (fields (take (length t - (d + 1)) (drop (d + 1) t))))) where
+    module _ (p : Result StarredPath Fault) (l : d ≡ length t → ⊥) (e : p ≡ text_read (text_hops 8 (fields (take (length t - (d + 1)) (drop (d + 1) t))))) where
       others : others_of (fields t) ≡ fields (take (length t - (d + 1)) (drop (d + 1) t))
       unfolding others_of
       others =
@@ -72,15 +72,15 @@ module _ (from : Callsign) (t : List ℕ) (body d : ℕ) (to : CallRead) (r : He
       hops_are : p ≡ text_read (text_hops 8 (others_of (fields t)))
       hops_are = e ∙ rw others
 
-      pub to_hops_refused : (p.refusal ≡ 0 → ⊥) → r ≡ header_refused p.refusal → r ≡ read_route from t body
-      unfolding read_route unless_refused
-      to_hops_refused y w = rw (its_to, eq-eqb to.refusal 0 z) (w ∙ rw hops_are (hops_refused (text_hops 8 (others_of (fields t))) _ (λ x. y (ap (λ (q : PathRead). q.refusal) hops_are ∙ x))))
+      pub to_hops_refused : (why : Fault) → p ≡ Err why → r ≡ header_refused (number_of why) → r ≡ read_route from t body
+      unfolding read_route unless_refused with_hops
+      to_hops_refused why y w = rw (its_to, eq-eqb to.refusal 0 z, by_fault (text_hops 8 (others_of (fields t))) why (sym y ∙ hops_are)) w
 
-      pub to_hops : p.refusal ≡ 0 → r ≡ header_accepted from to.call p.path body p.stars → r ≡ read_route from t body
-      unfolding read_route unless_refused
-      to_hops y w =
-          rw (its_to, eq-eqb to.refusal 0 z)
-          (w ∙ rw hops_are (hops_given from to.call body (text_sound 8 (others_of (fields t))) (sym (ap (λ (q : PathRead). q.refusal) hops_are) ∙ y)))
+      pub to_hops : (hops : StarredPath) → p ≡ Ok hops → r ≡ header_accepted from to.call hops.path body hops.stars → r ≡ read_route from t body
+      unfolding read_route unless_refused with_hops
+      to_hops hops y w =
+          let b = by_hops (text_hops 8 (others_of (fields t))) hops (sym y ∙ hops_are) in
+          rw (its_to, eq-eqb to.refusal 0 z, b.1.0) (w ∙ ap (λ (x : StarredPath). header_accepted from to.call x.path body x.stars) b.1.1)
 
 -- ---- source
 

@@ -3,14 +3,15 @@
 use mathlib.Core.Path.{◌≡◌, refl, sym, ap, ◌∙◌}
 use mathlib.Core.Bool.{Bool, true, false, not, cond, ◌&&◌, ◌||◌, false≢true}
 use mathlib.Core.List.{List, [], ◌∷◌}
-use Prim.Native.Nat.{ℕ, suc, ◌<◌, ◌≤◌}
+use Prim.Native.Nat.{ℕ, suc, ◌≤◌}
 use native.Mathlib.Omega.{arith}
 use mir.Val.{bool_byte}
 use lib.Dec.{eqb, leb}
-use borrow.Author.Tests.{ne_eqb, eqb-true, leb-true}
+use borrow.Author.Tests.{ne_eqb, eqb-true, eqb-false, leb-true}
 use lib.ListN.{length, get_or}
-use Rattle.laws.specs.Bytes.{capital_a, capital_c, capital_i, capital_o, capital_r, capital_s, capital_u, capital_x, capital_z, small_o, small_q, small_r, within}
-use Rattle.laws.specs.Lists.{every, any_of, same_bytes}
+use Rattle.std.specs.Prelude.{Option, Some, None, Result, Ok, Err}
+use Rattle.laws.specs.Bytes.{capital_a, small_q, within}
+use Rattle.laws.specs.Lists.{every, any_of}
 use Rattle.laws.proofs.Among.{among_holds}
 use Rattle.laws.proofs.Tests.{and_first, and_second}
 use Rattle.callsign.specs.declared.Callsign.{Callsign}
@@ -20,8 +21,9 @@ use Rattle.callsign.proofs.Ranges.{utf8_none, zero_none}
 use Rattle.callsign.proofs.Made.{made_written, made_range}
 use Rattle.header.specs.declared.Hop.{Hop}
 use Rattle.header.specs.Hop.{q_names, is_q_name, not_heard, was_heard, q_element, heard_as, call_hop, q_hop, is_heard, is_q_element, is_call, calls_of, heard_if, any_heard}
-use Rattle.header.specs.declared.HopRead.{HopRead}
-use Rattle.header.specs.Text.{starts_q, hop_refused, hop_named, hop_of, read_hop}
+use Rattle.header.specs.declared.Fault.{Fault}
+use Rattle.header.specs.declared.Fault.TheVariants.{Call, OddName}
+use Rattle.header.specs.Text.{starts_q, hop_named, hop_of, read_hop}
 use Rattle.header.specs.Range.{is_some_hop, hop_in_range}
 
 -- ---- numbers
@@ -146,43 +148,62 @@ starts_as (x ∷ y ∷ z ∷ u ∷ t) e =
     let n : eqb (length (x ∷ y ∷ z ∷ u ∷ t)) 3 ≡ false = ne_eqb (length (x ∷ y ∷ z ∷ u ∷ t)) 3 (λ z. omega arith) in
     absurd (false≢true (sym (rw n) ∙ e))
 
--- ---- the tests, as the code makes them
+-- a part that does not start so
+pub call_read : (t : List ℕ) → starts_q t ≡ false → read_hop t ≡ hop_of (read_text t)
+unfolding read_hop
+call_read t s = rw s
 
-pub third_letters : (c : ℕ) → (eqb c capital_c || eqb c capital_x || eqb c capital_u || eqb c small_o || eqb c capital_o || eqb c capital_s || eqb c small_r || eqb c capital_r || eqb c capital_z || eqb c capital_i) ≡ is_q_name (small_q ∷ capital_a ∷ c ∷ [])
-unfolding is_q_name any_of same_bytes
-third_letters c = go (eqb c capital_c) (eqb c capital_x) (eqb c capital_u) (eqb c small_o) (eqb c capital_o) (eqb c capital_s) (eqb c small_r) (eqb c capital_r) (eqb c capital_z) (eqb c capital_i)
+-- what a part can be
+pub data Part (t : List ℕ) : Result Hop Fault → Type 0 where
+  name : is_q_name t ≡ true → Part t (Ok (q_hop t))
+  odd : Part t (Err OddName)
+  call : (read_text t).refusal ≡ 0 → Part t (Ok (call_hop (read_text t).call (read_text t).starred))
+  bad : ((read_text t).refusal ≡ 0 → ⊥) → Part t (Err (Call (read_text t).refusal))
+
+pub part_read : (t : List ℕ) → Part t (read_hop t)
+unfolding read_hop hop_named hop_of
+part_read t = go (starts_q t) (is_q_name t) refl (eqb (read_text t).refusal 0) refl
   where
-    go : (a b c d e f g h i j : Bool) → (a || b || c || d || e || f || g || h || i || j) ≡ ((a && true) || ((b && true) || ((c && true) || ((d && true) || ((e && true) || ((f && true) || ((g && true) || ((h && true) || ((i && true) || ((j && true) || false))))))))))
-    go true b c d e f g h i j = refl
-    go false true c d e f g h i j = refl
-    go false false true d e f g h i j = refl
-    go false false false true e f g h i j = refl
-    go false false false false true f g h i j = refl
-    go false false false false false true g h i j = refl
-    go false false false false false false true h i j = refl
-    go false false false false false false false true i j = refl
-    go false false false false false false false false true j = refl
-    go false false false false false false false false false true = refl
-    go false false false false false false false false false false = refl
+    go : (s n : Bool) → is_q_name t ≡ n → (z : Bool) → eqb (read_text t).refusal 0 ≡ z
+        → Part t (cond s (cond n (Ok (q_hop t)) (Err OddName)) (cond z (Ok (call_hop (read_text t).call (read_text t).starred)) (Err (Call (read_text t).refusal))))
+    go true true e z f = name e
+    go true false e z f = odd
+    go false n e true f = call (eqb-true (read_text t).refusal 0 f)
+    go false n e false f = bad (eqb-false (read_text t).refusal 0 f)
 
-module _ (u : Bool) (t : List ℕ) (e : u ≡ starts_q t) where
-  pub third_there : u ≡ true → 2 < length t
-  third_there s = rw (starts_as t (sym e ∙ s)) (omega arith)
+-- the third letter, where the first two are `qA`
+module _ (t : List ℕ) (o : Option ℕ) (e : o ≡ cond (starts_q t) (Some (get_or t 2 0)) None) where
+  module _ (c : ℕ) (s : o ≡ Some c) where
+    starts : (starts_q t ≡ true) × (c ≡ get_or t 2 0)
+    starts = go (starts_q t) (sym s ∙ e)
+      where
+        go : (k : Bool) → Some c ≡ cond k (Some (get_or t 2 0)) None → (k ≡ true) × (c ≡ get_or t 2 0)
+        go true q = (refl, cc)
+        go false q = absurd cc
 
-  pub name_by_third : (r : Bool) → u ≡ true → r ≡ is_q_name (small_q ∷ capital_a ∷ get_or t 2 0 ∷ []) → r ≡ is_q_name t
-  name_by_third r s q = q ∙ ap is_q_name (sym (starts_as t (sym e ∙ s)))
+    whole : small_q ∷ capital_a ∷ c ∷ [] ≡ t
+    whole = rw starts.1 (sym (starts_as t starts.0))
 
-  pub name_by_start : u ≡ false → false ≡ is_q_name t
-  name_by_start s = sym (no_name t (sym e ∙ s))
+    pub name_by_third : (r : Bool) → r ≡ is_q_name (small_q ∷ capital_a ∷ c ∷ []) → r ≡ is_q_name t
+    name_by_third r q = q ∙ ap is_q_name whole
 
-  pub hop_by_third : (r : HopRead) → u ≡ true
-      → r ≡ cond (is_q_name (small_q ∷ capital_a ∷ get_or t 2 0 ∷ [])) (hop_named (small_q ∷ capital_a ∷ get_or t 2 0 ∷ [])) (hop_refused 6) → r ≡ read_hop t
-  unfolding read_hop
-  hop_by_third r s q = q ∙ ap (λ (k : List ℕ). cond (is_q_name k) (hop_named k) (hop_refused 6)) (sym (starts_as t (sym e ∙ s))) ∙ rw (← e, s)
+    pub hop_by_third : (r : Result Hop Fault) → r ≡ cond (is_q_name (small_q ∷ capital_a ∷ c ∷ [])) (hop_named (small_q ∷ capital_a ∷ c ∷ [])) (Err OddName) → r ≡ read_hop t
+    unfolding read_hop
+    hop_by_third r q = q ∙ ap (λ (k : List ℕ). cond (is_q_name k) (hop_named k) (Err OddName)) whole ∙ rw starts.0
 
-  pub hop_by_call : (r : HopRead) → u ≡ false → r ≡ hop_of (read_text t) → r ≡ read_hop t
-  unfolding read_hop
-  hop_by_call r s q = q ∙ rw (← e, s)
+  module _ (s : o ≡ None) where
+    other : starts_q t ≡ false
+    other = go (starts_q t) (sym s ∙ e)
+      where
+        go : (k : Bool) → None ≡ cond k (Some (get_or t 2 0)) None → k ≡ false
+        go true q = absurd cc
+        go false q = refl
+
+    pub name_by_start : false ≡ is_q_name t
+    name_by_start = sym (no_name t other)
+
+    pub hop_by_call : (r : Result Hop Fault) → r ≡ hop_of (read_text t) → r ≡ read_hop t
+    hop_by_call r q = q ∙ sym (call_read t other)
 
 -- the hop of a name is in range
 pub name_range : (t : List ℕ) → is_q_name t ≡ true → hop_in_range (q_hop t) ≡ true

@@ -1,14 +1,15 @@
 -- What a header in range gives, and what is left to judge of one whose path is tidy: its callsigns and hops.
 -- Assumes nothing.
 use mathlib.Core.Path.{◌≡◌, refl, sym, ◌∙◌}
-use mathlib.Core.Bool.{Bool, true, false, not, cond, ◌&&◌, and-true, and-false, false≢true}
-use Prim.Native.Nat.{ℕ, ◌≤◌, min}
+use mathlib.Core.Bool.{Bool, true, false, not, cond, ◌&&◌, and-true, false≢true}
+use Prim.Native.Nat.{ℕ, ◌-◌, ◌≤◌, min}
 use native.Mathlib.Omega.{arith}
 use lib.Dec.{leb}
-use borrow.Author.Tests.{eq-eqb, leb-true, not-true, not-false}
-use lib.ListN.{length, take, drop, length-take}
+use borrow.Author.Tests.{eq-eqb, le-leb, leb-true, not-false}
+use lib.ListN.{length, take, drop, length-take, length-drop}
+use lib.Seq.{take_all}
+use Rattle.std.specs.List.{list_all}
 use Rattle.laws.specs.Lists.{every}
-use Rattle.laws.proofs.Lists.{part_length}
 use Rattle.laws.proofs.Tests.{and_first, and_second}
 use Rattle.callsign.specs.declared.Callsign.{Callsign}
 use Rattle.callsign.specs.Range.{text_len, in_range, text_of}
@@ -20,6 +21,7 @@ use Rattle.header.specs.Hop.{is_q_name, was_heard, q_element, is_q_element, call
 use Rattle.header.specs.Header.{hops_of}
 use Rattle.header.specs.Range.{is_some_hop, hop_in_range, is_blank, path_in_range, header_in_range}
 use Rattle.header.specs.Private.{is_tidy_hop, is_tidy}
+use Rattle.header.proofs.Chains.{all_every}
 use Rattle.header.proofs.Hops.{calls_few}
 
 -- ---- a hop
@@ -56,21 +58,11 @@ module _ (h : Hop) where
 
 -- ---- a Q element, where the code has judged its callsign
 
-pub unnamed : (c : Callsign) (u : Bool) → u ≡ in_range c → not u ≡ true → false ≡ (is_q_name (text_of c) && in_range c)
-unnamed c u e n = rw (← e, not-true u n) (sym (and-false (is_q_name (text_of c))))
-
 pub named : (c : Callsign) (u : Bool) (n : ℕ) (r : Bool) → u ≡ in_range c → not u ≡ false → length c.text ≡ 16 → n ≡ min (text_len c) 16 → r ≡ is_q_name (take n c.text) → r ≡ (is_q_name (text_of c) && in_range c)
 named c u n r e k long q t =
     let i : in_range c ≡ true = found_in_range c u e k in
     let m : text_len c ≡ n = omega (arith, (from_range c i).size) in
     t ∙ rw (i, text_in_use c i long, m) (sym (and-true (is_q_name (take n c.text))))
-
--- the part of the text in use
-pub in_use_within : (c : Callsign) (n : ℕ) → n ≡ min (text_len c) 16 → length c.text ≡ 16 → n ≤ length c.text
-in_use_within c n e long = omega arith
-
-pub in_use_long : (c : Callsign) (n : ℕ) → n ≡ min (text_len c) 16 → length c.text ≡ 16 → n ≡ length (take n c.text)
-in_use_long c n e long = part_length c.text n (in_use_within c n e long)
 
 pub q_in_range : (h : Hop) (r : Bool) → h.kind ≡ q_element → r ≡ (is_q_name (text_of h.call) && in_range h.call) → r ≡ is_tidy_hop h
 unfolding is_tidy_hop hop_in_range is_some_hop is_q_element
@@ -93,6 +85,13 @@ module _ (p : Path) where
       go true false true = refl
       go true false false = refl
       go false b d = refl
+
+-- what the code has of the spare hops, as a part of the array
+pub tidy_by : (p : Path) (r : Bool) → length p.hops ≡ 8 → p.count ≤ 8 → r ≡ list_all is_blank (take (8 - p.count) (drop p.count p.hops)) → r ≡ is_tidy p
+unfolding is_tidy
+tidy_by p r f m e =
+    let k : length (drop p.count p.hops) ≤ 8 - p.count = simp length-drop (omega arith) in
+    e ∙ rw (le-leb p.count 8 m, take_all (8 - p.count) (drop p.count p.hops) k) (all_every is_blank (drop p.count p.hops))
 
 -- ---- the same where the code has made the test
 

@@ -10,6 +10,7 @@ use lib.Dec.{eqb, ltb}
 use borrow.Author.Tests.{eqb-true, eqb-false}
 use lib.ListN.{length, take, drop, length-append}
 use lib.Seq.{take_at, append_snoc, length-take-le}
+use Rattle.std.specs.Prelude.{Result, Ok, Err}
 use Rattle.laws.specs.Bytes.{comma, colon, greater}
 use Rattle.laws.specs.Lists.{index_of}
 use Rattle.laws.proofs.Places.{index_split, index_le}
@@ -20,12 +21,14 @@ use Rattle.callsign.specs.Range.{with_star}
 use Rattle.callsign.proofs.TextBack.{with_zero, typed_text, as_read, bare_written}
 use Rattle.callsign.proofs.Theorems.{text_is_kept}
 use Rattle.header.specs.declared.Hop.{Hop}
+use Rattle.header.specs.declared.Fault.{Fault}
+use Rattle.header.specs.declared.Fault.TheVariants.{NinthHop}
 use Rattle.header.specs.declared.Header.{Header}
 use Rattle.header.specs.declared.HeaderRead.{HeaderRead}
-use Rattle.header.specs.Hop.{is_q_name, call_hop, q_hop, is_heard, any_heard, heard_if}
-use Rattle.header.specs.Header.{most_bytes, Hops, refused, these, before, path_of, hops_of, header_of, header_refused, header_accepted, unless_refused, with_hops}
-use Rattle.header.specs.Text.{on_first, fields, first_of, others_of, starts_q, hop_refused, hop_named, hop_of, read_hop, hop_then, text_hops, stars_of, carried, read_route, read_before, read_header_text, read_text_header}
-use Rattle.header.proofs.Hops.{call_heard, heard_is_call, if_heard, if_twice}
+use Rattle.header.specs.Hop.{call_hop, q_hop, is_heard, any_heard, heard_if}
+use Rattle.header.specs.Header.{most_bytes, Hops, number_of, before, path_of, hops_of, header_of, header_refused, header_accepted, unless_refused, with_hops}
+use Rattle.header.specs.Text.{on_first, fields, first_of, others_of, read_hop, hop_then, text_hops, stars_of, carried, read_route, read_before, read_header_text, read_text_header}
+use Rattle.header.proofs.Hops.{Part, name, odd, call, bad, part_read, call_heard, heard_is_call, if_heard, if_twice}
 use Rattle.header.proofs.Typed.{lowest, others}
 use Rattle.header.proofs.Stars.{each_text}
 use Rattle.header.proofs.Going.{path_hops}
@@ -85,33 +88,32 @@ name_typed : (t : List ℕ) → with_star (typed_text (q_hop t).call) (is_heard 
 unfolding q_hop is_heard with_star typed_text with_zero made
 name_typed t = bare_written t
 
-pub hop_typed : (t : List ℕ) → (read_hop t).refusal ≡ 0 → with_star (typed_text (read_hop t).hop.call) (is_heard (read_hop t).hop) ≡ t
-unfolding read_hop hop_refused hop_named hop_of as_read
-hop_typed t = go (starts_q t) (is_q_name t)
-  where
-    go : (b n : Bool) → (cond b (cond n (hop_named t) (hop_refused 6)) (hop_of (read_text t))).refusal ≡ 0
-        → with_star (typed_text (cond b (cond n (hop_named t) (hop_refused 6)) (hop_of (read_text t))).hop.call) (is_heard (cond b (cond n (hop_named t) (hop_refused 6)) (hop_of (read_text t))).hop) ≡ t
-    go true true z = name_typed t
-    go true false z = absurd (omega arith)
-    go false n z = rw (call_heard (read_text t).call (read_text t).starred) (unfold call_hop in text_is_kept t z)
+pub hop_typed : (t : List ℕ) (h : Hop) → Part t (Ok h) → with_star (typed_text h.call) (is_heard h) ≡ t
+hop_typed t h (name n) = name_typed t
+hop_typed t h (call z) = rw (call_heard (read_text t).call (read_text t).starred) (unfold call_hop as_read in text_is_kept t z)
+
+hop_fault : (t : List ℕ) (f : Fault) → Part t (Err f) → number_of f ≡ 0 → ⊥
+hop_fault t f odd z = omega arith
+hop_fault t f (bad y) z = y z
 
 -- refused, or hops that are typed as the parts are
 data Typed (fs : List (List ℕ)) : Hops → Type 0 where
-  none : (n : ℕ) → (n ≡ 0 → ⊥) → Typed fs (refused n)
-  some : (l : List Hop) → after_commas fs ≡ each_text typed_text l → Typed fs (these l)
+  none : (f : Fault) → (number_of f ≡ 0 → ⊥) → Typed fs (Err f)
+  some : (l : List Hop) → after_commas fs ≡ each_text typed_text l → Typed fs (Ok l)
+
+then_typed : (t : List ℕ) (ts : List (List ℕ)) (r : Result Hop Fault) {w : Hops} → Part t r → Typed ts w → Typed (t ∷ ts) (hop_then r w)
+unfolding hop_then before after_commas each_text
+then_typed t ts (Err f) p w = none f (hop_fault t f p)
+then_typed t ts (Ok h) p (none f z) = none f z
+then_typed t ts (Ok h) p (some l q) =
+    some (h ∷ l) (ap {B = List ℕ} (λ f. comma ∷ (f ++ after_commas ts)) (sym (hop_typed t h p)) ∙ ap {B = List ℕ} (λ v. comma ∷ (with_star (typed_text h.call) (is_heard h) ++ v)) q)
 
 hops_typed : (k : ℕ) (fs : List (List ℕ)) → Typed fs (text_hops k fs)
-unfolding text_hops hop_then before after_commas each_text
+unfolding text_hops after_commas each_text
 hops_typed zero [] = some [] refl
 hops_typed (suc k) [] = some [] refl
-hops_typed zero (t ∷ ts) = none 5 (λ e. omega arith)
-hops_typed (suc k) (t ∷ ts) = go (eqb (read_hop t).refusal 0) refl (hops_typed k ts)
-  where
-    go : (b : Bool) → eqb (read_hop t).refusal 0 ≡ b → {w : Hops} → Typed ts w → Typed (t ∷ ts) (cond b (before (read_hop t).hop w) (refused (read_hop t).refusal))
-    go true e (none n z) = none n z
-    go true e (some l q) =
-        some ((read_hop t).hop ∷ l) (ap {B = List ℕ} (λ f. comma ∷ (f ++ after_commas ts)) (sym (hop_typed t (eqb-true (read_hop t).refusal 0 e))) ∙ ap {B = List ℕ} (λ v. comma ∷ (with_star (typed_text (read_hop t).hop.call) (is_heard (read_hop t).hop) ++ v)) q)
-    go false e w = none (read_hop t).refusal (eqb-false (read_hop t).refusal 0 e)
+hops_typed zero (t ∷ ts) = none NinthHop (λ e. omega arith)
+hops_typed (suc k) (t ∷ ts) = then_typed t ts (read_hop t) (part_read t) (hops_typed k ts)
 
 -- ---- what stands before the colon
 
@@ -119,7 +121,7 @@ hops_typed (suc k) (t ∷ ts) = go (eqb (read_hop t).refusal 0) refl (hops_typed
 pub record PathTyped (h : Header) : Type 0 where
   pub text : List ℕ
   pub typed : List Hop
-  pub read : text_hops 8 (others_of (fields text)) ≡ these typed
+  pub read : text_hops 8 (others_of (fields text)) ≡ Ok typed
   pub path : hops_of h.path ≡ carried typed
 
 -- the stars that were behind source and destination, the place of the body, the text, and its hops

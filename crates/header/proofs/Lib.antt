@@ -1,7 +1,7 @@
+pub mod Chains
 pub mod Hops
 pub mod Typed
 pub mod Stars
-pub mod Last
 pub mod Going
 pub mod Walks
 pub mod TextHops

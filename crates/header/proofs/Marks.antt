@@ -15,11 +15,14 @@ use Rattle.callsign.specs.Text.{marked_as, blank_call}
 use Rattle.callsign.specs.Address.{read_address}
 use Rattle.callsign.proofs.Marks.{mark_in_range, mark_of_blank, mark_in_text, mark_in_address, unmarked_call, unmarked_made, unmarked_address}
 use Rattle.header.specs.declared.Hop.{Hop}
+use Rattle.header.specs.declared.Fault.{Fault}
+use Rattle.header.specs.declared.Fault.TheVariants.{Incomplete, Call, NinthHop}
+use Rattle.std.specs.Prelude.{Ok, Err}
 use Rattle.header.specs.declared.Path.{Path}
 use Rattle.header.specs.declared.Header.{Header}
 use Rattle.header.specs.declared.HeaderRead.{HeaderRead}
 use Rattle.header.specs.Hop.{not_heard, call_hop, is_heard, is_q_element, calls_of, any_heard}
-use Rattle.header.specs.Header.{most_bytes, Hops, refused, these, before, blank_hop, path_of, hops_of, header_of, blank_header, header_refused, header_accepted, unless_refused, with_hops}
+use Rattle.header.specs.Header.{most_bytes, Hops, number_of, before, blank_hop, path_of, hops_of, header_of, blank_header, header_refused, header_accepted, unless_refused, with_hops}
 use Rattle.header.specs.Text.{hops_text, route_text, header_text}
 use Rattle.header.specs.Frame.{starts_with_pair, address_hop, address_then, frame_hops, with_pair, read_source, read_frame_header, is_none, hop_addresses, addresses, header_frame}
 use Rattle.header.specs.Range.{is_some_hop, hop_in_range, is_blank, is_blank_header, path_in_range, header_in_range, text_refusal, frame_refusal}
@@ -129,8 +132,8 @@ twice_unmarked h = rw (map-map unmarked_hop unmarked_hop h.path.hops)
 
 -- refused, or hops without a mark
 data Unmarked : Hops → Type 0 where
-  none : (n : ℕ) → Unmarked (refused n)
-  some : (l : List Hop) → map unmarked_hop l ≡ l → Unmarked (these l)
+  none : (f : Fault) → Unmarked (Err f)
+  some : (l : List Hop) → map unmarked_hop l ≡ l → Unmarked (Ok l)
 
 either_hops : (b : Bool) {x y : Hops} → Unmarked x → Unmarked y → Unmarked (cond b x y)
 either_hops true p q = p
@@ -138,7 +141,7 @@ either_hops false p q = q
 
 hop_in_front : (h : Hop) {w : Hops} → unmarked_hop h ≡ h → Unmarked w → Unmarked (before h w)
 unfolding before
-hop_in_front h e (none n) = none n
+hop_in_front h e (none f) = none f
 hop_in_front h e (some l q) = some (h ∷ l) (rw (e, q))
 
 address_hop_lem : (s : List ℕ) → unmarked_hop (address_hop (read_address s)) ≡ address_hop (read_address s)
@@ -147,11 +150,11 @@ address_hop_lem s = rw (unmarked_address s)
 
 frame_hops_lem : (k : ℕ) (s : List ℕ) → Unmarked (frame_hops k s)
 unfolding frame_hops address_then
-frame_hops_lem zero s = none 5
+frame_hops_lem zero s = none NinthHop
 frame_hops_lem (suc k) s =
     let a = read_address (take 7 s) in
-    either_hops (ltb (length s) 7) (none 2)
-    (either_hops (eqb a.refusal 0) (hop_in_front (address_hop a) (address_hop_lem (take 7 s)) (either_hops a.last (some [] refl) (frame_hops_lem k (drop 7 s)))) (none a.refusal))
+    either_hops (ltb (length s) 7) (none Incomplete)
+    (either_hops (eqb a.refusal 0) (hop_in_front (address_hop a) (address_hop_lem (take 7 s)) (either_hops a.last (some [] refl) (frame_hops_lem k (drop 7 s)))) (none (Call a.refusal)))
 
 -- a header that was read has no mark
 record Bare (r : HeaderRead) : Type 0 where
@@ -179,7 +182,7 @@ refused_bare n = record { same = (accepted_bare blank_call blank_call [] 0 0 (un
 
 pair_bare : (from to : Callsign) (s : List ℕ) {w : Hops} → unmarked_call from ≡ from → unmarked_call to ≡ to → Unmarked w → Bare (with_hops w (λ l. with_pair from to (path_of l) s))
 unfolding with_hops with_pair
-pair_bare from to s f t (none n) = refused_bare n
+pair_bare from to s f t (none why) = refused_bare (number_of why)
 pair_bare from to s f t (some l e) =
     either_bare (starts_with_pair (drop (14 + 7 * (path_of l).count) s)) (accepted_bare from to l (14 + 7 * (path_of l).count + 2) 0 f t e) (refused_bare 2)
 

@@ -23,11 +23,13 @@ use Rattle.callsign.proofs.TextBack.{with_zero, typed_text, bare_written}
 use Rattle.callsign.proofs.TextAgain.{ends_in_star}
 use Rattle.callsign.proofs.Theorems.{text_reads_back}
 use Rattle.header.specs.declared.Hop.{Hop}
+use Rattle.header.specs.declared.Fault.{Fault}
+use Rattle.std.specs.Prelude.{Result, Ok, Err}
 use Rattle.header.specs.Hop.{is_q_name, call_hop, q_hop, is_heard, is_q_element, any_heard, heard_if}
 use Rattle.header.specs.declared.Header.{Header}
-use Rattle.header.specs.Header.{Hops, refused, these, before, hops_of}
-use Rattle.header.specs.Text.{on_first, fields, others_of, starts_q, hop_refused, hop_named, hop_of, read_hop, hop_then, text_hops, carried, hops_text}
-use Rattle.header.proofs.Hops.{call_heard, call_is_call, if_twice, hop_by_call}
+use Rattle.header.specs.Header.{Hops, before, hops_of}
+use Rattle.header.specs.Text.{on_first, fields, others_of, starts_q, hop_named, hop_of, read_hop, hop_then, text_hops, carried, hops_text}
+use Rattle.header.proofs.Hops.{Part, name, call, part_read, name_starts, call_heard, call_is_call, if_twice, call_read}
 use Rattle.header.proofs.Stars.{starred_last, each_text, written_stars, carried_starred, carried_twice}
 use Rattle.header.proofs.TextHops.{fields_one, fields_two, fields_some, no_parts}
 use Rattle.header.proofs.Kept.{hop_typed, PathTyped}
@@ -54,14 +56,14 @@ module _ (c : Callsign) (b : Bool) where
   apart e = or_neither (starts_q (with_star (text_of c) b)) (ends_in_star (text_of c)) (not-true (starts_q (with_star (text_of c) b) || ends_in_star (text_of c)) (rw (call_is_call c b, spelled_call) at e))
 
 call_again : (t : List ℕ) (b : Bool) → (read_text t).refusal ≡ 0 → reads_alike (call_hop (read_text t).call b) ≡ true
-    → read_hop (spelled (call_hop (read_text t).call b)) ≡ record { refusal = 0; hop = unmarked_hop (call_hop (read_text t).call b) }
+    → read_hop (spelled (call_hop (read_text t).call b)) ≡ Ok (unmarked_hop (call_hop (read_text t).call b))
 unfolding hop_of call_accepted unmarked_hop
 call_again t b z e =
     let c = (read_text t).call in
     let a = apart c b e in
-    ap read_hop (spelled_call c b) ∙ sym (hop_by_call false (with_star (text_of c) b) (sym a.0) _ refl refl) ∙ ap hop_of (text_reads_back t z a.1 b) ∙ unfold call_hop in refl
+    ap read_hop (spelled_call c b) ∙ call_read (with_star (text_of c) b) a.0 ∙ ap hop_of (text_reads_back t z a.1 b) ∙ unfold call_hop in refl
 
-name_again : (t : List ℕ) (b : Bool) → starts_q t ≡ true → is_q_name t ≡ true → read_hop (spelled (heard_if b (q_hop t))) ≡ record { refusal = 0; hop = unmarked_hop (heard_if b (q_hop t)) }
+name_again : (t : List ℕ) (b : Bool) → starts_q t ≡ true → is_q_name t ≡ true → read_hop (spelled (heard_if b (q_hop t))) ≡ Ok (unmarked_hop (heard_if b (q_hop t)))
 unfolding spelled heard_if q_hop is_heard is_q_element with_star read_hop hop_named unmarked_hop
 name_again t b s n = rw (bare_written t, s, n, unmarked_made t [])
 
@@ -69,33 +71,12 @@ heard_call : (c : Callsign) (a b : Bool) → heard_if b (call_hop c a) ≡ call_
 unfolding heard_if
 heard_call c a b = rw (call_is_call c a) (unfold call_hop in refl)
 
--- what a part can be
-module _ (t : List ℕ) where
-  as_name : starts_q t ≡ true → is_q_name t ≡ true → (read_hop t).hop ≡ q_hop t
-  unfolding read_hop hop_named
-  as_name s n = rw (s, n)
-
-  as_neither : starts_q t ≡ true → is_q_name t ≡ false → (read_hop t).refusal ≡ 6
-  unfolding read_hop hop_refused
-  as_neither s n = rw (s, n)
-
-  as_call : starts_q t ≡ false → ((read_hop t).refusal ≡ (read_text t).refusal) × ((read_hop t).hop ≡ call_hop (read_text t).call (read_text t).starred)
-  unfolding read_hop hop_of
-  as_call s = (rw s, rw s)
-
 -- the hop of a part, with a star or without one
-hop_again : (t : List ℕ) (b : Bool) → (read_hop t).refusal ≡ 0 → reads_alike (heard_if b (read_hop t).hop) ≡ true
-    → read_hop (spelled (heard_if b (read_hop t).hop)) ≡ record { refusal = 0; hop = unmarked_hop (heard_if b (read_hop t).hop) }
-hop_again t b = go (starts_q t) refl (is_q_name t) refl
-  where
-    go : (k : Bool) → starts_q t ≡ k → (n : Bool) → is_q_name t ≡ n → (read_hop t).refusal ≡ 0 → reads_alike (heard_if b (read_hop t).hop) ≡ true
-        → read_hop (spelled (heard_if b (read_hop t).hop)) ≡ record { refusal = 0; hop = unmarked_hop (heard_if b (read_hop t).hop) }
-    go true s true n z e = rw (as_name t s n) (name_again t b s n)
-    go true s false n z e = absurd (omega (arith, as_neither t s n))
-    go false s n m z e =
-        let a = as_call t s in
-        let h : heard_if b (read_hop t).hop ≡ call_hop (read_text t).call b = rw a.1 (heard_call (read_text t).call (read_text t).starred b) in
-        rw h (call_again t b (sym a.0 ∙ z) (rw h at e))
+hop_again : (t : List ℕ) (b : Bool) (h : Hop) → Part t (Ok h) → reads_alike (heard_if b h) ≡ true → read_hop (spelled (heard_if b h)) ≡ Ok (unmarked_hop (heard_if b h))
+hop_again t b h (name n) e = name_again t b (name_starts t n) n
+hop_again t b h (call z) e =
+    let k : heard_if b h ≡ call_hop (read_text t).call b = heard_call (read_text t).call (read_text t).starred b in
+    rw k (call_again t b z (rw k at e))
 
 -- ---- parts without a comma
 
@@ -148,13 +129,13 @@ unfolding with_zero
 zero_behind l true = (dash ∷ digit0 ∷ [], refl)
 zero_behind l false = ([], sym (append-nil l))
 
-hop_free : (t : List ℕ) → (read_hop t).refusal ≡ 0 → no_comma t ≡ true → no_comma (text_of (read_hop t).hop.call) ≡ true
+hop_free : (t : List ℕ) (h : Hop) → Part t (Ok h) → no_comma t ≡ true → no_comma (text_of h.call) ≡ true
 unfolding typed_text
-hop_free t z n =
-    let c = (read_hop t).hop.call in
-    let s = star_behind (with_zero (text_of c) c.had_zero_ssid) (is_heard (read_hop t).hop) in
+hop_free t h p n =
+    let c = h.call in
+    let s = star_behind (with_zero (text_of c) c.had_zero_ssid) (is_heard h) in
     let y = zero_behind (text_of c) c.had_zero_ssid in
-    let whole : t ≡ text_of c ++ (y.0 ++ s.0) = sym (hop_typed t z) ∙ s.1 ∙ ap (λ (l : List ℕ). l ++ s.0) y.1 ∙ append_assoc (text_of c) y.0 s.0 in
+    let whole : t ≡ text_of c ++ (y.0 ++ s.0) = sym (hop_typed t h p) ∙ s.1 ∙ ap (λ (l : List ℕ). l ++ s.0) y.1 ∙ append_assoc (text_of c) y.0 s.0 in
     comma_free (text_of c) (none_in_front comma (text_of c) (y.0 ++ s.0) (rw whole at (free_of_comma t n)))
 
 none_starred : (k : List ℕ) → index_of comma k ≡ length k → index_of comma (k ++ star ∷ []) ≡ length (k ++ star ∷ [])
@@ -221,38 +202,37 @@ restarred_free (more b h {l = l} r) e = rw (free_if b h, every_first is_free h l
 
 -- hops that read back from what is written of them, whatever their stars
 Back : ℕ → List Hop → Type 0
-Back k l = (w : List Hop) → Restarred l w → every reads_alike w ≡ true → text_hops k (map spelled w) ≡ these (map unmarked_hop w)
+Back k l = (w : List Hop) → Restarred l w → every reads_alike w ≡ true → text_hops k (map spelled w) ≡ Ok (map unmarked_hop w)
 
 -- of a refusal nothing is said
 Again : ℕ → Hops → Type 0
-Again k (refused n) = n ≡ n
-Again k (these l) = (every is_free l ≡ true) × Back k l
+Again k (Err f) = f ≡ f
+Again k (Ok l) = (every is_free l ≡ true) × Back k l
 
 none_back : (k : ℕ) → Back k []
 unfolding Back
 none_back k w none e = no_parts k
 
-more_back : (k : ℕ) (t : List ℕ) (l : List Hop) → (read_hop t).refusal ≡ 0 → Back k l → Back (suc k) ((read_hop t).hop ∷ l)
+more_back : (k : ℕ) (t : List ℕ) (l : List Hop) (h : Hop) → Part t (Ok h) → Back k l → Back (suc k) (h ∷ l)
 unfolding Back text_hops hop_then before
-more_back k t l z f w (more b h {w = w'} r) e = rw (hop_again t b z (every_first reads_alike (heard_if b h) w' e), f w' r (every_rest reads_alike (heard_if b h) w' e))
+more_back k t l h p f w (more b _ {w = w'} r) e = rw (hop_again t b h p (every_first reads_alike (heard_if b h) w' e), f w' r (every_rest reads_alike (heard_if b h) w' e))
+
+then_again : (k : ℕ) (t : List ℕ) → no_comma t ≡ true → (r : Result Hop Fault) → Part t r → (w : Hops) → Again k w → Again (suc k) (hop_then r w)
+unfolding hop_then before every is_free Again
+then_again k t n (Err f) p w a = refl
+then_again k t n (Ok h) p (Err f) a = refl
+then_again k t n (Ok h) p (Ok l) a = (rw (hop_free t h p n, a.0), more_back k t l h p a.1)
 
 hops_again : (k : ℕ) (ts : List (List ℕ)) → every no_comma ts ≡ true → Again k (text_hops k ts)
-unfolding text_hops hop_then before every is_free Again
+unfolding text_hops every Again
 hops_again zero [] n = (refl, none_back 0)
 hops_again (suc k) [] n = (refl, none_back (suc k))
 hops_again zero (t ∷ ts) n = refl
-hops_again (suc k) (t ∷ ts) n = go (eqb (read_hop t).refusal 0) refl (text_hops k ts) (hops_again k ts (every_rest no_comma t ts n))
-  where
-    go : (b : Bool) → eqb (read_hop t).refusal 0 ≡ b → (w : Hops) → Again k w → Again (suc k) (cond b (before (read_hop t).hop w) (refused (read_hop t).refusal))
-    go true e (refused m) a = refl
-    go true e (these l) a =
-        let z = eqb-true (read_hop t).refusal 0 e in
-        (rw (hop_free t z (every_first no_comma t ts n), a.0), more_back k t l z a.1)
-    go false e w a = refl
+hops_again (suc k) (t ∷ ts) n = then_again k t (every_first no_comma t ts n) (read_hop t) (part_read t) (text_hops k ts) (hops_again k ts (every_rest no_comma t ts n))
 
 -- of a path that was read
-module _ (t : List ℕ) (l : List Hop) (e : text_hops 8 (others_of (fields t)) ≡ these l) (apart : every reads_alike (starred_last (carried l)) ≡ true) where
-  path_again : text_hops 8 (others_of (fields (hops_text (carried l)))) ≡ these (map unmarked_hop (starred_last (carried l)))
+module _ (t : List ℕ) (l : List Hop) (e : text_hops 8 (others_of (fields t)) ≡ Ok l) (apart : every reads_alike (starred_last (carried l)) ≡ true) where
+  path_again : text_hops 8 (others_of (fields (hops_text (carried l)))) ≡ Ok (map unmarked_hop (starred_last (carried l)))
   unfolding Again Back
   path_again =
       let a : (every is_free l ≡ true) × Back 8 l = rw e at (hops_again 8 (others_of (fields t)) (others_free t)) in
@@ -266,7 +246,7 @@ carried_unmarked (h ∷ l) = rw (heard_unmarked l, carried_unmarked l) (unfold h
 
 -- the hops' text, read as the hops of a line are, and its stars carried back
 pub record ReadsBack (l : List Hop) : Type 0 where
-  pub text : text_hops 8 (others_of (fields (hops_text l))) ≡ these (map unmarked_hop (starred_last l))
+  pub text : text_hops 8 (others_of (fields (hops_text l))) ≡ Ok (map unmarked_hop (starred_last l))
   pub heard : carried (map unmarked_hop (starred_last l)) ≡ map unmarked_hop l
 
 pub path_back : (h : Header) → PathTyped h → every reads_alike (starred_last (hops_of h.path)) ≡ true → ReadsBack (hops_of h.path)

@@ -18,7 +18,7 @@ use Rattle.buffer.specs.Wrote.{Wrote, ends, no_room, done_by, wrote_as, wrote}
 use Rattle.buffer.specs.Filled.{Filled, filled, front_of, added}
 use Rattle.callsign.specs.declared.AddressWritten.{AddressWritten}
 use Rattle.buffer.proofs.Filled.{added_not, added_length, added_len, added_none, first_front, added_added, place_within, put_as, put_refused}
-use Rattle.header.specs.Private.{Piece, Building, building, plain, address_piece, answer_to, with_piece, with_pieces}
+use Rattle.header.specs.Pieces.{Piece, Building, building, plain, address_piece, answer_to, with_refusal, with_piece, with_pieces}
 
 -- ---- what pieces come to
 
@@ -155,29 +155,24 @@ pieces_there b (p ∷ l) h z =
 
 -- ---- what is put from the array's start goes out
 
-module _ (v t : List ℕ) (r n : ℕ) (l : List Piece) (q : building r t n ≡ with_pieces (building 0 v 0) l) where
-  pub put_within : n ≤ length t
-  put_within = rw (ap (λ (b : Building). b.array.len) q, ap (λ (b : Building). b.array.bytes) q) (pieces_within (building 0 v 0) l (omega arith))
+module _ (v : List ℕ) (b : Building) (l : List Piece) (q : b ≡ with_pieces (building 0 v 0) l) (room : sizes l ≤ length v) where
+  put_refusal : b.refusal ≡ greatest l
+  put_refusal = omega (arith, ap (λ (b : Building). b.refusal) q, pieces_refusal (building 0 v 0) l (omega arith))
 
-  module _ (room : sizes l ≤ length v) where
-    put_refusal : r ≡ greatest l
-    put_refusal = omega (arith, ap (λ (b : Building). b.refusal) q, pieces_refusal (building 0 v 0) l (omega arith))
+  put_front : greatest l ≡ 0 → front_of b.array ≡ bytes_of l
+  put_front z =
+      ap (λ (b : Building). front_of b.array) q
+      ∙ ap front_of (pieces_there (building 0 v 0) l (omega arith) z)
+      ∙ first_front v (bytes_of l) (omega (arith, sizes_accepted l z))
 
-    put_front : greatest l ≡ 0 → take n t ≡ bytes_of l
-    unfolding front_of
-    put_front z =
-        ap (λ (b : Building). front_of b.array) q
-        ∙ ap front_of (pieces_there (building 0 v 0) l (omega arith) z)
-        ∙ first_front v (bytes_of l) (omega (arith, sizes_accepted l z))
-
-    -- refused as the worst of them is, or with the bytes of all
-    pub put_out : (w : Wrote) (out : List ℕ) → w ≡ wrote r (take n t) out → w ≡ wrote (greatest l) (bytes_of l) out
-    unfolding wrote wrote_as
-    put_out w out e = e ∙ rw put_refusal (go (greatest l) refl)
-      where
-        go : (k : ℕ) → greatest l ≡ k → wrote k (take n t) out ≡ wrote k (bytes_of l) out
-        go zero z = ap (λ (x : List ℕ). wrote 0 x out) (put_front z)
-        go (suc k) z = refl
+  -- refused as the worst of them is, or with the bytes of all
+  pub put_out : (w : Wrote) (out : List ℕ) → w ≡ wrote b.refusal (front_of b.array) out → w ≡ wrote (greatest l) (bytes_of l) out
+  unfolding wrote wrote_as
+  put_out w out e = e ∙ rw put_refusal (go (greatest l) refl)
+    where
+      go : (k : ℕ) → greatest l ≡ k → wrote k (front_of b.array) out ≡ wrote k (bytes_of l) out
+      go zero z = ap (λ (x : List ℕ). wrote 0 x out) (put_front z)
+      go (suc k) z = refl
 
 -- with no refusal it is a writer's plain answer
 pub accepted_out : (w : Wrote) (k : ℕ) (bytes out : List ℕ) → k ≡ 0 → w ≡ wrote 0 bytes out → w ≡ wrote k bytes out
@@ -224,28 +219,27 @@ module _ (v : List ℕ) (at : ℕ) (w : Answer) (left : List ℕ) (p : Piece) (h
       let y = its_array in
       λ i. record { refusal = x i; array = y i }
 
--- the place behind it
+  -- the place behind it is within the array
+  pub piece_room : at + w.reported ≤ length (put_mid at (length v - at) v left)
+  piece_room =
+      let q = piece_put 0 (max 0 w.refusal) refl in
+      rw (ap (λ (b : Building). b.array.len) q, ap (λ (b : Building). b.array.bytes) q) (piece_within (building 0 v at) p h)
+
+-- its number
 pub place_fits : (v left bytes : List ℕ) (at k : ℕ) (w : Answer) → at ≤ length v → ends w left ≡ wrote k bytes (take (length v - at) (drop at v)) → length v < 2 ^ 64 → Fits w64 (at + w.reported)
 place_fits v left bytes at k w h sent b = let m = place_within bytes v left at k w h sent in record { fits = omega arith }
 
--- ---- a piece that is refused before any byte, and one that has none
+-- ---- a piece that is refused before any byte
 
-pub piece_refused : (v : List ℕ) (at r k : ℕ) (p : Piece) → (p.refusal ≡ 0 → ⊥) → k ≡ max r p.refusal → building k v at ≡ with_piece (building r v at) p
-unfolding with_piece answer_to
-piece_refused v at r k p z e = rw (ne_eqb p.refusal 0 z, e)
-
-pub nothing_put : (v : List ℕ) (at r : ℕ) (p : Piece) → at ≤ length v → p ≡ plain [] → building r v at ≡ with_piece (building r v at) p
-unfolding with_piece answer_to
-nothing_put v at r p h e =
-    let n : at + length {A = ℕ} [] ≡ at = omega arith in
-    let m : r ≡ max r 0 = omega arith in
-    rw (e, n, le-leb at (length v) h, ← added_none (filled v at)) (λ i. record { refusal = m i; array = filled v at })
+pub piece_refused : (b : Building) (p : Piece) → (p.refusal ≡ 0 → ⊥) → with_refusal b p.refusal ≡ with_piece b p
+unfolding with_refusal with_piece answer_to
+piece_refused b p z = rw (ne_eqb p.refusal 0 z)
 
 -- ---- an address, which its writer gives whole
 
-module _ (v : List ℕ) (at r : ℕ) (a d : AddressWritten) (q : a ≡ d) where
-  pub address_refused_lem : (k : ℕ) → (a.refusal ≡ 0 → ⊥) → k ≡ max r a.refusal → building k v at ≡ with_piece (building r v at) (address_piece d)
-  address_refused_lem k z e = rw (← q) (piece_refused v at r k (address_piece a) z e)
+module _ (b b' : Building) (a d : AddressWritten) (q : a ≡ d) where
+  pub address_refused_lem : (a.refusal ≡ 0 → ⊥) → b' ≡ with_refusal b a.refusal → b' ≡ with_piece b (address_piece d)
+  address_refused_lem z e = rw (← q) (e ∙ piece_refused b (address_piece a) z)
 
-  pub address_put : (b : Building) → a.refusal ≡ 0 → b ≡ with_piece (building r v at) (plain a.bytes) → b ≡ with_piece (building r v at) (address_piece d)
-  address_put b z e = e ∙ ap (λ (n : ℕ). with_piece (building r v at) (record { refusal = n; bytes = a.bytes })) (sym z) ∙ ap (λ (x : AddressWritten). with_piece (building r v at) (address_piece x)) q
+  pub address_put : a.refusal ≡ 0 → b' ≡ with_piece b (plain a.bytes) → b' ≡ with_piece b (address_piece d)
+  address_put z e = e ∙ ap (λ (n : ℕ). with_piece b (record { refusal = n; bytes = a.bytes })) (sym z) ∙ ap (λ (x : AddressWritten). with_piece b (address_piece x)) q

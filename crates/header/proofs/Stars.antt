@@ -19,6 +19,8 @@ use Rattle.callsign.specs.declared.Callsign.{Callsign}
 use Rattle.callsign.specs.Range.{text_of, with_star}
 use Rattle.callsign.specs.Packed.{bit}
 use Rattle.header.specs.declared.Hop.{Hop}
+use Rattle.header.specs.declared.Path.{Path}
+use Rattle.header.specs.declared.StarredPath.{StarredPath}
 use Rattle.header.specs.Hop.{was_heard, q_element, is_heard, is_q_element, calls_of, heard_if, any_heard}
 use Rattle.header.specs.Text.{stars_of, carried, hops_text}
 use Rattle.header.specs.Private.{carried_kind, starred_read}
@@ -117,11 +119,14 @@ pub carrying_more : (l : List Hop) (n : ℕ) (out : List Hop) (stars : ℕ) (hea
 carrying_more l n out stars heard zero kind d g p e = absurd (omega arith)
 carrying_more l n out stars heard (suc j) kind d g p e = let q : suc j - 1 ≡ j = omega arith in rw q (turn l n out stars heard j kind d g (rw q at e))
 
-pub carrying_done : (l : List Hop) (n : ℕ) (out : List Hop) (stars : ℕ) (heard : Bool) (i : ℕ) → Carrying l n out stars heard i → i ≤ 0
-    → record { path = record { hops = out; count = n }; stars = stars; refusal = 0 } ≡ starred_read l n
+pub carrying_done : (p : Path) (out : Path) (stars : ℕ) (heard : Bool) (i : ℕ) → Carrying p.hops p.count out.hops stars heard i → i ≤ 0 → out.count ≡ p.count
+    → ◌≡◌ {A = StarredPath} (record { path = out; stars = stars }) (starred_read p)
 unfolding Back
-carrying_done l n out stars heard zero g h = rw (g.held, g.typed)
-carrying_done l n out stars heard (suc i) g h = absurd (omega arith)
+carrying_done p out stars heard zero g h e =
+    let c : out.hops ≡ carried (take p.count p.hops) ++ drop p.count p.hops = g.held in
+    let t : stars ≡ stars_of (take p.count p.hops) = g.typed in
+    λ k. record { path = record { count = e k; hops = c k }; stars = t k }
+carrying_done p out stars heard (suc i) g h e = absurd (omega arith)
 
 -- ---- written and read again
 

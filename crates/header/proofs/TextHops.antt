@@ -1,6 +1,6 @@
 -- The loop over the hops of a text: the parts between commas, one by one.
 -- Assumes nothing.
-use mathlib.Core.Path.{◌≡◌, refl, sym, ◌∙◌}
+use mathlib.Core.Path.{◌≡◌, refl, sym, ap, ◌∙◌}
 use mathlib.Core.Bool.{Bool, true, false, cond}
 use mathlib.Core.List.{List, [], ◌∷◌}
 use Prim.Native.Nat.{ℕ, zero, suc, ◌+◌, ◌-◌, ◌^◌, ◌<◌, ◌≤◌}
@@ -9,19 +9,21 @@ use native.Mathlib.Omega.{arith}
 use mir.Val.{Fits}
 use mir.Syntax.{w64}
 use lib.Dec.{eqb}
-use borrow.Author.Tests.{eq-eqb, ne_eqb}
 use borrow.Author.Rules.{part_to_end}
 use lib.ListN.{length, length-drop, take, drop, set, replicate}
 use lib.Seq.{take-length}
+use Rattle.std.specs.Prelude.{Result, Ok, Err}
 use Rattle.laws.specs.Bytes.{comma}
 use Rattle.laws.specs.Lists.{index_of}
 use Rattle.laws.proofs.Places.{index_le, found_next}
 use Rattle.header.specs.declared.Hop.{Hop}
-use Rattle.header.specs.declared.HopRead.{HopRead}
-use Rattle.header.specs.declared.PathRead.{PathRead}
-use Rattle.header.specs.Header.{refused, these, blank_hop}
+use Rattle.header.specs.declared.Path.{Path}
+use Rattle.header.specs.declared.StarredPath.{StarredPath}
+use Rattle.header.specs.declared.Fault.{Fault}
+use Rattle.header.specs.declared.Fault.TheVariants.{NinthHop}
+use Rattle.header.specs.Header.{blank_hop}
 use Rattle.header.specs.Text.{fields, on_first, read_hop, hop_then, text_hops}
-use Rattle.header.specs.Private.{path_refused, text_read, starred_read}
+use Rattle.header.specs.Private.{text_read, starred_read}
 use Rattle.header.proofs.Going.{Going, going_start, going_more, going_refused, going_carried}
 
 -- ---- the parts of a text, by the place of its first comma
@@ -56,7 +58,7 @@ fields_some (x ∷ l) = go (eqb x comma) (fields_some l)
     go true r = (fields l, refl)
     go false r = (r.0, rw r.1)
 
-pub no_parts : (k : ℕ) → text_hops k [] ≡ these []
+pub no_parts : (k : ℕ) → text_hops k [] ≡ Ok []
 unfolding text_hops
 no_parts zero = refl
 no_parts (suc k) = refl
@@ -64,13 +66,12 @@ no_parts (suc k) = refl
 -- ---- a part whose hop is set at n, of either sort
 
 pub record Taken (part : List ℕ) (hops : List Hop) (n : ℕ) (hops' : List Hop) : Type 0 where
-  pub read : HopRead
-  pub is : read ≡ read_hop part
-  pub fine : read.refusal ≡ 0
-  pub there : hops' ≡ set hops n read.hop
+  pub hop : Hop
+  pub is : Ok hop ≡ read_hop part
+  pub there : hops' ≡ set hops n hop
 
-pub taken_as : (part : List ℕ) (hops : List Hop) (n : ℕ) (hops' : List Hop) (h : HopRead) → h ≡ read_hop part → h.refusal ≡ 0 → hops' ≡ set hops n h.hop → Taken part hops n hops'
-taken_as part hops n hops' h q z e = record { read = h; is = q; fine = z; there = e }
+pub taken_as : (part : List ℕ) (hops : List Hop) (n : ℕ) (hops' : List Hop) (r : Result Hop Fault) (h : Hop) → r ≡ read_hop part → r ≡ Ok h → hops' ≡ set hops n h → Taken part hops n hops'
+taken_as part hops n hops' r h q z e = record { hop = h; is = sym z ∙ q; there = e }
 
 -- ---- the loop: n hops are done, and the parts of t are left
 
@@ -80,43 +81,43 @@ pub record Reading (s t : List ℕ) (hops : List Hop) (n : ℕ) : Type 0 where
 
 -- the last part is read
 pub record Read (s : List ℕ) (hops : List Hop) (n : ℕ) : Type 0 where
-  pub going : Going (text_hops 8 (fields s)) (these []) hops n
+  pub going : Going (text_hops 8 (fields s)) (Ok []) hops n
 
 pub reading_start : (s : List ℕ) (b : Hop) → b ≡ blank_hop → Reading s s (replicate 8 b) 0
 reading_start s b e = record { going = going_start (text_hops 8 (fields s)) b e; within = omega arith }
 
 module _ (s t : List ℕ) (hops : List Hop) (n : ℕ) (g : Reading s t hops n) where
-  pub ninth : (r : PathRead) → n ≡ 8 → r ≡ path_refused 5 → r ≡ text_read (text_hops 8 (fields s))
+  pub ninth : n ≡ 8 → ◌≡◌ {A = Result StarredPath Fault} (Err NinthHop) (text_read (text_hops 8 (fields s)))
   unfolding text_hops text_read
-  ninth r e w =
+  ninth e =
       let p = fields_some t in
       let z : 8 - n ≡ 0 = omega arith in
-      let q : text_hops (8 - n) (fields t) ≡ refused 5 = rw (p.1, z) in
-      w ∙ sym (rw (going_refused _ _ hops n g.going 5 q))
+      let q : text_hops (8 - n) (fields t) ≡ Err NinthHop = rw (p.1, z) in
+      sym (rw (going_refused _ _ hops n g.going NinthHop q))
 
-  module _ (e : ℕ) (h : HopRead) (m : n ≡ 8 → ⊥) (f : e ≡ index_of comma t) (q : h ≡ read_hop (take e t)) where
+  module _ (e : ℕ) (m : n ≡ 8 → ⊥) (f : e ≡ index_of comma t) where
     room : n < 8
     room = let w = g.going.few in omega arith
 
     -- the first part is this hop's
-    step : (fs : List (List ℕ)) → fields t ≡ take e t ∷ fs → text_hops (8 - n) (fields t) ≡ hop_then h (text_hops (8 - (n + 1)) fs)
+    step : (fs : List (List ℕ)) → fields t ≡ take e t ∷ fs → text_hops (8 - n) (fields t) ≡ hop_then (read_hop (take e t)) (text_hops (8 - (n + 1)) fs)
     unfolding text_hops
     step fs p =
         let w = room in
         let z : 8 - n ≡ suc (8 - (n + 1)) = omega arith in
-        rw (p, z, ← q)
+        rw (p, z)
 
-    pub hop_refused_lem : (r : PathRead) → (h.refusal ≡ 0 → ⊥) → r ≡ path_refused h.refusal → r ≡ text_read (text_hops 8 (fields s))
+    pub hop_fault : (r : Result Hop Fault) (why : Fault) → r ≡ read_hop (take e t) → r ≡ Err why → ◌≡◌ {A = Result StarredPath Fault} (Err why) (text_read (text_hops 8 (fields s)))
     unfolding hop_then text_read
-    hop_refused_lem r z w =
+    hop_fault r why q z =
         let p = fields_some t in
         let x : fields t ≡ take e t ∷ p.0 = rw f p.1 in
-        let y : text_hops (8 - n) (fields t) ≡ refused h.refusal = step p.0 x ∙ rw (ne_eqb h.refusal 0 z) in
-        w ∙ sym (rw (going_refused _ _ hops n g.going h.refusal y))
+        let y : text_hops (8 - n) (fields t) ≡ Err why = step p.0 x ∙ rw (← q, z) in
+        sym (rw (going_refused _ _ hops n g.going why y))
 
-    goes : (fs : List (List ℕ)) → fields t ≡ take e t ∷ fs → h.refusal ≡ 0 → Going (text_hops 8 (fields s)) (text_hops (8 - (n + 1)) fs) (set hops n h.hop) (n + 1)
+    goes : (fs : List (List ℕ)) → fields t ≡ take e t ∷ fs → (h : Hop) → Ok h ≡ read_hop (take e t) → Going (text_hops 8 (fields s)) (text_hops (8 - (n + 1)) fs) (set hops n h) (n + 1)
     unfolding hop_then
-    goes fs p z = going_more _ _ hops n g.going room h.hop (text_hops (8 - (n + 1)) fs) (step fs p ∙ rw (eq-eqb h.refusal 0 z))
+    goes fs p h q = going_more _ _ hops n g.going room h (text_hops (8 - (n + 1)) fs) (step fs p ∙ rw (← q))
 
   -- ---- a part is taken, and the parts behind it are left
 
@@ -129,7 +130,7 @@ module _ (s t : List ℕ) (hops : List Hop) (n : ℕ) (g : Reading s t hops n) w
 
     module _ (hops' : List Hop) (k : Taken (take e t) hops n hops') where
       taken : (fs : List (List ℕ)) → fields t ≡ take e t ∷ fs → Going (text_hops 8 (fields s)) (text_hops (8 - (n + 1)) fs) hops' (n + 1)
-      taken fs p = rw k.there (goes e k.read m f k.is fs p k.fine)
+      taken fs p = rw k.there (goes e m f fs p k.hop k.is)
 
       pub hop_last : e ≡ length t → Read s hops' (n + 1)
       hop_last l =
@@ -144,5 +145,5 @@ module _ (s t : List ℕ) (hops : List Hop) (n : ℕ) (g : Reading s t hops n) w
           let p : fields t ≡ take e t ∷ fields (take (length t - (e + 1)) (drop (e + 1) t)) = fields_two t y ∙ rw (part_to_end t (e + 1), ← f, add-one) in
           record { going = taken _ p; within = omega arith }
 
-pub hops_read : (s : List ℕ) (hops : List Hop) (n : ℕ) (r : PathRead) → Read s hops n → r ≡ starred_read hops n → r ≡ text_read (text_hops 8 (fields s))
-hops_read s hops n r g q = q ∙ going_carried _ _ hops n g.going refl
+pub hops_read : (s : List ℕ) (p : Path) (r : StarredPath) → Read s p.hops p.count → r ≡ starred_read p → Ok r ≡ text_read (text_hops 8 (fields s))
+hops_read s p r g q = ap {B = Result StarredPath Fault} (λ x. Ok x) q ∙ going_carried _ _ p.hops p.count g.going refl

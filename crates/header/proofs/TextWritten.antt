@@ -12,6 +12,7 @@ use Rattle.laws.specs.Bytes.{comma, colon, greater}
 use Rattle.laws.specs.Lists.{every}
 use Rattle.buffer.specs.declared.Answer.{Answer}
 use Rattle.buffer.specs.Wrote.{Wrote, ends, refused_by, wrote}
+use Rattle.buffer.specs.Filled.{front_of}
 use Rattle.buffer.proofs.Wrote.{passed_on}
 use Rattle.callsign.specs.declared.Callsign.{Callsign}
 use Rattle.callsign.specs.Range.{in_range, range_refusal, text_of, with_star}
@@ -22,9 +23,10 @@ use Rattle.header.specs.Hop.{is_heard, any_heard}
 use Rattle.header.specs.Header.{hops_of}
 use Rattle.header.specs.Text.{hops_text, route_text, header_text}
 use Rattle.header.specs.Range.{hop_in_range, header_in_range, text_refusal}
-use Rattle.header.specs.Private.{Building, is_tidy, building, plain, call_piece, hop_piece, with_piece, with_pieces, end_pieces, hop_pieces, text_pieces}
+use Rattle.header.specs.Private.{is_tidy}
+use Rattle.header.specs.Pieces.{Building, building, plain, call_piece, hop_piece, with_piece, with_pieces, end_pieces, hop_pieces, text_pieces}
 use Rattle.header.proofs.Pieces.{bytes_of, greatest, size_of, sizes, bytes_append, greatest_append, sizes_append, sizes_accepted, put_out}
-use Rattle.header.proofs.Putting.{all_put}
+use Rattle.header.proofs.Putting.{three_put, all_put}
 use Rattle.header.proofs.InRange.{call_fine, tidy_count, judged_tidy, path_tidy, untidy_out, tidy_range}
 
 -- ---- refusals
@@ -125,17 +127,17 @@ text_bound h e =
 
 -- ---- the writer's answers
 
-pub text_put : (h : Header) (b b₁ b₂ b₃ : Building) → b₁ ≡ with_pieces b (end_pieces h.from h.to) → b₂ ≡ with_pieces b₁ (hop_pieces (take h.path.count h.path.hops))
-    → b₃ ≡ with_piece b₂ (plain (colon ∷ [])) → b₃ ≡ with_pieces b (text_pieces h)
-unfolding text_pieces hops_of
-text_put h b b₁ b₂ b₃ = all_put b b₁ b₂ b₃ (end_pieces h.from h.to) (hop_pieces (hops_of h.path)) (plain (colon ∷ []))
-
 pub text_untidy : (u : Bool) (h : Header) (r : Answer) (out : List ℕ) → u ≡ is_tidy h.path → not u ≡ true → r ≡ refused_by 15 → ends r out ≡ wrote (text_refusal h) (header_text h) out
 unfolding text_refusal
 text_untidy u h r out e t q = passed_on r 15 (text_refusal h) (header_text h) out q (λ z. omega arith) (rw (untidy_out h (sym e ∙ not-true u t)))
 
-pub text_out : (u : Bool) (h : Header) (v t : List ℕ) (r n : ℕ) (w : Wrote) (out : List ℕ) → u ≡ is_tidy h.path → not u ≡ false → building r t n ≡ with_pieces (building 0 v 0) (text_pieces h)
-    → 178 ≤ length v → w ≡ wrote r (take n t) out → w ≡ wrote (text_refusal h) (header_text h) out
-text_out u h v t r n w out e k q room p =
+pub text_out : (u : Bool) (h : Header) (v : List ℕ) (b₀ b₁ b₂ b₃ b₄ b₅ : Building) (w : Wrote) (out : List ℕ) → u ≡ is_tidy h.path → not u ≡ false → 178 ≤ length v
+    → b₀ ≡ building 0 v 0 → b₁ ≡ with_piece b₀ (call_piece h.from false) → b₂ ≡ with_piece b₁ (plain (greater ∷ [])) → b₃ ≡ with_piece b₂ (call_piece h.to false)
+    → b₄ ≡ with_pieces b₃ (hop_pieces (take h.path.count h.path.hops)) → b₅ ≡ with_piece b₄ (plain (colon ∷ []))
+    → w ≡ wrote b₅.refusal (front_of b₅.array) out → w ≡ wrote (text_refusal h) (header_text h) out
+unfolding text_pieces hops_of
+text_out u h v b₀ b₁ b₂ b₃ b₄ b₅ w out e k room e₀ e₁ e₂ e₃ e₄ e₅ p =
     let s = judged_tidy u h.path e k in
-    put_out v t r n (text_pieces h) q (omega (arith, text_size h s)) w out p ∙ rw (text_judged h s, text_spelled h)
+    let ends : b₃ ≡ with_pieces b₀ (end_pieces h.from h.to) = three_put b₀ b₁ b₂ b₃ _ _ _ e₁ e₂ e₃ in
+    let all : b₅ ≡ with_pieces b₀ (text_pieces h) = all_put b₀ b₃ b₄ b₅ (end_pieces h.from h.to) (hop_pieces (hops_of h.path)) (plain (colon ∷ [])) ends e₄ e₅ in
+    put_out v b₅ (text_pieces h) (all ∙ ap (λ (b : Building). with_pieces b (text_pieces h)) e₀) (omega (arith, text_size h s)) w out p ∙ rw (text_judged h s, text_spelled h)

@@ -8,6 +8,7 @@ use mathlib.Core.Bool.{Bool, true, false}
 use mathlib.Core.List.{List, [], ◌∷◌, ◌++◌, map}
 use Prim.Native.Nat.{ℕ, ◌<◌, ◌≤◌}
 use lib.ListN.{length, get_or}
+use Rattle.std.specs.Prelude.{Ok}
 use Rattle.laws.specs.Bytes.{within, star, comma}
 use Rattle.laws.specs.Lists.{index_of, every, any_of, pad_to}
 use Rattle.laws.proofs.Unique.{alike_without}
@@ -19,7 +20,7 @@ use Rattle.callsign.proofs.AddressBack.{in_address}
 use Rattle.header.specs.declared.Hop.{Hop}
 use Rattle.header.specs.declared.Header.{Header}
 use Rattle.header.specs.Hop.{heard_as, call_hop, is_heard, is_q_element, calls_of, heard_if}
-use Rattle.header.specs.Header.{most_bytes, blank_hop, these, before, path_of, hops_of, blank_header, header_refused, header_accepted}
+use Rattle.header.specs.Header.{most_bytes, blank_hop, before, path_of, hops_of, blank_header, header_refused, header_accepted}
 use Rattle.header.specs.Text.{on_first, fields, starts_q, hop_of, read_hop, hop_then, text_hops, stars_of, carried, read_header_text, read_text_header, hops_text, header_text}
 use Rattle.header.specs.Frame.{read_frame_header, header_frame}
 use Rattle.header.specs.Range.{header_in_range, text_refusal, frame_refusal}
@@ -188,7 +189,7 @@ p11_hops = hop 65 true ∷ hop 66 true ∷ hop 67 false ∷ []
 abbrev p11_typed : List Hop
 p11_typed = hop 65 false ∷ hop 66 true ∷ hop 67 false ∷ []
 
-pub p11_read : (text_hops 8 (fields p11_text) ≡ these p11_typed) × ((carried p11_typed ≡ p11_hops) × (stars_of p11_typed ≡ 2))
+pub p11_read : (text_hops 8 (fields p11_text) ≡ Ok p11_typed) × ((carried p11_typed ≡ p11_hops) × (stars_of p11_typed ≡ 2))
 unfolding fields on_first text_hops hop_then before read_hop starts_q hop_of read_text read_unstarred parted call_accepted index_of utf8 characters after within is_zero made joined pad_to carried any_of is_heard is_q_element heard_if heard_as call_hop stars_of bit
 p11_read = (refl, (refl, refl))
 

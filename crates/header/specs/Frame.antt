@@ -2,7 +2,7 @@
 -- the same without the last test; each hop 5, 2, 3; control pair; body." Modules, 5: "the walk ends at the first address
 -- whose low bit is set; then exactly the two bytes 03 f0 must follow." Document 02, R-7, of a Q element: "in a frame it is left out".
 -- Assumes nothing.
-use Rattle.std.specs.Prelude.{ℕ, zero, suc, ◌+◌, ◌*◌, Bool, true, false, cond, ◌&&◌, List, [], ◌∷◌, ◌++◌, length, take, drop, eqb, ltb}
+use Rattle.std.specs.Prelude.{ℕ, zero, suc, ◌+◌, ◌*◌, Bool, true, false, cond, ◌&&◌, List, [], ◌∷◌, ◌++◌, length, take, drop, eqb, ltb, Ok, Err}
 use Rattle.callsign.specs.declared.Callsign.{Callsign}
 use Rattle.callsign.specs.declared.AddressRead.{AddressRead}
 use Rattle.callsign.specs.declared.AddressWritten.{AddressWritten}
@@ -13,8 +13,9 @@ use Rattle.header.specs.declared.Hop.{Hop}
 use Rattle.header.specs.declared.Header.{Header}
 use Rattle.header.specs.declared.Path.{Path}
 use Rattle.header.specs.declared.HeaderRead.{HeaderRead}
+use Rattle.header.specs.declared.Fault.TheVariants.{Incomplete, Call, NinthHop}
 use Rattle.header.specs.Hop.{call_hop, is_heard, calls_of}
-use Rattle.header.specs.Header.{most_bytes, Hops, refused, these, before, path_of, hops_of, header_refused, header_accepted, unless_refused, with_hops}
+use Rattle.header.specs.Header.{most_bytes, Hops, before, path_of, hops_of, header_refused, header_accepted, unless_refused, with_hops}
 
 -- ---- the control and protocol bytes
 
@@ -46,14 +47,14 @@ address_hop a = call_hop a.call a.heard
 unfoldable pub address_then : AddressRead → Hops → Hops
 address_then a later =
     cond (eqb a.refusal 0)
-    (before (address_hop a) (cond a.last (these []) later))
-    (refused a.refusal)
+    (before (address_hop a) (cond a.last (Ok []) later))
+    (Err (Call a.refusal))
 
 -- the addresses at the front of s, of which so many more may come: 5, 2, 3
 unfoldable pub frame_hops : ℕ → List ℕ → Hops
-frame_hops zero s = refused 5
+frame_hops zero s = Err NinthHop
 frame_hops (suc k) s =
-    cond (ltb (length s) 7) (refused 2)
+    cond (ltb (length s) 7) (Err Incomplete)
     (address_then (read_address (take 7 s)) (frame_hops k (drop 7 s)))
 
 -- ---- the header read
@@ -70,7 +71,7 @@ read_source to s =
     let from = read_address (take 7 (drop 7 s)) in
     cond (ltb (length s) 14) (header_refused 2)
     (unless_refused from.refusal
-    (with_hops (cond from.last (these []) (frame_hops 8 (drop 14 s))) (λ l. with_pair from.call to (path_of l) s)))
+    (with_hops (cond from.last (Ok []) (frame_hops 8 (drop 14 s))) (λ l. with_pair from.call to (path_of l) s)))
 
 -- 1, and then the destination: present (2), readable (3), not last (2)
 unfoldable pub read_frame_header : List ℕ → HeaderRead

@@ -1,7 +1,7 @@
 -- A header (source, destination and hops), and what a reader answers. Document 01: "an array of 8 hops"; "A refused decode
 -- returns the blank record .. all lengths and numbers 0".
 -- Assumes nothing.
-use Rattle.std.specs.Prelude.{ℕ, false, cond, List, [], ◌∷◌, length, take, eqb}
+use Rattle.std.specs.Prelude.{ℕ, false, cond, List, [], ◌∷◌, length, take, eqb, Result, Ok, Err}
 use Rattle.laws.specs.Lists.{pad_to}
 use Rattle.callsign.specs.declared.Callsign.{Callsign}
 use Rattle.callsign.specs.Text.{blank_call}
@@ -9,6 +9,8 @@ use Rattle.header.specs.declared.Hop.{Hop}
 use Rattle.header.specs.declared.Path.{Path}
 use Rattle.header.specs.declared.Header.{Header}
 use Rattle.header.specs.declared.HeaderRead.{HeaderRead}
+use Rattle.header.specs.declared.Fault.{Fault}
+use Rattle.header.specs.declared.Fault.TheVariants.{TooLong, Incomplete, Call, NinthHop, OddName}
 use Rattle.header.specs.Hop.{call_hop}
 
 -- "a line or frame is at most 512 bytes"
@@ -53,17 +55,24 @@ unless_refused n next = cond (eqb n 0) next (header_refused n)
 
 -- ---- hops one after the other
 
--- the first refusal, or all hops
-pub data Hops : Type 0 where
-  refused : ℕ → Hops
-  these : List Hop → Hops
+-- "1", "2", "5", "6", or the number of a callsign's or an address's reader
+abbrev pub number_of : Fault → ℕ
+number_of TooLong = 1
+number_of Incomplete = 2
+number_of (Call n) = n
+number_of NinthHop = 5
+number_of OddName = 6
+
+-- all hops, or the first fault
+abbrev pub Hops : Type 0
+Hops = Result (List Hop) Fault
 
 -- a hop in front of others, unless they are refused
 unfoldable pub before : Hop → Hops → Hops
-before h (refused n) = refused n
-before h (these l) = these (h ∷ l)
+before h (Err f) = Err f
+before h (Ok l) = Ok (h ∷ l)
 
--- the hops' refusal is the header's; without one, what is made of the hops
+-- the hops' fault is the header's; without one, what is made of the hops
 unfoldable pub with_hops : Hops → (List Hop → HeaderRead) → HeaderRead
-with_hops (refused n) next = header_refused n
-with_hops (these l) next = next l
+with_hops (Err f) next = header_refused (number_of f)
+with_hops (Ok l) next = next l

@@ -4,3 +4,4 @@ pub mod Text
 pub mod Frame
 pub mod Range
 pub mod Private
+pub mod Pieces

@@ -3,7 +3,7 @@
 -- "every header reader passes this on for source, destination and each hop", the mark of a dropped zero, which a callsign carries. R-7:
 -- "In text it is written at its place .. 6 stays for any other three bytes that start `qA`."
 -- Assumes nothing.
-use Rattle.std.specs.Prelude.{ℕ, zero, suc, ◌+◌, ◌*◌, Bool, not, cond, ◌&&◌, ◌||◌, List, [], ◌∷◌, ◌++◌, length, take, drop, get_or, eqb, ltb}
+use Rattle.std.specs.Prelude.{ℕ, zero, suc, ◌+◌, ◌*◌, Bool, not, cond, ◌&&◌, ◌||◌, List, [], ◌∷◌, ◌++◌, length, take, drop, get_or, eqb, ltb, Result, Ok, Err}
 use Rattle.laws.specs.Bytes.{comma, colon, greater, capital_a, small_q}
 use Rattle.laws.specs.Lists.{index_of}
 use Rattle.callsign.specs.declared.Callsign.{Callsign}
@@ -12,11 +12,12 @@ use Rattle.callsign.specs.Text.{read_text}
 use Rattle.callsign.specs.Range.{text_of, with_star}
 use Rattle.callsign.specs.Packed.{bit}
 use Rattle.header.specs.declared.Hop.{Hop}
-use Rattle.header.specs.declared.HopRead.{HopRead}
+use Rattle.header.specs.declared.Fault.{Fault}
+use Rattle.header.specs.declared.Fault.TheVariants.{Call, NinthHop, OddName}
 use Rattle.header.specs.declared.Header.{Header}
 use Rattle.header.specs.declared.HeaderRead.{HeaderRead}
 use Rattle.header.specs.Hop.{is_q_name, call_hop, q_hop, is_heard, any_heard, heard_if}
-use Rattle.header.specs.Header.{most_bytes, Hops, refused, these, before, blank_hop, path_of, hops_of, header_refused, header_accepted, unless_refused, with_hops}
+use Rattle.header.specs.Header.{most_bytes, Hops, before, path_of, hops_of, header_refused, header_accepted, unless_refused, with_hops}
 
 -- ---- the parts between commas
 
@@ -46,30 +47,27 @@ others_of (f ∷ fs) = fs
 unfoldable pub starts_q : List ℕ → Bool
 starts_q t = eqb (length t) 3 && (eqb (get_or t 0 0) small_q && eqb (get_or t 1 0) capital_a)
 
--- a refusal: a blank hop
-unfoldable pub hop_refused : ℕ → HopRead
-hop_refused n = record { refusal = n; hop = blank_hop }
-
 -- a Q element
-unfoldable pub hop_named : List ℕ → HopRead
-hop_named name = record { refusal = 0; hop = q_hop name }
+unfoldable pub hop_named : List ℕ → Result Hop Fault
+hop_named name = Ok (q_hop name)
 
 -- a hop by its callsign, marked or not, 4 and 3; its star
-unfoldable pub hop_of : CallRead → HopRead
-hop_of c = record { refusal = c.refusal; hop = call_hop c.call c.starred }
+unfoldable pub hop_of : CallRead → Result Hop Fault
+hop_of c = cond (eqb c.refusal 0) (Ok (call_hop c.call c.starred)) (Err (Call c.refusal))
 
 -- "A hop: .. 6, 4, 3."; "6 stays for any other three bytes that start `qA`"
-unfoldable pub read_hop : List ℕ → HopRead
-read_hop t = cond (starts_q t) (cond (is_q_name t) (hop_named t) (hop_refused 6)) (hop_of (read_text t))
+unfoldable pub read_hop : List ℕ → Result Hop Fault
+read_hop t = cond (starts_q t) (cond (is_q_name t) (hop_named t) (Err OddName)) (hop_of (read_text t))
 
--- a hop in front of those that follow, or its refusal
-unfoldable pub hop_then : HopRead → Hops → Hops
-hop_then h later = cond (eqb h.refusal 0) (before h.hop later) (refused h.refusal)
+-- a hop in front of those that follow, or its fault
+unfoldable pub hop_then : Result Hop Fault → Hops → Hops
+hop_then (Err f) later = Err f
+hop_then (Ok h) later = before h later
 
 -- the hops of the parts, of which so many more may come; 5: "a ninth hop"
 unfoldable pub text_hops : ℕ → List (List ℕ) → Hops
-text_hops k [] = these []
-text_hops zero (t ∷ ts) = refused 5
+text_hops k [] = Ok []
+text_hops zero (t ∷ ts) = Err NinthHop
 text_hops (suc k) (t ∷ ts) = hop_then (read_hop t) (text_hops k ts)
 
 -- ---- stars

@@ -2,24 +2,31 @@
 // AX.25 frame, read and written.
 #![tactic(auto)]
 
-ghost use Rattle.std.specs.Prelude.{◌≡◌, true, cond, ◌&&◌, [], ◌∷◌, ◌≤◌, max, length, take, drop};
+ghost use Rattle.std.specs.Prelude.{◌≡◌, true, cond, not, ◌&&◌, [], ◌∷◌, ◌≤◌, length, drop, slice_index_or};
+ghost use Rattle.std.specs.List.{list_all, list_any};
 ghost use Rattle.laws.specs.Bytes.{capital_a, small_q};
-ghost use Rattle.laws.specs.Lists.{every};
 ghost use Rattle.buffer.specs.Wrote.{ends, wrote};
+ghost use Rattle.buffer.specs.Filled.{front_of};
 ghost use Rattle.callsign.specs.Packed.{write_address};
 ghost use Rattle.callsign.specs.Text.{read_text};
 ghost use Rattle.callsign.specs.Range.{in_range, text_of};
-ghost use Rattle.header.specs.Hop.{is_q_name, is_call, q_hop};
-ghost use Rattle.header.specs.Header.{these, blank_hop, path_of, blank_header, header_refused, header_accepted};
-ghost use Rattle.header.specs.Text.{fields, starts_q, hop_refused, hop_named, hop_of, text_hops, read_route, read_before, read_header_text, read_text_header, header_text};
+ghost use Rattle.header.specs.Hop.{is_q_name, is_heard, is_call, q_hop};
+ghost use Rattle.header.specs.Header.{number_of, blank_hop, path_of, blank_header, header_refused, header_accepted};
+ghost use Rattle.header.specs.Text.{fields, starts_q, hop_named, hop_of, text_hops, read_route, read_before, read_header_text, read_text_header, header_text};
 ghost use Rattle.header.specs.Frame.{starts_with_pair, frame_hops, with_pair, read_source, read_frame_header, header_frame};
 ghost use Rattle.header.specs.Range.{is_blank, is_blank_header, text_refusal, frame_refusal};
-ghost use Rattle.header.specs.Private.{path_refused, frame_read, text_read, starred_read, carried_kind, is_tidy_hop, is_tidy, building, plain, call_piece, address_piece, hop_piece, hop_address_piece, with_piece, with_pieces, is_sought, up_to, end_pieces, hop_pieces, text_pieces, end_address_pieces, hop_address_pieces, frame_pieces};
+ghost use Rattle.header.specs.Private.{frame_read, text_read, starred_read, carried_kind, is_tidy_hop, is_tidy};
+ghost use Rattle.header.specs.Pieces.{building, plain, call_piece, address_piece, hop_piece, hop_address_piece, with_refusal, with_piece, with_pieces, hop_pieces, hop_address_pieces};
 
+use buffer::Answer;
 use callsign::{Callsign, Field};
+use std::marker::Model;
 
 // How long a line or a frame may be.
 const MOST_BYTES: usize = 512;
+
+// The control and protocol bytes of a frame.
+const PAIR: [u8; 2] = [0x03, 0xf0];
 
 // The kinds of a hop: a callsign that was not heard is 0, one that was heard is 1; a Q element, whose name is its callsign's text, is 2.
 pub const HEARD: u8 = 1;
@@ -62,128 +69,134 @@ pub struct HeaderRead {
     pub refusal: u8,
 }
 
-// One hop read, or the refusal's number and a blank hop.
+// Hops whose stars are carried back, and the stars as typed.
 #[derive(Clone, Copy)]
-struct HopRead {
-    hop: Hop,
-    refusal: u8,
-}
-
-// Hops read and their stars as typed, or the refusal's number and no hops.
-#[derive(Clone, Copy)]
-struct PathRead {
+struct StarredPath {
     path: Path,
     stars: u8,
-    refusal: u8,
+}
+
+// Why no header is read.
+#[derive(Clone, Copy)]
+enum Fault {
+    TooLong,
+    Incomplete,
+    // A callsign or an address, with the number that its own reader gives.
+    Call(u8),
+    NinthHop,
+    OddName,
+}
+
+impl Fault {
+    // Its number by document 01.
+    fn number(self) -> u8
+        ensures { result ≡ number_of self }
+    {
+        match self {
+            Fault::TooLong => 1,
+            Fault::Incomplete => 2,
+            Fault::Call(n) => n,
+            Fault::NinthHop => 5,
+            Fault::OddName => 6,
+        }
+    }
 }
 
 // ---- nothing, and refusals
 
+#[tactic(auto, unfolding(crate::specs::Header::blank_hop, crate::specs::Hop::call_hop, crate::specs::Hop::heard_as))]
 fn blank_hop() -> Hop
     ensures { result ≡ blank_hop }
 {
-    let call = callsign::blank();
-    Hop { call, kind: 0 }
+    Hop {
+        call: callsign::blank(),
+        kind: 0,
+    }
 }
 
 // The path of no hops.
+#[tactic(auto, unfolding(crate::specs::Header::path_of, laws::specs::Lists::pad_to))]
 fn no_path() -> Path
     ensures { result ≡ path_of [] }
 {
-    let hop = blank_hop();
-    let hops = [hop; 8];
-    Path { hops, count: 0 }
+    Path {
+        count: 0,
+        hops: [blank_hop(); 8],
+    }
 }
 
 // The header with nothing in it.
+#[tactic(auto, unfolding(crate::specs::Header::blank_header, crate::specs::Header::header_of))]
 pub fn blank() -> Header
     ensures { result ≡ blank_header }
 {
-    let call = callsign::blank();
-    let path = no_path();
     Header {
-        from: call,
-        to: call,
-        path,
+        from: callsign::blank(),
+        to: callsign::blank(),
+        path: no_path(),
     }
 }
 
-fn refused(n: u8) -> HeaderRead
-    ensures { result ≡ header_refused n }
+#[tactic(auto, unfolding(crate::specs::Header::header_refused))]
+fn refused(why: Fault) -> HeaderRead
+    ensures { result ≡ header_refused (number_of why) }
 {
-    let header = blank();
     HeaderRead {
-        header,
+        header: blank(),
         body: 0,
         stars: 0,
-        refusal: n,
+        refusal: why.number(),
     }
 }
 
+#[tactic(auto, unfolding(crate::specs::Header::header_accepted, crate::specs::Header::header_of))]
 fn accepted(from: Callsign, to: Callsign, path: Path, body: usize, stars: u8) -> HeaderRead
     ensures { result ≡ header_accepted from to path body stars }
 {
-    let header = Header { from, to, path };
     HeaderRead {
-        header,
+        header: Header { from, to, path },
         body,
         stars,
         refusal: 0,
     }
 }
 
-fn path_refused(n: u8) -> PathRead
-    ensures { result ≡ path_refused n }
-{
-    let path = no_path();
-    PathRead {
-        path,
-        stars: 0,
-        refusal: n,
-    }
-}
-
 // ---- a line of text read
 
-// Three bytes that start `qA`.
-fn starts_q(t: &[u8]) -> bool
-    ensures { result ≡ starts_q t.now }
+// The third of three bytes that start `qA`.
+#[tactic(auto, unfolding(crate::specs::Text::starts_q))]
+fn q_letter(t: &[u8]) -> Option<u8>
+    ensures { result ≡ cond (starts_q t.now) (Some (slice_index_or t.now 2 0)) None }
 {
-    if t.len() == 3 {
-        if t[0] == b'q' {
-            return t[1] == b'A';
-        }
+    match t {
+        [b'q', b'A', c] => Some(*c),
+        _ => None,
     }
-    false
 }
 
 // Whether `qA` and c are the name of a Q element.
+#[tactic(auto, unfolding(crate::specs::Hop::is_q_name, laws::specs::Lists::any_of, laws::specs::Lists::same_bytes))]
 fn ends_name(c: u8) -> bool
     ensures { result ≡ is_q_name (small_q ∷ capital_a ∷ c ∷ []) }
 {
-    (c == b'C')
-        | (c == b'X')
-        | (c == b'U')
-        | (c == b'o')
-        | (c == b'O')
-        | (c == b'S')
-        | (c == b'r')
-        | (c == b'R')
-        | (c == b'Z')
-        | (c == b'I')
+    matches!(
+        c,
+        b'C' | b'X' | b'U' | b'o' | b'O' | b'S' | b'r' | b'R' | b'Z' | b'I'
+    )
 }
 
 // Whether t is the name of a Q element.
 pub fn is_q_name(t: &[u8]) -> bool
     ensures { result ≡ is_q_name t.now }
 {
-    if starts_q(t) {
-        return ends_name(t[2]);
+    match q_letter(t) {
+        Some(c) => ends_name(c),
+        None => false,
     }
-    false
 }
 
 // The Q element of `qA` and c.
+#[tactic(auto, unfolding(crate::specs::Hop::q_hop, callsign::specs::Text::made, callsign::specs::Text::joined, laws::specs::Lists::pad_to))]
 fn q_hop(c: u8) -> Hop
     ensures { result ≡ q_hop (small_q ∷ capital_a ∷ c ∷ []) }
 {
@@ -203,35 +216,35 @@ fn q_hop(c: u8) -> Hop
     }
 }
 
-// Reads a hop of `qA` and c: a Q element, or 6.
-fn read_q(c: u8) -> HopRead
-    ensures { result ≡ cond (is_q_name (small_q ∷ capital_a ∷ c ∷ [])) (hop_named (small_q ∷ capital_a ∷ c ∷ [])) (hop_refused 6) }
+// Reads a hop of `qA` and c: a Q element, or none.
+#[tactic(auto, unfolding(crate::specs::Text::hop_named))]
+fn read_q(c: u8) -> Result<Hop, Fault>
+    ensures { result ≡ cond (is_q_name (small_q ∷ capital_a ∷ c ∷ [])) (hop_named (small_q ∷ capital_a ∷ c ∷ [])) (Err Fault.OddName) }
 {
     if ends_name(c) {
-        let hop = q_hop(c);
-        return HopRead { hop, refusal: 0 };
+        Ok(q_hop(c))
+    } else {
+        Err(Fault::OddName)
     }
-    let hop = blank_hop();
-    HopRead { hop, refusal: 6 }
 }
 
 // Reads a hop that does not start so, by its callsign.
-fn read_call(t: &[u8]) -> HopRead
+#[tactic(auto, unfolding(crate::specs::Text::hop_of, crate::specs::Hop::call_hop), using(crate::proofs::Hops::flag_as))]
+fn read_call(t: &[u8]) -> Result<Hop, Fault>
     ensures { result ≡ hop_of (read_text t.now) }
 {
     let c = callsign::read_text(t);
-    let call = c.call;
-    let hop = Hop {
-        call,
-        kind: c.starred as u8,
-    };
-    HopRead {
-        hop,
-        refusal: c.refusal,
+    if c.refusal != 0 {
+        return Err(Fault::Call(c.refusal));
     }
+    Ok(Hop {
+        call: c.call,
+        kind: c.starred as u8,
+    })
 }
 
 // The number of a hop of such a number, where a callsign is heard or not; a Q element stays one.
+#[tactic(auto, unfolding(crate::specs::Private::carried_kind), using(crate::proofs::Hops::flag_as))]
 fn carried_kind(kind: u8, heard: bool) -> u8
     ensures { result ≡ carried_kind kind heard }
 {
@@ -241,67 +254,45 @@ fn carried_kind(kind: u8, heard: bool) -> u8
     heard as u8
 }
 
-// The path of the first n hops, each callsign heard where it or a later one is starred, and the stars as typed.
-fn carry(hops: [Hop; 8], n: usize) -> PathRead
-    requires { n ≤ 8 }
-    ensures { result ≡ starred_read hops n }
+// The path, each callsign heard where it or a later one is starred, and the stars as typed.
+fn carry(typed: Path) -> StarredPath
+    requires { typed.count ≤ 8 }
+    ensures { result ≡ starred_read typed }
 {
-    let mut out = hops;
+    let mut path = typed;
     let mut stars: u8 = 0;
     let mut heard = false;
-    let mut i = n;
-    while 0 < i {
-        i -= 1;
-        let kind = out[i].kind;
+    for i in (0..typed.count).rev() {
+        let kind = path.hops[i].kind;
         let starred = kind == HEARD;
         stars = 2 * stars + (starred as u8);
         heard = starred | heard;
-        out[i].kind = carried_kind(kind, heard);
+        path.hops[i].kind = carried_kind(kind, heard);
     }
-    let path = Path {
-        hops: out,
-        count: n,
-    };
-    PathRead {
-        path,
-        stars,
-        refusal: 0,
-    }
+    StarredPath { path, stars }
 }
 
 // The hops of a text, with commas between them. Q elements and callsigns are set in a branch each: where one function answers either,
 // the compiler puts every hop together byte by byte.
-fn read_hops(s: &[u8]) -> PathRead
+fn read_hops(s: &[u8]) -> Result<StarredPath, Fault>
     ensures { result ≡ text_read (text_hops 8 (fields s.now)) }
 {
-    let none = blank_hop();
-    let mut hops = [none; 8];
+    let mut hops = [blank_hop(); 8];
     let mut n: usize = 0;
     let mut t = s;
     loop {
         if n == 8 {
-            return path_refused(5);
+            return Err(Fault::NinthHop);
         }
         let e = laws::find(t, b',');
         let part = &t[..e];
-        if starts_q(part) {
-            let q = read_q(part[2]);
-            if q.refusal != 0 {
-                return path_refused(q.refusal);
-            }
-            let hop = q.hop;
-            hops[n] = hop;
-        } else {
-            let c = read_call(part);
-            if c.refusal != 0 {
-                return path_refused(c.refusal);
-            }
-            let hop = c.hop;
-            hops[n] = hop;
+        match q_letter(part) {
+            Some(c) => hops[n] = read_q(c)?,
+            None => hops[n] = read_call(part)?,
         }
         n += 1;
         if e == t.len() {
-            return carry(hops, n);
+            return Ok(carry(Path { count: n, hops }));
         }
         t = &t[e + 1..];
     }
@@ -314,16 +305,15 @@ fn read_route(from: Callsign, t: &[u8], body: usize) -> HeaderRead
     let d = laws::find(t, b',');
     let to = callsign::read_text(&t[..d]);
     if to.refusal != 0 {
-        return refused(to.refusal);
+        return refused(Fault::Call(to.refusal));
     }
     if d == t.len() {
         return accepted(from, to.call, no_path(), body, 0);
     }
-    let hops = read_hops(&t[d + 1..]);
-    if hops.refusal != 0 {
-        return refused(hops.refusal);
+    match read_hops(&t[d + 1..]) {
+        Ok(hops) => accepted(from, to.call, hops.path, body, hops.stars),
+        Err(fault) => refused(fault),
     }
-    accepted(from, to.call, hops.path, body, hops.stars)
 }
 
 // What stands before `:`.
@@ -332,11 +322,11 @@ fn read_before(t: &[u8], body: usize) -> HeaderRead
 {
     let g = laws::find(t, b'>');
     if g == t.len() {
-        return refused(2);
+        return refused(Fault::Incomplete);
     }
     let from = callsign::read_text(&t[..g]);
     if from.refusal != 0 {
-        return refused(from.refusal);
+        return refused(Fault::Call(from.refusal));
     }
     read_route(from.call, &t[g + 1..], body)
 }
@@ -348,17 +338,18 @@ pub fn read_any_length(s: &[u8]) -> HeaderRead
 {
     let c = laws::find(s, b':');
     if c == s.len() {
-        return refused(2);
+        return refused(Fault::Incomplete);
     }
     read_before(&s[..c], c + 1)
 }
 
 // Reads the header of a line: refused with 1, and then as that of a text of any length.
+#[tactic(auto, unfolding(crate::specs::Text::read_text_header))]
 pub fn read_text(s: &[u8]) -> HeaderRead
     ensures { result ≡ read_text_header s.now }
 {
     if MOST_BYTES < s.len() {
-        return refused(1);
+        return refused(Fault::TooLong);
     }
     read_any_length(s)
 }
@@ -366,103 +357,68 @@ pub fn read_text(s: &[u8]) -> HeaderRead
 // ---- a frame read
 
 // The hops' addresses at the front of s, up to the first whose low bit is set.
-fn walk(s: &[u8]) -> PathRead
+fn walk(s: &[u8]) -> Result<Path, Fault>
     ensures { result ≡ frame_read (frame_hops 8 s.now) }
 {
-    let none = blank_hop();
-    let mut hops = [none; 8];
+    let mut hops = [blank_hop(); 8];
     let mut count: usize = 0;
     let mut at: usize = 0;
-    let mut refusal: u8 = 0;
     'hops: loop {
         if count == 8 {
-            refusal = 5;
-            break 'hops;
+            break 'hops Err(Fault::NinthHop);
         }
         if s.len() - at < 7 {
-            refusal = 2;
-            break 'hops;
+            break 'hops Err(Fault::Incomplete);
         }
         let mut call = [0u8; 6];
         let mut n: usize = 0;
         let mut space = false;
-        let mut i: usize = 0;
-        while i < 6 {
-            let d = s[at + i];
-            i += 1;
-            if callsign::last(d) {
-                refusal = 3;
-                break 'hops;
+        for d in &s[at..at + 6] {
+            if callsign::last(*d) {
+                break 'hops Err(Fault::Call(3));
             }
-            let c = d >> 1;
+            let c = *d >> 1;
             if c == b' ' {
                 space = true;
-            } else {
-                if space {
-                    refusal = 3;
-                    break 'hops;
-                }
-                if !callsign::letter_or_digit(c) {
-                    refusal = 3;
-                    break 'hops;
-                }
-                call[n] = callsign::capital(c);
-                n += 1;
+                continue;
             }
+            if space || !callsign::letter_or_digit(c) {
+                break 'hops Err(Fault::Call(3));
+            }
+            call[n] = callsign::capital(c);
+            n += 1;
         }
         let seventh = s[at + 6];
-        let made = callsign::address_call(call, n, seventh);
-        let heard = callsign::heard(seventh);
         hops[count] = Hop {
-            call: made,
-            kind: heard as u8,
+            call: callsign::address_call(call, n, seventh),
+            kind: callsign::heard(seventh) as u8,
         };
         count += 1;
         at += 7;
         if callsign::last(seventh) {
-            break 'hops;
+            break 'hops Ok(Path { count, hops });
         }
-    }
-    if refusal != 0 {
-        return path_refused(refusal);
-    }
-    let path = Path { hops, count };
-    PathRead {
-        path,
-        stars: 0,
-        refusal: 0,
     }
 }
 
 // The hops of a frame whose source is its last address, or not.
-fn hops_of(last: bool, s: &[u8]) -> PathRead
+fn hops_of(last: bool, s: &[u8]) -> Result<Path, Fault>
     requires { 14 ≤ length s.now }
-    ensures { result ≡ frame_read (cond last (these []) (frame_hops 8 (drop 14 s.now))) }
+    ensures { result ≡ frame_read (cond last (Ok []) (frame_hops 8 (drop 14 s.now))) }
 {
     if last {
-        let path = no_path();
-        return PathRead {
-            path,
-            stars: 0,
-            refusal: 0,
-        };
+        return Ok(no_path());
     }
     walk(&s[14..])
 }
 
 // Whether the control and protocol bytes stand in s at the place `at`.
+#[tactic(auto, using(crate::proofs::Frames::pair_short, crate::proofs::Frames::pair_first, crate::proofs::Frames::pair_second))]
 fn has_pair(s: &[u8], at: usize) -> bool
     requires { at ≤ 70 }
     ensures { result ≡ starts_with_pair (drop at s.now) }
 {
-    if s.len() < at + 2 {
-        return false;
-    }
-    let pair = b"\x03\xf0";
-    if s[at] != pair[0] {
-        return false;
-    }
-    s[at + 1] == pair[1]
+    at + 2 <= s.len() && s[at] == PAIR[0] && s[at + 1] == PAIR[1]
 }
 
 // The header of a source, a destination and a path, if the control and protocol bytes follow the addresses in s.
@@ -474,7 +430,7 @@ fn with_pair(from: Callsign, to: Callsign, path: Path, s: &[u8]) -> HeaderRead
     if has_pair(s, at) {
         return accepted(from, to, path, at + 2, 0);
     }
-    refused(2)
+    refused(Fault::Incomplete)
 }
 
 // Source and hops of a frame whose destination is read.
@@ -482,17 +438,16 @@ fn read_source(to: Callsign, s: &[u8]) -> HeaderRead
     ensures { result ≡ read_source to s.now }
 {
     if s.len() < 14 {
-        return refused(2);
+        return refused(Fault::Incomplete);
     }
     let from = callsign::read_address(&s[7..14]);
     if from.refusal != 0 {
-        return refused(from.refusal);
+        return refused(Fault::Call(from.refusal));
     }
-    let hops = hops_of(from.last, s);
-    if hops.refusal != 0 {
-        return refused(hops.refusal);
+    match hops_of(from.last, s) {
+        Ok(path) => with_pair(from.call, to, path, s),
+        Err(fault) => refused(fault),
     }
-    with_pair(from.call, to, hops.path, s)
 }
 
 // Reads the header of a frame: refused with 1, 2, 3 or 5, as document 01 orders them; each hop's heard bit as it is.
@@ -500,17 +455,17 @@ pub fn read_frame(s: &[u8]) -> HeaderRead
     ensures { result ≡ read_frame_header s.now }
 {
     if MOST_BYTES < s.len() {
-        return refused(1);
+        return refused(Fault::TooLong);
     }
     if s.len() < 7 {
-        return refused(2);
+        return refused(Fault::Incomplete);
     }
     let to = callsign::read_address(&s[..7]);
     if to.refusal != 0 {
-        return refused(to.refusal);
+        return refused(Fault::Call(to.refusal));
     }
     if to.last {
-        return refused(2);
+        return refused(Fault::Incomplete);
     }
     read_source(to.call, s)
 }
@@ -518,316 +473,243 @@ pub fn read_frame(s: &[u8]) -> HeaderRead
 // ---- which paths can be written
 
 // A hop with nothing in it, and not heard.
+#[tactic(auto, unfolding(crate::specs::Range::is_blank))]
 fn is_blank_hop(h: Hop) -> bool
     ensures { result ≡ is_blank h }
 {
-    if h.kind != 0 {
-        return false;
-    }
-    callsign::is_blank(h.call)
+    h.kind == 0 && callsign::is_blank(h.call)
 }
 
-// Whether the hops from n on are blank.
-fn spare_blank(hops: [Hop; 8], n: usize) -> bool
-    requires { n ≤ 8 }
-    ensures { result ≡ every is_blank (drop n hops) }
+fn all_blank(hops: &[Hop]) -> bool
+    ensures { result ≡ list_all is_blank hops.now }
 {
-    let mut i = n;
-    while i < 8 {
-        let h = hops[i];
-        if !is_blank_hop(h) {
-            return false;
-        }
-        i += 1;
-    }
-    true
+    hops.iter().all(|h| is_blank_hop(*h))
 }
 
 // Whether a path has at most eight hops, and nothing in the spare ones.
-fn is_tidy(p: Path) -> bool
-    ensures { result ≡ is_tidy p }
+#[tactic(auto, unfolding(crate::specs::Private::is_tidy))]
+fn is_tidy(p: &Path) -> bool
+    ensures { result ≡ is_tidy p.now }
 {
-    if 8 < p.count {
-        return false;
-    }
-    let hops = p.hops;
-    spare_blank(hops, p.count)
+    p.count <= 8 && all_blank(&p.hops[p.count..])
 }
 
 // Whether there is nothing in a header: neither source nor destination, and no hop.
+#[tactic(auto, unfolding(crate::specs::Range::is_blank_header), using(crate::proofs::Chains::all_every))]
 pub fn is_blank(h: Header) -> bool
     ensures { result ≡ is_blank_header h }
 {
-    if !callsign::is_blank(h.from) {
-        return false;
-    }
-    if !callsign::is_blank(h.to) {
-        return false;
-    }
-    let path = h.path;
-    if path.count != 0 {
-        return false;
-    }
-    let hops = path.hops;
-    spare_blank(hops, 0)
-}
-
-// ---- pieces put into a scratch array, each judged by its own writer
-
-// The place behind the pieces that are put, and the greatest refusal of their writers or 0: 15 counts before 13.
-#[derive(Clone, Copy)]
-struct Put {
-    at: usize,
-    refusal: u8,
-}
-
-fn greater(a: u8, b: u8) -> u8
-    ensures { result ≡ max a b }
-{
-    if a < b { b } else { a }
+    callsign::is_blank(h.from)
+        && callsign::is_blank(h.to)
+        && h.path.count == 0
+        && all_blank(&h.path.hops)
 }
 
 // Whether the callsign of a Q element is in range, and its text a name.
 fn is_named(c: Callsign) -> bool
     ensures { result ≡ (is_q_name (text_of c) && in_range c) }
 {
-    if !callsign::in_range(c) {
-        return false;
-    }
-    let n = callsign::text_len(c);
-    let text = c.text;
-    is_q_name(&text[..n])
+    callsign::in_range(c) && is_q_name(&c.text[..callsign::text_len(c)])
 }
 
 // Whether a hop is a Q element in range, or has the number of a callsign, which its own writer judges.
+#[tactic(auto, unfolding(crate::specs::Private::is_tidy_hop, crate::specs::Hop::is_q_element), using(crate::proofs::InRange::q_in_range))]
 fn is_tidy_hop(h: Hop) -> bool
     ensures { result ≡ is_tidy_hop h }
 {
-    if h.kind != Q_ELEMENT {
-        return h.kind <= HEARD;
-    }
-    is_named(h.call)
-}
-
-// Puts nothing of a hop that is out of range.
-fn put_nothing(p: Put) -> Put
-    ensures { (result.at ≡ p.at) × (result.refusal ≡ max p.refusal 15) }
-{
-    Put {
-        at: p.at,
-        refusal: greater(p.refusal, 15),
-    }
-}
-
-// Puts bytes that nothing refuses.
-fn put_bytes(p: Put, s: &[u8], scratch: &mut [u8]) -> Put
-    requires { p.at ≤ length scratch.old }
-    ensures { building result.refusal scratch.new result.at ≡ with_piece (building p.refusal scratch.old p.at) (plain s.now) }
-{
-    let at = p.at;
-    let w = buffer::write(s, &mut scratch[at..]);
-    Put {
-        at: at + w.reported,
-        refusal: greater(p.refusal, w.refusal),
-    }
-}
-
-// Puts a callsign's text, with a star behind it where starred.
-fn put_call(p: Put, c: Callsign, starred: bool, scratch: &mut [u8]) -> Put
-    requires { p.at ≤ length scratch.old }
-    ensures { building result.refusal scratch.new result.at ≡ with_piece (building p.refusal scratch.old p.at) (call_piece c starred) }
-{
-    let at = p.at;
-    let text = callsign::write_text(c, starred, &mut scratch[at..]);
-    Put {
-        at: at + text.reported,
-        refusal: greater(p.refusal, text.refusal),
-    }
-}
-
-// Puts a hop's text, with a star behind it where starred.
-fn put_hop(p: Put, h: Hop, starred: bool, scratch: &mut [u8]) -> Put
-    requires { p.at ≤ length scratch.old }
-    ensures { building result.refusal scratch.new result.at ≡ with_piece (building p.refusal scratch.old p.at) (hop_piece h starred) }
-{
-    if !is_tidy_hop(h) {
-        return put_nothing(p);
-    }
-    put_call(p, h.call, starred, scratch)
-}
-
-// Puts a callsign's address.
-fn put_address(p: Put, c: Callsign, field: Field, last: bool, scratch: &mut [u8]) -> Put
-    requires { p.at ≤ length scratch.old }
-    ensures { building result.refusal scratch.new result.at ≡ with_piece (building p.refusal scratch.old p.at) (address_piece (write_address c field last)) }
-{
-    let a = callsign::write_address(c, field, last);
-    if a.refusal != 0 {
-        return Put {
-            at: p.at,
-            refusal: greater(p.refusal, a.refusal),
-        };
-    }
-    let seven = a.bytes;
-    put_bytes(p, &seven, scratch)
-}
-
-// Puts a hop's address; of a Q element nothing.
-fn put_hop_address(p: Put, h: Hop, last: bool, scratch: &mut [u8]) -> Put
-    requires { p.at ≤ length scratch.old }
-    ensures { building result.refusal scratch.new result.at ≡ with_piece (building p.refusal scratch.old p.at) (hop_address_piece h last) }
-{
-    if !is_tidy_hop(h) {
-        return put_nothing(p);
-    }
     if h.kind == Q_ELEMENT {
-        return p;
+        is_named(h.call)
+    } else {
+        h.kind <= HEARD
     }
-    let field = Field::Hop(h.kind == HEARD);
-    put_address(p, h.call, field, last, scratch)
-}
-
-// Writes what is put, unless a piece of it was refused.
-fn write_put(p: Put, scratch: &[u8], out: &mut [u8]) -> buffer::Answer
-    requires { p.at ≤ length scratch.now }
-    ensures { ends result out.new ≡ wrote p.refusal (take p.at scratch.now) out.old }
-{
-    if p.refusal != 0 {
-        return buffer::refused(p.refusal);
-    }
-    let n = p.at;
-    buffer::write(&scratch[..n], out)
 }
 
 // ---- which hop is the last
 
-// Whether a hop is sought: a heard callsign, or any.
-fn is_sought(heard: bool, h: Hop) -> bool
-    ensures { result ≡ is_sought heard h }
+#[tactic(auto, unfolding(crate::specs::Hop::is_heard))]
+fn any_heard(hops: &[Hop]) -> bool
+    ensures { result ≡ list_any is_heard hops.now }
 {
-    if heard {
-        return h.kind == HEARD;
-    }
-    h.kind != Q_ELEMENT
+    hops.iter().any(|h| h.kind == HEARD)
 }
 
-// The number of hops up to the last of the first n that is sought; 0 where none is.
-fn up_to(heard: bool, hops: [Hop; 8], n: usize) -> usize
-    requires { n ≤ 8 }
-    ensures { result ≡ up_to (is_sought heard) (take n hops) }
+// Whether a hop is heard, and none of those behind it.
+#[tactic(auto, unfolding(crate::specs::Hop::is_heard))]
+fn is_last_heard(h: Hop, later: &[Hop]) -> bool
+    ensures { result ≡ (is_heard h && not (list_any is_heard later.now)) }
 {
-    let mut last: usize = 0;
-    let mut i: usize = 0;
-    while i < n {
-        let h = hops[i];
-        i += 1;
-        if is_sought(heard, h) {
-            last = i;
+    h.kind == HEARD && !any_heard(later)
+}
+
+#[tactic(auto, unfolding(crate::specs::Hop::is_q_element))]
+fn any_call(hops: &[Hop]) -> bool
+    ensures { result ≡ list_any is_call hops.now }
+{
+    hops.iter().any(|h| h.kind != Q_ELEMENT)
+}
+
+// ---- pieces put into a scratch array, each judged by its own writer
+
+// A lent array, the pieces at its front, and the greatest refusal of their writers or 0: 15 counts before 13.
+#[derive(Drop)]
+struct Draft<'a> {
+    bytes: &'a mut [u8],
+    len: usize,
+    refusal: u8,
+}
+
+impl<'a> Model for Draft<'a> {
+    ghost use Rattle.std.specs.Prelude.{◌≤◌, length};
+    ghost use Rattle.header.specs.Pieces.{Building, building};
+
+    ghost Value = { Building };
+
+    ghost view = { λ d. building d.refusal d.bytes.now d.len };
+
+    ghost invariant = { λ d. d.len ≤ length d.bytes.now };
+}
+
+impl<'a> Draft<'a> {
+    fn new(bytes: &'a mut [u8]) -> Draft<'a>
+        ensures { result ≡ building 0 bytes.old 0 }
+    {
+        Draft {
+            bytes,
+            len: 0,
+            refusal: 0,
         }
     }
-    last
-}
 
-// ---- a line of text written
-
-// Puts each of the first n hops after a comma, with a star after the last that was heard.
-fn put_hops(p: Put, hops: [Hop; 8], n: usize, scratch: &mut [u8]) -> Put
-    requires { (n ≤ 8) × (p.at ≤ length scratch.old) }
-    ensures { building result.refusal scratch.new result.at ≡ with_pieces (building p.refusal scratch.old p.at) (hop_pieces (take n hops)) }
-{
-    let last = up_to(true, hops, n);
-    let mut done = p;
-    let mut i: usize = 0;
-    while i < n {
-        let h = hops[i];
-        i += 1;
-        let comma = put_bytes(done, b",", scratch);
-        done = put_hop(comma, h, i == last, scratch);
+    // Puts nothing of a piece that is refused.
+    #[tactic(auto, unfolding(crate::specs::Pieces::with_refusal))]
+    fn refuse(&mut self, refusal: u8)
+        ensures { self.new ≡ with_refusal self.old refusal }
+    {
+        self.refusal = self.refusal.max(refusal);
     }
-    done
+
+    // Puts bytes that nothing refuses.
+    fn put(&mut self, s: &[u8])
+        ensures { self.new ≡ with_piece self.old (plain s.now) }
+    {
+        let at = self.len;
+        let w = buffer::write(s, &mut self.bytes[at..]);
+        self.len = at + w.reported;
+        self.refusal = self.refusal.max(w.refusal);
+    }
+
+    // Puts a callsign's text, with a star behind it where starred.
+    fn put_call(&mut self, c: Callsign, starred: bool)
+        ensures { self.new ≡ with_piece self.old (call_piece c starred) }
+    {
+        let at = self.len;
+        let text = callsign::write_text(c, starred, &mut self.bytes[at..]);
+        self.len = at + text.reported;
+        self.refusal = self.refusal.max(text.refusal);
+    }
+
+    // Puts a callsign's address.
+    fn put_address(&mut self, c: Callsign, field: Field, last: bool)
+        ensures { self.new ≡ with_piece self.old (address_piece (write_address c field last)) }
+    {
+        let a = callsign::write_address(c, field, last);
+        if a.refusal == 0 {
+            self.put(&a.bytes);
+        } else {
+            self.refuse(a.refusal);
+        }
+    }
+
+    // Puts a hop's text, with a star behind it where starred.
+    fn put_hop(&mut self, h: Hop, starred: bool)
+        ensures { self.new ≡ with_piece self.old (hop_piece h starred) }
+    {
+        if is_tidy_hop(h) {
+            self.put_call(h.call, starred);
+        } else {
+            self.refuse(15);
+        }
+    }
+
+    // Puts a hop's address; of a Q element nothing.
+    fn put_hop_address(&mut self, h: Hop, last: bool)
+        ensures { self.new ≡ with_piece self.old (hop_address_piece h last) }
+    {
+        if !is_tidy_hop(h) {
+            self.refuse(15);
+        } else if h.kind == Q_ELEMENT {
+            self.put(b"");
+        } else {
+            self.put_address(h.call, Field::Hop(h.kind == HEARD), last);
+        }
+    }
+
+    // Puts each hop after a comma, with a star after the last that was heard.
+    fn put_hops(&mut self, hops: &[Hop])
+        ensures { self.new ≡ with_pieces self.old (hop_pieces hops.now) }
+    {
+        let mut rest = hops;
+        while let Some((h, later)) = rest.split_first() {
+            self.put(b",");
+            self.put_hop(*h, is_last_heard(*h, later));
+            rest = later;
+        }
+    }
+
+    // Puts the addresses of the callsigns among the hops, the last of them marked.
+    fn put_hop_addresses(&mut self, hops: &[Hop])
+        ensures { self.new ≡ with_pieces self.old (hop_address_pieces hops.now) }
+    {
+        let mut rest = hops;
+        while let Some((h, later)) = rest.split_first() {
+            self.put_hop_address(*h, !any_call(later));
+            rest = later;
+        }
+    }
+
+    // Writes what is put, unless a piece of it was refused.
+    fn write(&self, out: &mut [u8]) -> Answer
+        ensures { ends result out.new ≡ wrote self.now.refusal (front_of self.now.array) out.old }
+    {
+        if self.refusal != 0 {
+            return buffer::refused(self.refusal);
+        }
+        buffer::write(&self.bytes[..self.len], out)
+    }
 }
 
-// Puts source and destination, with `>` between them.
-fn put_ends(from: Callsign, to: Callsign, scratch: &mut [u8]) -> Put
-    ensures { building result.refusal scratch.new result.at ≡ with_pieces (building 0 scratch.old 0) (end_pieces from to) }
-{
-    let start = Put { at: 0, refusal: 0 };
-    let source = put_call(start, from, false, scratch);
-    let mark = put_bytes(source, b">", scratch);
-    put_call(mark, to, false, scratch)
-}
-
-// Puts a header as text, with its colon.
-fn put_text(h: Header, scratch: &mut [u8]) -> Put
-    requires { h.path.count ≤ 8 }
-    ensures { building result.refusal scratch.new result.at ≡ with_pieces (building 0 scratch.old 0) (text_pieces h) }
-{
-    let path = h.path;
-    let hops = path.hops;
-    let ends = put_ends(h.from, h.to, scratch);
-    let route = put_hops(ends, hops, path.count, scratch);
-    put_bytes(route, b":", scratch)
-}
+// ---- a header written
 
 // Writes a header as text, with its colon; refused with 15 or 16.
-pub fn write_text(h: Header, out: &mut [u8]) -> buffer::Answer
+pub fn write_text(h: Header, out: &mut [u8]) -> Answer
     ensures { ends result out.new ≡ wrote (text_refusal h) (header_text h) out.old }
 {
-    if !is_tidy(h.path) {
+    if !is_tidy(&h.path) {
         return buffer::refused(15);
     }
     let mut scratch = [0u8; 178];
-    let p = put_text(h, &mut scratch);
-    write_put(p, &scratch, out)
-}
-
-// ---- a frame written
-
-// Puts the addresses of the callsigns among the first n hops, the last of them marked.
-fn put_hop_addresses(p: Put, hops: [Hop; 8], n: usize, last: usize, scratch: &mut [u8]) -> Put
-    requires { (n ≤ 8) × (p.at ≤ length scratch.old) × (last ≡ up_to is_call (take n hops)) }
-    ensures { building result.refusal scratch.new result.at ≡ with_pieces (building p.refusal scratch.old p.at) (hop_address_pieces (take n hops)) }
-{
-    let mut done = p;
-    let mut i: usize = 0;
-    while i < n {
-        let h = hops[i];
-        i += 1;
-        done = put_hop_address(done, h, i == last, scratch);
-    }
-    done
-}
-
-// Puts the addresses of destination and source, the source's marked where it is the last.
-fn put_end_addresses(to: Callsign, from: Callsign, last: bool, scratch: &mut [u8]) -> Put
-    ensures { building result.refusal scratch.new result.at ≡ with_pieces (building 0 scratch.old 0) (end_address_pieces to from last) }
-{
-    let start = Put { at: 0, refusal: 0 };
-    let destination = put_address(start, to, Field::Destination, false, scratch);
-    put_address(destination, from, Field::Source, last, scratch)
-}
-
-// Puts a header as the front of a frame: destination, source, hops, and the control pair.
-fn put_frame(h: Header, scratch: &mut [u8]) -> Put
-    requires { h.path.count ≤ 8 }
-    ensures { building result.refusal scratch.new result.at ≡ with_pieces (building 0 scratch.old 0) (frame_pieces h) }
-{
-    let path = h.path;
-    let hops = path.hops;
-    let last = up_to(false, hops, path.count);
-    let ends = put_end_addresses(h.to, h.from, last == 0, scratch);
-    let route = put_hop_addresses(ends, hops, path.count, last, scratch);
-    put_bytes(route, b"\x03\xf0", scratch)
+    let mut draft = Draft::new(&mut scratch);
+    draft.put_call(h.from, false);
+    draft.put(b">");
+    draft.put_call(h.to, false);
+    draft.put_hops(&h.path.hops[..h.path.count]);
+    draft.put(b":");
+    draft.write(out)
 }
 
 // Writes the header of a frame, addresses and control pair; refused with 15, 13 or 16.
-pub fn write_frame(h: Header, out: &mut [u8]) -> buffer::Answer
+pub fn write_frame(h: Header, out: &mut [u8]) -> Answer
     ensures { ends result out.new ≡ wrote (frame_refusal h) (header_frame h) out.old }
 {
-    if !is_tidy(h.path) {
+    if !is_tidy(&h.path) {
         return buffer::refused(15);
     }
+    let hops = &h.path.hops[..h.path.count];
     let mut scratch = [0u8; 72];
-    let p = put_frame(h, &mut scratch);
-    write_put(p, &scratch, out)
+    let mut draft = Draft::new(&mut scratch);
+    draft.put_address(h.to, Field::Destination, false);
+    draft.put_address(h.from, Field::Source, !any_call(hops));
+    draft.put_hop_addresses(hops);
+    draft.put(&PAIR);
+    draft.write(out)
 }

@@ -1,9 +1,7 @@
--- Stars are carried back from the last hop to the first: those from i on are done. Assumes nothing.
+-- Stars are carried back from the last hop to the first: those behind the next are done. Assumes nothing.
+use Rattle.std.proofs.Common.{◌≡◌}
 use Rattle.header.proofs.Stars.{Carrying}
 use Rattle.header.proofs.carry.Given as goal
 
 abbrev pub invariant-loop-i : goal.invariant-loop-i
-invariant-loop-i l = Carrying l.initial.out l.n l.out l.stars l.heard l.i
-
-abbrev pub decreases-loop-i : goal.decreases-loop-i
-decreases-loop-i l = l.i
+invariant-loop-i l = Carrying l.fn.typed.hops l.fn.typed.count l.path.hops l.stars l.heard l.i × (l.path.count ≡ l.fn.typed.count)

@@ -1,13 +1,10 @@
 -- By the third byte, if the first two are `qA`. Assumes nothing.
-use Rattle.header.proofs.Hops.{name_by_third, name_by_start, third_there}
-use borrow.Author.Rules.{rules}
+use Rattle.std.proofs.Common.{rules}
+use Rattle.header.proofs.Hops.{name_by_third, name_by_start}
 use Rattle.header.proofs.is_q_name.Goals as goal
 
-pub bounds-t-2 : goal.bounds-t-2
-bounds-t-2 c = search (rules, third_there)
+pub returns-in-Some : goal.returns-in-Some
+returns-in-Some c = search (rules, name_by_third)
 
-pub returns-then-starts_q : goal.returns-then-starts_q
-returns-then-starts_q c = search (rules, name_by_third)
-
-pub returns : goal.returns
-returns c = search (rules, name_by_start)
+pub returns-in-None : goal.returns-in-None
+returns-in-None c = search (rules, name_by_start)

@@ -1,13 +1,7 @@
 -- The number of hops, and the spare ones. Assumes nothing.
-use Rattle.header.specs.Private.{is_tidy}
-use Rattle.laws.proofs.Picks.{picks}
-use borrow.Author.Rules.{rules}
+use borrow.Author.Rules.{rules, length_unmapped}
+use Rattle.header.proofs.InRange.{tidy_by}
 use Rattle.header.proofs.is_tidy.Goals as goal
 
-pub returns-then-p-gt8 : goal.returns-then-p-gt8
-unfolding is_tidy
-returns-then-p-gt8 c = search (rules, picks)
-
-pub returns : goal.returns
-unfolding is_tidy
-returns c = search (rules, picks)
+pub returns-then-p-le8 : goal.returns-then-p-le8
+returns-then-p-le8 c = search (rules, tidy_by, length_unmapped)

@@ -1,11 +1,11 @@
 -- The hops of a text: each part between commas is one, a Q element or a callsign, and their stars are carried back. Assumes nothing.
-use borrow.Author.Rules.{rules}
-use lib.ListN.{take}
+use Rattle.std.proofs.Common.{rules, take}
+use Rattle.std.proofs.lemmas.Result.{err_from_is_err_and}
 use Rattle.laws.proofs.Places.{found_part, found_next}
-use Rattle.header.proofs.Hops.{third_there, hop_by_third, hop_by_call}
-use Rattle.header.proofs.TextHops.{reading_start, ninth, hop_refused_lem, Taken, taken_as, hop_last, hop_fits, hop_less, hop_more, hops_read}
+use Rattle.header.proofs.Hops.{hop_by_third, hop_by_call}
+use Rattle.header.proofs.TextHops.{Taken, taken_as, reading_start, ninth, hop_fault, hop_fits, hop_less, hop_last, hop_more, hops_read}
+use Rattle.header.proofs.read_hops.Goals.{in-Some+in_ok-hops-in-Some, in-None+in_ok-hops-in-None}
 use Rattle.header.proofs.read_hops.Goals as goal
-use Rattle.header.proofs.read_hops.Goals.{then-starts_q+else-q-ne0, else-starts_q+else-c-ne0}
 
 pub loop-n-init : goal.loop-n-init
 loop-n-init c = search (rules, reading_start)
@@ -16,21 +16,18 @@ returns-then-n-eq8 c = search (rules, ninth)
 pub slice_bounds-part-end : goal.slice_bounds-part-end
 slice_bounds-part-end c = search (rules, found_part)
 
-pub bounds-part-2 : goal.bounds-part-2
-bounds-part-2 c = search (rules, third_there)
+pub returns-in_err-hops-in-Some : goal.returns-in_err-hops-in-Some
+returns-in_err-hops-in-Some c = let p = err_from_is_err_and c.from_residual.result c.from_residual.ensures.1 in rw (p.1, p.2) (hop_fault _ _ _ _ c.loop-n.invariant _ c.if-n-eq8.false c.find-e.ensures _ _ (hop_by_third _ _ c.q_letter.ensures _ c.in-Some.is _ c.read_q.ensures) c.in_err-hops-in-Some.was)
 
-pub returns-then-q-ne0 : goal.returns-then-q-ne0
-returns-then-q-ne0 c = search (rules, hop_refused_lem, hop_by_third)
-
-pub returns-then-c-ne0 : goal.returns-then-c-ne0
-returns-then-c-ne0 c = search (rules, hop_refused_lem, hop_by_call)
+pub returns-in_err-hops-in-None : goal.returns-in_err-hops-in-None
+returns-in_err-hops-in-None c = let p = err_from_is_err_and c.from_residual-in_err-hops-in-None.result c.from_residual-in_err-hops-in-None.ensures.1 in rw (p.1, p.2) (hop_fault _ _ _ _ c.loop-n.invariant _ c.if-n-eq8.false c.find-e.ensures _ _ (hop_by_call _ _ c.q_letter.ensures c.in-None.is _ c.read_call.ensures) c.in_err-hops-in-None.was)
 
 pub returns-then-e-t : goal.returns-then-e-t
 returns-then-e-t c =
-    let k : Taken (take c.find-e.result c.loop-n.t.now) c.loop-n.hops c.loop-n.n c.if-starts_q.hops =
-    elim c.if-starts_q.branch [
-      | then-starts_q+else-q-ne0 w ↦ search (rules, taken_as, hop_by_third)
-      | else-starts_q+else-c-ne0 w ↦ search (rules, taken_as, hop_by_call)
+    let k : Taken (take c.find-e.result c.loop-n.t.now) c.loop-n.hops c.loop-n.n c.match-q_letter.hops =
+    elim c.match-q_letter.branch [
+      | in-Some+in_ok-hops-in-Some w ↦ taken_as _ _ _ _ _ _ (hop_by_third _ _ c.q_letter.ensures _ w.in-Some.is _ w.read_q.ensures) w.in_ok-hops-in-Some.was w.hops-is
+      | in-None+in_ok-hops-in-None w ↦ taken_as _ _ _ _ _ _ (hop_by_call _ _ c.q_letter.ensures w.in-None.is _ w.read_call.ensures) w.in_ok-hops-in-None.was w.hops-is
     ]
     in
     search (rules, hops_read, hop_last)
@@ -49,10 +46,10 @@ loop-n-smaller c = search (rules, hop_less)
 
 pub loop-n-preserved : goal.loop-n-preserved
 loop-n-preserved c =
-    let k : Taken (take c.find-e.result c.loop-n.t.now) c.loop-n.hops c.loop-n.n c.if-starts_q.hops =
-    elim c.if-starts_q.branch [
-      | then-starts_q+else-q-ne0 w ↦ search (rules, taken_as, hop_by_third)
-      | else-starts_q+else-c-ne0 w ↦ search (rules, taken_as, hop_by_call)
+    let k : Taken (take c.find-e.result c.loop-n.t.now) c.loop-n.hops c.loop-n.n c.match-q_letter.hops =
+    elim c.match-q_letter.branch [
+      | in-Some+in_ok-hops-in-Some w ↦ taken_as _ _ _ _ _ _ (hop_by_third _ _ c.q_letter.ensures _ w.in-Some.is _ w.read_q.ensures) w.in_ok-hops-in-Some.was w.hops-is
+      | in-None+in_ok-hops-in-None w ↦ taken_as _ _ _ _ _ _ (hop_by_call _ _ c.q_letter.ensures w.in-None.is _ w.read_call.ensures) w.in_ok-hops-in-None.was w.hops-is
     ]
     in
     search (rules, hop_more)

@@ -1,5 +1,5 @@
 -- The hops of a text: each part between commas is one, a Q element or a callsign, and their stars are carried back. Assumes nothing.
-use lib.ListN.{length}
+use Rattle.std.proofs.Common.{length}
 use Rattle.header.proofs.TextHops.{Reading}
 use Rattle.header.proofs.read_hops.Given as goal
 

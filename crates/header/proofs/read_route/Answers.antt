@@ -22,8 +22,8 @@ slice_bounds-read_hops-count c = search (rules, found_next)
 pub slice_bounds-read_hops-start : goal.slice_bounds-read_hops-start
 slice_bounds-read_hops-start c = search (rules, found_next)
 
-pub returns-then-hops-ne0 : goal.returns-then-hops-ne0
-returns-then-hops-ne0 c = search (rules, to_hops_refused)
+pub returns-in-Err : goal.returns-in-Err
+returns-in-Err c = search (rules, to_hops_refused)
 
-pub returns : goal.returns
-returns c = search (rules, to_hops)
+pub returns-in-Ok : goal.returns-in-Ok
+returns-in-Ok c = search (rules, to_hops)

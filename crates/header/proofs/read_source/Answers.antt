@@ -9,11 +9,11 @@ returns-then-s-lt14 c = search (rules, no_source)
 pub returns-then-from-ne0 : goal.returns-then-from-ne0
 returns-then-from-ne0 c = search (rules, source_refused)
 
-pub returns-then-hops-ne0 : goal.returns-then-hops-ne0
-returns-then-hops-ne0 c = search (rules, source_hops_refused)
+pub returns-in-Err : goal.returns-in-Err
+returns-in-Err c = search (rules, source_hops_refused)
 
 pub with_pair-requires : goal.with_pair-requires
 with_pair-requires c = search (rules, hops_count)
 
-pub returns : goal.returns
-returns c = search (rules, source_hops)
+pub returns-in-Ok : goal.returns-in-Ok
+returns-in-Ok c = search (rules, source_hops)
