@@ -2,9 +2,9 @@
 // shifts and masks.
 #![tactic(auto)]
 
-ghost use Rattle.std.specs.Prelude.{◌≡◌, ◌+◌, ◌<◌, ◌≤◌, ◌∷◌, ◌++◌, min, not, ◌&&◌, length, take};
+ghost use Rattle.std.specs.Prelude.{◌≡◌, ◌+◌, ◌<◌, ◌≤◌, ◌∷◌, ◌++◌, min, not, ◌&&◌, length, take, drop};
 ghost use Rattle.laws.specs.Bytes.{dash, is_letter_or_digit, raised};
-ghost use Rattle.laws.specs.Lists.{pad_to};
+ghost use Rattle.laws.specs.Lists.{pad_to, zeros};
 ghost use Rattle.buffer.specs.Wrote.{ends, wrote};
 ghost use Rattle.callsign.specs.Utf8.{after, asked_by, utf8};
 ghost use Rattle.callsign.specs.Text.{call_as, made, blank_call, call_refused, call_accepted, is_zero, parted, read_unstarred, read_text};
@@ -115,7 +115,8 @@ fn after_first(b: u8) -> Option<Tails>
     }
 }
 
-// Whether t is UTF-8: `owed` is what the character begun still asks for.
+// Whether t is UTF-8: `owed` is what the character begun still asks for. It stays out of its caller, which seldom comes here.
+#[inline(never)]
 fn is_utf8(t: &[u8]) -> bool
     ensures { result ≡ utf8 t.now }
 {
@@ -246,18 +247,26 @@ pub fn read_text(s: &[u8]) -> CallRead
 
 // ---- the range, and the text written
 
-// Whether the first n bytes are UTF-8 and the others zero.
-fn is_sound(text: [u8; 16], n: usize) -> bool
+// Whether the bytes from n on are zero. It stays out of its caller, so that the sixteen are compared at once.
+#[inline(never)]
+fn is_spare(text: &[u8; 16], n: usize) -> bool
     requires { n ≤ 16 }
-    ensures { result ≡ sound text n }
+    ensures { result ≡ zeros (drop n text.now) }
 {
-    let t = &text[..n];
-    is_text(t, &text) && text == pad(t)
+    *text == pad(&text[..n])
+}
+
+// Whether the first n bytes are UTF-8 and the others zero.
+fn is_sound(text: &[u8; 16], n: usize) -> bool
+    requires { n ≤ 16 }
+    ensures { result ≡ sound text.now n }
+{
+    is_text(&text[..n], text) && is_spare(text, n)
 }
 
 // How many bytes call, dash and SSID take.
-fn whole_len(c: Callsign) -> usize
-    ensures { result ≡ text_len c }
+fn whole_len(c: &Callsign) -> usize
+    ensures { result ≡ text_len c.now }
 {
     let n = c.call_len as usize;
     match c.ssid_len as usize {
@@ -270,7 +279,7 @@ fn whole_len(c: Callsign) -> usize
 pub fn text_len(c: Callsign) -> usize
     ensures { result ≡ min (text_len c) 16 }
 {
-    whole_len(c).min(16)
+    whole_len(&c).min(16)
 }
 
 // Whether a callsign has nothing in it.
@@ -281,9 +290,9 @@ pub fn is_blank(c: Callsign) -> bool
 }
 
 // Whether a dash stands behind the call, and no SSID `0` alone behind the dash, where there is an SSID.
-fn is_parted(c: Callsign) -> bool
-    requires { text_len c ≤ 16 }
-    ensures { result ≡ (not (is_zero (ssid_part c)) && is_dashed c) }
+fn is_parted(c: &Callsign) -> bool
+    requires { text_len c.now ≤ 16 }
+    ensures { result ≡ (not (is_zero (ssid_part c.now)) && is_dashed c.now) }
 {
     let n = c.call_len as usize;
     match c.ssid_len {
@@ -298,8 +307,8 @@ fn is_parted(c: Callsign) -> bool
 pub fn in_range(c: Callsign) -> bool
     ensures { result ≡ in_range c }
 {
-    let n = whole_len(c);
-    n <= 16 && is_parted(c) && is_sound(c.text, n)
+    let n = whole_len(&c);
+    n <= 16 && is_parted(&c) && is_sound(&c.text, n)
 }
 
 // Writes a text of at most 16 bytes, and a star where starred.

@@ -7,13 +7,12 @@ use mathlib.Core.List.{List, ◌++◌}
 use Prim.Native.Nat.{ℕ, ◌+◌, ◌≤◌}
 use native.Mathlib.Omega.{arith}
 use lib.ListN.{length, take, drop, replicate, length-append, length-drop}
-use lib.Seq.{length-take-le}
 use Rattle.buffer.specs.declared.Answer.{Answer}
 use Rattle.buffer.specs.Wrote.{ends, refused_by, over_by, wrote}
 use Rattle.buffer.specs.Filled.{Filled, filled, front_of, added}
 use Rattle.buffer.proofs.Wrote.{passed_on}
 use Rattle.buffer.proofs.Answers.{refusal_is, bytes_are, reported_is, front_is}
-use Rattle.buffer.proofs.Filled.{added_length, added_len, added_front}
+use Rattle.buffer.proofs.Filled.{added_front}
 use Rattle.header.specs.declared.Header.{Header}
 use Rattle.header.specs.Text.{header_text}
 use Rattle.header.specs.Frame.{header_frame}
