@@ -161,8 +161,3 @@ reads s cs n sp i so over b is c h l ec eh el =
 -- ---- seven bytes at a place of a longer text
 
 module _ (t : List ℕ) (at : ℕ) where
-  pub seven_at : at + 7 ≤ length t → length (take 7 (drop at t)) ≡ 7
-  seven_at h = length-take-le 7 (drop at t) (simp length-drop (omega arith))
-
-  pub byte_at : (i : ℕ) → i < 7 → get_or (take 7 (drop at t)) i 0 ≡ get_or t (at + i) 0
-  byte_at i h = get_or-take 7 (drop at t) i 0 h ∙ get_or-drop at t i 0

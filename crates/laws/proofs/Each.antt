@@ -1,9 +1,7 @@
--- Laws of `every`: of parts of a list, of a list that is mapped, of a loop over what is left of it, and of a loop over a part of an array.
+-- Laws of `every`: of parts of a list, of a list that is mapped, and of a loop over what is left of it.
 -- Assumes nothing.
-use Rattle.std.proofs.Common.{◌≡◌, ℕ, zero, suc, ◌+◌, ◌<◌, ◌≤◌, Bool, true, false, not, ◌&&◌, List, [], ◌∷◌, ◌++◌, map, length, get_or, take, drop, replicate, sym, refl, ap, ◌∙◌, le_of_suc-le-suc, not-suc-le-zero, add-one, arith, drop_of_length-le, take_all}
+use Rattle.std.proofs.Common.{◌≡◌, ℕ, zero, suc, ◌+◌, ◌<◌, ◌≤◌, Bool, true, false, ◌&&◌, List, [], ◌∷◌, ◌++◌, map, length, get_or, take, drop, replicate, refl, ap, ◌∙◌, le_of_suc-le-suc, not-suc-le-zero, drop_of_length-le}
 use mathlib.Core.Bool.{and-false}
-use borrow.Author.Tests.{not-true, not-false}
-use lib.Seq.{slice, slice-cons, slice_empty}
 use Rattle.laws.specs.Lists.{every}
 use Rattle.laws.proofs.Lists.{next}
 use Rattle.laws.proofs.Tests.{and_first, and_second}
@@ -74,27 +72,6 @@ module _ {A : Type 0} (p : A → Bool) where
   pub every_end : (l : List A) (i : ℕ) → length l ≤ i → every p l ≡ every p (drop i l) → every p l ≡ true
   unfolding every
   every_end l i h e = e ∙ rw (drop_of_length-le l h)
-
-  -- ---- a loop that tests the elements of an array up to the place m; u is what a call answered of the next
-
-  module _ (b : Bool) (l : List A) (m size i : ℕ) (z : A) (e : b ≡ every p (slice i m l)) (h : i < m) (k : m ≤ size) (f : length l ≡ size) where
-    opened : b ≡ (p (get_or l i z) && every p (slice (i + 1) m l))
-    unfolding every
-    opened = e ∙ rw (slice-cons i m l z h (omega arith), add-one)
-
-    pub part_more : (u : Bool) → u ≡ p (get_or l i z) → not u ≡ false → b ≡ every p (slice (i + 1) m l)
-    part_more u q t = opened ∙ rw (← q, not-false u t)
-
-    pub part_not : (u : Bool) → u ≡ p (get_or l i z) → not u ≡ true → false ≡ b
-    part_not u q t = sym (opened ∙ rw (← q, not-true u t))
-
-  pub part_end : (b : Bool) (l : List A) (m i : ℕ) → b ≡ every p (slice i m l) → m ≤ i → i ≤ m → true ≡ b
-  unfolding every
-  part_end b l m i e h k = let q : i ≡ m = omega arith in sym (e ∙ rw (q, slice_empty))
-
-  -- what is left of an array, as a part of it
-  pub part_rest : (l : List A) (n m : ℕ) → length l ≡ m → every p (drop n l) ≡ every p (slice n m l)
-  part_rest l n m e = rw (take_all m l (omega arith))
 
 pub every_weaker : {A : Type 0} (p q : A → Bool) → ((x : A) → p x ≡ true → q x ≡ true) → (l : List A) → every p l ≡ true → every q l ≡ true
 unfolding every

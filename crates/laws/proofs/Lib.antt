@@ -3,7 +3,6 @@ pub mod Tests
 pub mod Lists
 pub mod Places
 pub mod Search
-pub mod Chains
 pub mod Each
 pub mod Among
 pub mod Every

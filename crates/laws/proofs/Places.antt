@@ -1,6 +1,6 @@
 -- Laws of `index_of`, as loops over a slice and parts of a text cite them.
 -- Assumes nothing.
-use Rattle.std.proofs.Common.{◌≡◌, ℕ, suc, ◌+◌, ◌-◌, ◌^◌, ◌<◌, ◌≤◌, Bool, true, false, cond, eqb, List, [], ◌∷◌, ◌++◌, length, take, drop, refl, ap, le_of_suc-le-suc, not-suc-le-zero, arith, w64, Fits, eq-eqb, eqb-true}
+use Rattle.std.proofs.Common.{◌≡◌, ℕ, suc, ◌+◌, ◌^◌, ◌<◌, ◌≤◌, Bool, true, false, cond, eqb, List, [], ◌∷◌, ◌++◌, length, take, drop, refl, ap, le_of_suc-le-suc, not-suc-le-zero, arith, w64, Fits, eq-eqb, eqb-true}
 use Rattle.laws.specs.Lists.{index_of}
 use Rattle.laws.proofs.Lists.{part_length}
 
@@ -77,9 +77,6 @@ module _ (b : ℕ) (t : List ℕ) (d : ℕ) (f : d ≡ index_of b t) where
   module _ (h : d ≡ length t → ⊥) where
     pub found_next : d + 1 ≤ length t
     found_next = omega (arith, index_le b t)
-
-    pub found_room : 1 ≤ length t - d
-    found_room = omega (arith, index_le b t)
 
     pub found_fits : length t < 2 ^ 64 → Fits w64 (d + 1)
     found_fits m = record { fits = omega (arith, index_le b t) }

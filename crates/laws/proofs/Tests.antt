@@ -1,7 +1,7 @@
 -- Tests taken apart: what a conjunction, a disjunction, a refusal in front or a class of bytes says once its value is known.
 -- Assumes nothing.
-use Rattle.std.proofs.Common.{◌≡◌, ℕ, ◌<◌, ◌≤◌, Bool, true, false, cond, ◌&&◌, ◌||◌, leb, ◌⊎◌, refl, inl, inr, true≢false, le-leb, leb-false, leb-true}
-use mathlib.Core.Bool.{and-true, false≢true}
+use Rattle.std.proofs.Common.{◌≡◌, ℕ, ◌≤◌, Bool, true, false, cond, ◌&&◌, ◌||◌, leb, ◌⊎◌, refl, inl, inr, true≢false, le-leb, leb-true}
+use mathlib.Core.Bool.{false≢true}
 use Rattle.laws.specs.Bytes.{within}
 
 pub bool_cases : (b : Bool) → (b ≡ true) ⊎ (b ≡ false)
@@ -59,8 +59,3 @@ within_high lo hi b e = leb-true b hi (and_second (leb lo b) (leb b hi) e)
 pub within_yes : (lo hi b : ℕ) → lo ≤ b → b ≤ hi → within lo hi b ≡ true
 unfolding within
 within_yes lo hi b h k = rw (le-leb lo b h, le-leb b hi k)
-
--- not in a class, and not above it
-pub within_below : (lo hi b : ℕ) → within lo hi b ≡ false → b ≤ hi → b < lo
-unfolding within
-within_below lo hi b e k = leb-false lo b (rw (le-leb b hi k, and-true (leb lo b)) at e)

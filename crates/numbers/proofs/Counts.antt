@@ -6,7 +6,7 @@ use borrow.Author.Tests.{lt-leb}
 use Rattle.laws.specs.Bytes.{digit0, digit9, is_digit}
 use Rattle.laws.specs.Lists.{every}
 use Rattle.laws.proofs.Lists.{next}
-use Rattle.laws.proofs.Each.{every_more, every_not, every_end, every_at}
+use Rattle.laws.proofs.Each.{every_more, every_end, every_at}
 use Rattle.laws.proofs.Tests.{within_low, within_high}
 use Rattle.laws.proofs.Classes.{in_class, not_in_class, class_place}
 use Rattle.numbers.specs.Numbers.{number_after, number_of}
@@ -30,9 +30,6 @@ pub a_digit : (b : ℕ) → is_digit b ≡ true → (digit0 ≤ b) × (b ≤ dig
 a_digit b e = (within_low digit0 digit9 b e, within_high digit0 digit9 b e)
 
 module _ (s : List ℕ) (i : ℕ) (e : every is_digit s ≡ every is_digit (drop i s)) where
-  pub no_digit : (d : ℕ) → (d + digit0) % 2 ^ 8 ≡ get_or s i 0 → 9 < d → d < 2 ^ 8 → i < length s → false ≡ every is_digit s
-  no_digit d wraps k byte h = sym (every_not is_digit 0 s i h (digit_no (get_or s i 0) d wraps k byte) e)
-
   pub digit_more : (d : ℕ) → (d + digit0) % 2 ^ 8 ≡ get_or s i 0 → d ≤ 9 → i < length s → every is_digit s ≡ every is_digit (drop (i + 1) s)
   digit_more d wraps k h = every_more is_digit 0 s i h (digit_yes (get_or s i 0) d wraps k) e
 
