@@ -1,6 +1,6 @@
 -- Laws of an address read, for any loop over its six characters: what is left of `unpacked` after those passed.
 -- Assumes nothing.
-use Rattle.std.proofs.Common.{◌≡◌, ℕ, suc, ◌+◌, ◌/◌, ◌%◌, ◌<◌, ◌≤◌, Bool, true, false, cond, ◌&&◌, List, [], ◌∷◌, ◌++◌, length, get_or, take, drop, set, sym, refl, ap, ◌∙◌, append_assoc, append-nil, add-one, arith, length-drop, length-set, drop_of_length-le, length-take, length-take-le, get_or-drop, drop-cons, get_or-take, take-suc-set, eq-eqb, ne_eqb, eqb-true, Option, Some, None}
+use Rattle.std.proofs.Common.{◌≡◌, ℕ, suc, ◌+◌, ◌/◌, ◌%◌, ◌<◌, ◌≤◌, Bool, true, false, cond, ◌&&◌, List, [], ◌∷◌, ◌++◌, length, get_or, take, drop, set, sym, refl, ap, ◌∙◌, append_assoc, append-nil, add-one, arith, length-set, drop_of_length-le, length-take, length-take-le, drop-cons, get_or-take, take-suc-set, eq-eqb, ne_eqb, eqb-true, Option, Some, None}
 use borrow.Author.Tests.{eqb-false}
 use Rattle.std.specs.Option.{option_map}
 use Rattle.laws.specs.Bytes.{space, is_letter_or_digit, raised}
@@ -159,5 +159,3 @@ reads s cs n sp i so over b is c h l ec eh el =
     rw (eq-eqb (length s) 7 so.seven, all, is, ec, eh, el)
 
 -- ---- seven bytes at a place of a longer text
-
-module _ (t : List ℕ) (at : ℕ) where
