@@ -157,5 +157,3 @@ reads s cs n sp i so over b is c h l ec eh el =
     let all : unpacked (take 6 s) ≡ Some (take n cs) =
     so.agrees ∙ ap (λ (x : List ℕ). behind (take n cs) (rest sp x)) (drop_of_length-le (take 6 s) g) ∙ at_end sp (take n cs) in
     rw (eq-eqb (length s) 7 so.seven, all, is, ec, eh, el)
-
--- ---- seven bytes at a place of a longer text
