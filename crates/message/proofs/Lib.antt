@@ -1,4 +1,3 @@
-pub mod Bytes
 pub mod Reading
 pub mod Parts
 pub mod Status

@@ -29,7 +29,11 @@ pub struct MessageRead {
 pub fn is_blank(addressee: [u8; 9]) -> bool
     ensures { result ≡ zeros addressee }
 {
-    addressee == [0; 9]
+    let mut fine = true;
+    for b in addressee {
+        fine &= b == 0;
+    }
+    fine
 }
 
 // Whether a byte may stand in a text.

@@ -1,34 +1,15 @@
 -- Messages by number and by bits: the code's arithmetic gives what the tables of the definition give.
 -- Assumes nothing.
-use Rattle.std.proofs.Common.{◌≡◌, ℕ, zero, suc, ◌+◌, ◌-◌, ◌*◌, ◌<◌, ◌≤◌, Bool, true, false, cond, eqb, ltb, List, [], ◌∷◌, length, get_or, refl, ◌∙◌, arith, w8, Fits, le-ltb, lt-ltb, eq-eqb, ne_eqb}
+use Rattle.std.proofs.Common.{◌≡◌, ℕ, ◌+◌, ◌-◌, ◌*◌, ◌<◌, ◌≤◌, Bool, true, false, cond, eqb, ltb, List, refl, ◌∙◌, arith, le-ltb, lt-ltb, eq-eqb, ne_eqb}
 use mir.Val.{bool_byte}
 use Rattle.mic_e.specs.declared.Bit.{Bit}
 use Rattle.mic_e.specs.declared.Bit.TheVariants.{Zero, Custom, Standard}
 use Rattle.mic_e.specs.declared.Message.{Message}
 use Rattle.mic_e.specs.declared.Message.TheVariants.{M0, M1, M2, M3, M4, M5, M6, C0, C1, C2, C3, C4, C5, C6, Emergency, Unknown}
-use Rattle.mic_e.specs.Message.{is_custom, is_standard, is_one, message_by, message_of, bits, bits_of, message_number, messages, message_at}
+use Rattle.mic_e.specs.Message.{is_custom, is_standard, is_one, message_by, message_of, bits, bits_of, message_number, message_at}
 use Rattle.mic_e.specs.Private.{three_bits, bit_if_odd, bits_in}
 
 -- ---- by number
-
-past : {A : Type 0} (l : List A) (d : A) (n : ℕ) → length l ≤ n → d ≡ get_or l n d
-past [] d zero h = refl
-past [] d (suc n) h = refl
-past (x ∷ l) d zero h = absurd (omega arith)
-past (x ∷ l) d (suc n) h = past l d n (omega arith)
-
-pub past_messages : (n : ℕ) → 15 < n → Unknown ≡ message_at n
-unfolding message_at
-past_messages n h = past messages Unknown n (omega arith)
-
-same_at : {A : Type 0} (l : List A) (d e : A) (n : ℕ) → n < length l → get_or l n d ≡ get_or l n e
-same_at [] d e n h = absurd (omega arith)
-same_at (x ∷ l) d e zero h = refl
-same_at (x ∷ l) d e (suc n) h = same_at l d e n (omega arith)
-
-pub among_messages : (n : ℕ) → n ≤ 15 → get_or messages n M0 ≡ message_at n
-unfolding message_at
-among_messages n h = same_at messages M0 Unknown n (omega arith)
 
 pub number_back : (m : Message) → message_at (message_number m) ≡ m
 unfolding message_at message_number
@@ -64,27 +45,11 @@ module _ (x y z : Bool) where
   unfolding three_bits
   sum_is = rw (flag_bit_lem x, flag_bit_lem y, flag_bit_lem z)
 
-  pub first_fits : Fits w8 (4 * bool_byte x)
-  first_fits = let h = flag_most x in record { fits = omega arith }
-
-  pub second_fits : Fits w8 (2 * bool_byte y)
-  second_fits = let h = flag_most y in record { fits = omega arith }
-
-  pub both_fit : Fits w8 (4 * bool_byte x + 2 * bool_byte y)
-  both_fit = let h = flag_most x in let k = flag_most y in record { fits = omega arith }
-
-  pub sum_fits : Fits w8 (4 * bool_byte x + 2 * bool_byte y + bool_byte z)
-  sum_fits = let h = flag_most x in let k = flag_most y in let l = flag_most z in record { fits = omega arith }
-
 pub three_most : (n : ℕ) (x y z : Bool) → n ≡ three_bits x y z → n ≤ 7
 three_most n x y z e = omega (arith, flag_most x, flag_most y, flag_most z, sum_is x y z)
 
 pub three_below : (n : ℕ) (x y z : Bool) → n ≡ three_bits x y z → n ≤ 14
 three_below n x y z e = let h = three_most n x y z e in omega arith
-
--- of flags that calls gave
-pub three_given : (n : ℕ) (a b c x y z : Bool) → n ≡ three_bits a b c → a ≡ x → b ≡ y → c ≡ z → n ≡ three_bits x y z
-three_given n a b c x y z e p q r = e ∙ rw (p, q, r)
 
 -- the two numbers of three bits: where the standard ones are, and the custom ones
 abbrev by_numbers : ℕ → ℕ → Message

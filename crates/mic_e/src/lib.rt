@@ -2,7 +2,7 @@
 // information that carry longitude, speed, course and symbol. Angles are lonlat's, by its promise alone.
 #![tactic(auto)]
 
-ghost use Rattle.std.specs.Prelude.{◌≡◌, ◌<◌, ◌≤◌, false, map, length, if◌then◌else◌, slice_index, unsigned_abs};
+ghost use Rattle.std.specs.Prelude.{◌≡◌, ◌<◌, ◌≤◌, false, map, if◌then◌else◌, slice_index, unsigned_abs};
 ghost use Rattle.laws.specs.Bytes.{capital_n, capital_s};
 ghost use Rattle.buffer.specs.Wrote.{ends, wrote};
 ghost use Rattle.lonlat.specs.Latitude.{read_latitude};

@@ -1,16 +1,22 @@
--- Nine bytes, each the same as one of nine zeros. Assumes nothing.
-use Rattle.std.proofs.Common.{◌≡◌, ℕ, eqb, ◌&&◌, List, [], ◌∷◌, length, replicate, refl, ap, ◌∙◌, rules}
-use lib.Pointwise.{pointwise}
+-- A walk over all bytes: each is zero as far as it came. Assumes nothing.
+use Rattle.std.proofs.Common.{◌≡◌, ℕ, ◌+◌, ◌<◌, ◌≤◌, Bool, eqb, ◌&&◌, List, length, drop, get_or, sym, refl, ◌∙◌, arith, rules}
+use mathlib.Core.Bool.{and-true, and_assoc}
+use lib.ListN.{drop_of_length-le}
 use Rattle.laws.specs.Lists.{zeros}
+use Rattle.laws.proofs.Lists.{next}
 use Rattle.message.proofs.is_blank.Goals as goal
 
-same_as_zeros : (l : List ℕ) → pointwise eqb l (replicate (length l) 0) ≡ zeros l
-unfolding zeros
-same_as_zeros [] = refl
-same_as_zeros (x ∷ l) = ap (λ b. eqb x 0 && b) (same_as_zeros l)
+module _ (b fine : Bool) (l : List ℕ) (i : ℕ) (e : b ≡ (fine && zeros (drop i l))) where
+  zeros_more : i < length l → b ≡ ((fine && eqb (get_or l i 0) 0) && zeros (drop (i + 1) l))
+  unfolding zeros
+  zeros_more h = e ∙ rw (next 0 l i h) (sym (and_assoc fine (eqb (get_or l i 0) 0) (zeros (drop (i + 1) l))))
 
-nine_zeros : (l : List ℕ) → length l ≡ 9 → pointwise eqb l (0 ∷ 0 ∷ 0 ∷ 0 ∷ 0 ∷ 0 ∷ 0 ∷ 0 ∷ 0 ∷ []) ≡ zeros l
-nine_zeros l e = rw e at (same_as_zeros l)
+  zeros_end : (m : ℕ) → length l ≡ m → m ≤ i → fine ≡ b
+  unfolding zeros
+  zeros_end m w h = let k : length l ≤ i = omega arith in sym (e ∙ rw (drop_of_length-le l k) (and-true fine))
+
+pub loop-b-preserved : goal.loop-b-preserved
+loop-b-preserved c = search (rules, zeros_more, rules)
 
 pub returns : goal.returns
-returns c = let l : length c.args.addressee ≡ 9 = search rules in c.eq.ensures ∙ nine_zeros c.args.addressee l
+returns c = search (rules, zeros_end, rules)
