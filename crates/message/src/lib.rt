@@ -26,6 +26,7 @@ pub struct MessageRead {
 // ---- what a message may hold
 
 // Whether there is no addressee, as in the other kinds. No test is left early, so that all bytes are tested at once.
+// Kept: a loop, since `== [0; 9]` of std leaves at the first byte that differs, and of a `fold` the search did not find what it gives.
 pub fn is_blank(addressee: [u8; 9]) -> bool
     ensures { result ≡ zeros addressee }
 {

@@ -264,6 +264,7 @@ fn takes_hundred(d: u32) -> bool
 
 // ---- the characters of a destination. A class is tested by the difference from its first byte: wrapped, it is below the class's
 // width for the bytes of the class alone.
+// Kept: wrapping subtractions in place of `matches!` and `is_ascii_digit`, as the demand on this reader states them.
 
 // Whether a character shows a digit or a blank: `0-9`, `A-L`, `P-Z`.
 #[tactic(auto, unfolding(crate::specs::Character::is_character))]
@@ -414,6 +415,7 @@ fn letter_of(c: u8) -> u8
 }
 
 // The digits and blanks that six characters show.
+// Kept: a closure around `digit_of`, since the search did not prove the function handed over by its name.
 fn digits_of(call: &[u8; 6]) -> [u8; 6]
     ensures { result ≡ map digit_of call.now }
 {

@@ -1,5 +1,5 @@
 -- A walk over all bytes: each is zero as far as it came. Assumes nothing.
-use Rattle.std.proofs.Common.{◌≡◌, ℕ, ◌+◌, ◌<◌, ◌≤◌, Bool, eqb, ◌&&◌, List, length, drop, get_or, sym, refl, ◌∙◌, arith, rules}
+use Rattle.std.proofs.Common.{◌≡◌, ℕ, ◌+◌, ◌<◌, ◌≤◌, Bool, eqb, ◌&&◌, List, length, drop, get_or, sym, ◌∙◌, arith, rules}
 use mathlib.Core.Bool.{and-true, and_assoc}
 use lib.ListN.{drop_of_length-le}
 use Rattle.laws.specs.Lists.{zeros}
