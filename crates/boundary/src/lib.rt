@@ -59,6 +59,7 @@ pub struct CRecord {
 }
 
 // What reading gives: 0 and the record, or the refusal's number and zeros.
+// Kept: a number beside the values, since C has the record as it stands.
 #[repr(C)]
 #[derive(Clone, Copy)]
 pub struct CRead {

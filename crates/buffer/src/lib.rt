@@ -9,6 +9,7 @@ ghost use Rattle.buffer.specs.Filled.{filled, in_use, added, shifted};
 
 // What a writer or lister answers: the refusal's number or 0, what it reports (bytes written or fields
 // listed), and at 16 the bytes needed.
+// Kept: a number beside the values, since C has the record as it stands.
 #[repr(C)]
 #[derive(Drop)]
 pub struct Answer {

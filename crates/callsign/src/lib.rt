@@ -26,6 +26,7 @@ pub struct Callsign {
 }
 
 // What reading a text gives: the refusal's number or 0, the callsign, and whether a star followed it.
+// Kept: a number beside the values, since C has the record as it stands.
 #[repr(C)]
 #[derive(Drop)]
 pub struct CallRead {
@@ -35,6 +36,7 @@ pub struct CallRead {
 }
 
 // What reading an address gives: the refusal's number or 0, the callsign, and the two flags of the seventh byte.
+// Kept: a number beside the values, since C has the record as it stands.
 #[repr(C)]
 #[derive(Drop)]
 pub struct AddressRead {
@@ -53,6 +55,7 @@ pub enum Field {
 }
 
 // The seven bytes of an address, or the refusal's number and zeros.
+// Kept: a number beside the values, since C has the record as it stands.
 #[repr(C)]
 #[derive(Drop)]
 pub struct AddressWritten {

@@ -14,6 +14,7 @@ use time::Time;
 // What the bytes of a message read as: how long its text is and how long its identifier, which is 0 where there is none, the
 // addressee's nine bytes, spaces and all, and the refusal's number or 0. The text starts at the place 10, the identifier one behind
 // the text's end. At a refusal all else is 0.
+// Kept: a number beside the values, since C has the record as it stands.
 #[repr(C)]
 #[derive(Clone, Copy)]
 pub struct MessageRead {

@@ -103,6 +103,7 @@ pub struct Destination {
 }
 
 // The six characters, or zeros with the refusal 15.
+// Kept: a number beside the values, since C has the record as it stands.
 #[repr(C)]
 #[derive(Drop)]
 pub struct DestinationWritten {

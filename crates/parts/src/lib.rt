@@ -84,6 +84,7 @@ pub extern "C" fn tusselgro_write_address(call: Callsign, field: u8, last: bool)
 // ---- angles, times and positions
 
 // What reading a latitude gives: 0 and all that was seen, or the refusal's number and zeros.
+// Kept: a number beside the values, since C has the record as it stands.
 #[repr(C)]
 #[derive(Clone, Copy)]
 pub struct CLatitudeRead {
@@ -127,6 +128,7 @@ pub extern "C" fn tusselgro_read_latitude(text: &[u8]) -> CLatitudeRead
 }
 
 // What reading a longitude gives: 0 and all that was seen, or the refusal's number and zeros.
+// Kept: a number beside the values, since C has the record as it stands.
 #[repr(C)]
 #[derive(Clone, Copy)]
 pub struct CLongitudeRead {
@@ -194,6 +196,7 @@ pub extern "C" fn tusselgro_write_longitude(longitude: i32, out: &mut [u8]) -> b
 }
 
 // What reading a time or a status gives: 0 and the time, of a status or none, or the refusal's number and zeros.
+// Kept: a number beside the values, since C has the record as it stands.
 #[repr(C)]
 #[derive(Clone, Copy)]
 pub struct CTimeRead {
@@ -251,6 +254,7 @@ pub extern "C" fn tusselgro_write_position(place: Place, out: &mut [u8]) -> buff
 // ---- Mic-E
 
 // What reading a destination gives: 0 and what it says, its message by number, or the refusal's number and zeros.
+// Kept: a number beside the values, since C has the record as it stands.
 #[repr(C)]
 #[derive(Clone, Copy)]
 pub struct CDestinationRead {
@@ -328,6 +332,7 @@ pub extern "C" fn tusselgro_write_destination(
 }
 
 // What reading the information gives: 0 and what it says, or the refusal's number and zeros.
+// Kept: a number beside the values, since C has the record as it stands.
 #[repr(C)]
 #[derive(Clone, Copy)]
 pub struct CInformationRead {

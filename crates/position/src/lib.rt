@@ -29,6 +29,7 @@ pub struct Place {
 }
 
 // What a position reads as: the refusal's number or 0, the place, and which of its angles has minutes of 60 or more.
+// Kept: a number beside the values, since C has the record as it stands.
 #[repr(C)]
 #[derive(Clone, Copy, Debug, Default, PartialEq, Eq)]
 pub struct PositionRead {
@@ -196,6 +197,7 @@ pub struct Bounds {
 }
 
 // The bounds, or 15 and 0, 0.
+// Kept: a number beside the values, since C has the record as it stands.
 #[repr(C)]
 #[derive(Clone, Copy, Debug)]
 pub struct BoundsAnswer {
@@ -294,6 +296,7 @@ pub fn longitude_bounds(l: Longitude, blanks: u8) -> BoundsAnswer
 }
 
 // The box for the page in half hundredths of a minute, or 15 and 0, 0.
+// Kept: a number beside the values, since C has the record as it stands.
 #[repr(C)]
 #[derive(Clone, Copy, Debug, PartialEq, Eq)]
 pub struct PageBox {
