@@ -6,7 +6,7 @@
 ghost use Rattle.std.specs.Prelude.{◌≡◌, ℕ, ◌+◌, ◌*◌, ◌≤◌, Bool, length};
 ghost use Rattle.std.specs.Option.{unwrap_or};
 ghost use Rattle.buffer.specs.Wrote.{ends};
-ghost use Rattle.buffer.specs.Filled.{filled, added};
+ghost use Rattle.buffer.specs.Filled.{in_use, added};
 ghost use Rattle.lonlat.specs.Longitude.{longitude_refusal};
 ghost use Rattle.fields.specs.Each.{cell, row, all_fields, flat};
 ghost use Rattle.fields.specs.Lists.{listed, motion_fields, motion_refusal, longitude_fields};
@@ -149,7 +149,7 @@ impl Target for Lying {
 // The field, if there is one.
 fn put(x: Option<u8>, a: u8, b: u8, out: &mut Pieces)
     ensures same_reference { out.new.bytes.ghost_name ≡ out.old.bytes.ghost_name }
-    ensures value { filled out.new.bytes.now out.new.len ≡ added (filled out.old.bytes.now out.old.len) (flat (fields_of a b x)) }
+    ensures value { in_use out.new ≡ added (in_use out.old) (flat (fields_of a b x)) }
 {
     if let Some(d) = x {
         out.put(&[a, b, d]);
@@ -160,7 +160,7 @@ fn put(x: Option<u8>, a: u8, b: u8, out: &mut Pieces)
 fn fill_row<T: Target>(t: &T, a: u8, out: &mut Pieces)
     requires { out.old.len + 3 * length (row (T.hits t.now) a) ≤ length out.old.bytes.now }
     ensures same_reference { out.new.bytes.ghost_name ≡ out.old.bytes.ghost_name }
-    ensures value { filled out.new.bytes.now out.new.len ≡ added (filled out.old.bytes.now out.old.len) (flat (row (T.hits t.now) a)) }
+    ensures value { in_use out.new ≡ added (in_use out.old) (flat (row (T.hits t.now) a)) }
 {
     for b in t.seconds(a).unwrap_or(0..0) {
         put(t.third(a, b as u8), a, b as u8, out);
@@ -171,7 +171,7 @@ fn fill_row<T: Target>(t: &T, a: u8, out: &mut Pieces)
 fn fill<T: Target>(t: &T, out: &mut Pieces)
     requires { out.old.len + 3 * length (all_fields (T.hits t.now)) ≤ length out.old.bytes.now }
     ensures same_reference { out.new.bytes.ghost_name ≡ out.old.bytes.ghost_name }
-    ensures value { filled out.new.bytes.now out.new.len ≡ added (filled out.old.bytes.now out.old.len) (flat (all_fields (T.hits t.now))) }
+    ensures value { in_use out.new ≡ added (in_use out.old) (flat (all_fields (T.hits t.now))) }
 {
     for a in 0..=255u8 {
         fill_row(t, a, out);
