@@ -72,7 +72,6 @@ no_to_width = omega arith
 
 -- by the kind; k is what it is
 module _ (kind k : Kind) (is : kind ≡ k) where
-
   pub own_to_width : (to : Callsign) → length (own_to_field k to) ≤ 16 → length (own_to_field kind to) ≤ 16
   own_to_width to h = rw is h
 
