@@ -332,7 +332,7 @@ fn read_message(s: &[u8], at: usize) -> BodyRead
         return refused(m.refusal);
     }
     let start = at + 10;
-    // Kept: (c) the borrow checker takes an array into a literal from a variable alone.
+    // Kept: the borrow checker takes an array into a literal from a variable alone.
     let addressee = m.addressee;
     accepted(Body {
         kind: Kind::Message,

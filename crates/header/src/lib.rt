@@ -354,7 +354,7 @@ pub fn read_text(s: &[u8]) -> HeaderRead
 // ---- a frame read
 
 // The hops' addresses at the front of s, up to the first whose low bit is set.
-// Kept: a labelled loop, left at the last address or a refusal, and a count beside the array, which the writers of paths take so.
+// Kept: a labelled loop, as document 01 asks for this one, and a count beside the array, which C has so.
 fn walk(s: &[u8]) -> Result<Path, Fault>
     ensures { result ≡ frame_read (frame_hops 8 s.now) }
 {

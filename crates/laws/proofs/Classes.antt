@@ -1,5 +1,5 @@
 -- The class test by one subtraction: a byte is in a class exactly when its difference from the class's first byte, wrapped as
--- `std::num::wrapping_sub_u8` promises it, is below the class's width.
+-- `wrapping_sub` promises it, is below the class's width.
 -- Assumes nothing.
 use Rattle.std.proofs.Common.{◌≡◌, ℕ, ◌+◌, ◌-◌, ◌%◌, ◌^◌, ◌<◌, ◌≤◌, true, false, ltb, sym, ◌∙◌, ⊎_elim, arith, ltb-false, ltb-true, le-ltb, lt-ltb}
 use Rattle.laws.specs.Bytes.{within}

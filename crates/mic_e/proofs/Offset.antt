@@ -1,13 +1,29 @@
--- The offset of 28: what a byte stands for, and which bytes stand for nothing.
+-- The offset of 28: the bytes from 28 on are a class of 228, so of one of them 227 at most is left; a byte below 28 wraps, and
+-- stands for nothing.
 -- Assumes nothing.
-use Rattle.std.proofs.Common.{◌≡◌, ℕ, ◌-◌, ◌<◌, ◌≤◌, Bool, true, false, cond, ltb, Some, None, refl, arith, ltb-false}
+use Rattle.std.proofs.Common.{◌≡◌, ℕ, ◌+◌, ◌-◌, ◌%◌, ◌^◌, ◌<◌, ◌≤◌, Bool, true, false, cond, ltb, Some, None, refl, arith, le-ltb, ltb-false}
+use Rattle.laws.proofs.Tests.{not_so, within_low, within_yes}
+use Rattle.laws.proofs.Classes.{in_class, not_in_class, class_place}
 use Rattle.mic_e.specs.Private.{reading}
+
+-- d is the wrapped difference of a byte b
+module _ (b d : ℕ) (wraps : (d + 28) % 2 ^ 8 ≡ b) where
+  pub from_28 : d ≤ 227 → 28 ≤ b
+  from_28 h = within_low 28 255 b (in_class 28 255 228 b d wraps (omega arith) (omega arith) (omega arith))
+
+  pub less_28 : d ≤ 227 → d ≡ b - 28
+  less_28 h = class_place 28 255 228 b d wraps (omega arith) (omega arith) (omega arith)
+
+  pub below_28 : 227 < d → d < 2 ^ 8 → b < 28
+  below_28 h byte = omega arith
+
+-- ---- by the definition, whatever took the 28 off
 
 -- d is what b stands for
 module _ (b d : ℕ) (e : Some d ≡ reading b) where
-  read : (ltb b 28 ≡ false) × (d ≡ b - 28)
+  stands : (ltb b 28 ≡ false) × (d ≡ b - 28)
   unfolding reading
-  read = go (ltb b 28) e
+  stands = go (ltb b 28) e
     where
       go : (t : Bool) → Some d ≡ cond t None (Some (b - 28)) → (t ≡ false) × (d ≡ b - 28)
       go true q = cc
@@ -15,20 +31,17 @@ module _ (b d : ℕ) (e : Some d ≡ reading b) where
 
   -- the definition's test
   pub taken : ltb b 28 ≡ false
-  taken = read.0
+  taken = stands.0
 
-  pub less_28 : d ≡ b - 28
-  less_28 = read.1
-
-  pub from_28 : 28 ≤ b
-  from_28 = ltb-false b 28 taken
+  pub stood_for : d ≡ b - 28
+  stood_for = stands.1
 
   pub most : b < 256 → d ≤ 227
-  most h = omega (arith, less_28)
+  most h = omega (arith, stood_for)
 
-pub below_28 : (b : ℕ) → None ≡ reading b → ltb b 28 ≡ true
+pub stands_for_nothing : (b : ℕ) → None ≡ reading b → ltb b 28 ≡ true
 unfolding reading
-below_28 b e = go (ltb b 28) e
+stands_for_nothing b e = go (ltb b 28) e
   where
     go : (t : Bool) → None ≡ cond t None (Some (b - 28)) → t ≡ true
     go true q = refl

@@ -265,7 +265,7 @@ fn takes_hundred(d: u32) -> bool
 
 // ---- the characters of a destination. A class is tested by the difference from its first byte: wrapped, it is below the class's
 // width for the bytes of the class alone.
-// Kept: wrapping subtractions in place of `matches!` and `is_ascii_digit`, as the demand on this reader states them.
+// Kept: wrapping subtractions in place of `matches!` and `is_ascii_digit`: document 02, R-4.
 
 // Whether a character shows a digit or a blank: `0-9`, `A-L`, `P-Z`.
 #[tactic(auto, unfolding(crate::specs::Character::is_character))]

@@ -112,10 +112,9 @@ fn header_in(s: &[u8], framed: bool) -> HeaderRead
     }
 }
 
-// Kept: (a) `framed` and `strict` are flags, as `packet::read` and `read_text_by strict` promise them and their callers hand them on.
-
 // Reads an AX.25 frame where framed, else a text, by itself: refused with 1 where it is longer than `most`, and then as its header
 // and its body are, which is judged strictly where strict.
+// Kept: `framed` and `strict` are flags, by which the definitions and the promises of the public functions go.
 #[tactic(auto, unfolding(crate::specs::Outer::outer_within, crate::specs::Outer::outer_after, crate::specs::Outer::outer_of))]
 pub fn read_outer(s: &[u8], framed: bool, most: usize, strict: bool) -> Outer
     ensures { result ≡ outer_within strict most framed s.now }

@@ -7,34 +7,34 @@ use Rattle.lonlat.specs.declared.Longitude.{Longitude}
 use Rattle.mic_e.specs.Turn.{less_if}
 use Rattle.mic_e.specs.Longitude.{offset_of, wrapped, size_of, read_longitude}
 use Rattle.mic_e.specs.Private.{reading}
-use Rattle.mic_e.proofs.Offset.{taken, less_28, most, below_28}
+use Rattle.mic_e.proofs.Offset.{taken, stood_for, most, stands_for_nothing}
 use Rattle.mic_e.proofs.Turn.{less_if_top, wrapped_top, offset_top}
 use Rattle.mic_e.proofs.read_longitude.Goals as goal
 
 module _ (hundred west : Bool) (a b c : ℕ) (r : Option Longitude) (none : r ≡ None) where
   no_degrees : None ≡ reading a → r ≡ read_longitude hundred west a b c
   unfolding read_longitude
-  no_degrees e = none ∙ rw (below_28 a e)
+  no_degrees e = none ∙ rw (stands_for_nothing a e)
 
   no_minutes : (x : ℕ) → Some x ≡ reading a → None ≡ reading b → r ≡ read_longitude hundred west a b c
   unfolding read_longitude
-  no_minutes x ex e = none ∙ rw (taken a x ex, below_28 b e)
+  no_minutes x ex e = none ∙ rw (taken a x ex, stands_for_nothing b e)
 
   no_hundredths : (x y : ℕ) → Some x ≡ reading a → Some y ≡ reading b → None ≡ reading c → r ≡ read_longitude hundred west a b c
   unfolding read_longitude
-  no_hundredths x y ex ey e = none ∙ rw (taken a x ex, taken b y ey, below_28 c e)
+  no_hundredths x y ex ey e = none ∙ rw (taken a x ex, taken b y ey, stands_for_nothing c e)
 
 module _ (hundred west : Bool) (a b c x y z o : ℕ) (ex : Some x ≡ reading a) (ey : Some y ≡ reading b) (ez : Some z ≡ reading c) (eo : o ≡ offset_of hundred) where
   far : 255 < x + o → None ≡ read_longitude hundred west a b c
   unfolding read_longitude
-  far h = simp (← eo, ← less_28 a x ex, taken a x ex, taken b y ey, taken c z ez, lt-ltb 255 (x + o) h)
+  far h = simp (← eo, ← stood_for a x ex, taken a x ex, taken b y ey, taken c z ez, lt-ltb 255 (x + o) h)
 
   lies : (d m : ℕ) (made : Option Longitude) → x + o ≤ 255 → d ≡ wrapped (x + o) → m ≡ less_if 60 y → made ≡ longitude_of (6000 * d + 100 * m + z) west
       → made ≡ read_longitude hundred west a b c
   unfolding read_longitude size_of longitude_of
   lies d m made near ed em e =
       e
-      ∙ simp (← eo, ed, em, ← less_28 a x ex, ← less_28 b y ey, ← less_28 c z ez, taken a x ex, taken b y ey, taken c z ez, le-ltb 255 (x + o) near)
+      ∙ simp (← eo, ed, em, ← stood_for a x ex, ← stood_for b y ey, ← stood_for c z ez, taken a x ex, taken b y ey, taken c z ez, le-ltb 255 (x + o) near)
 
 pub returns-in_err-degrees : goal.returns-in_err-degrees
 returns-in_err-degrees c = search (rules, no_degrees)

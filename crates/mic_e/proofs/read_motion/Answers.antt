@@ -6,26 +6,26 @@ use Rattle.mic_e.specs.Motion.{read_motion, knots, degrees}
 use Rattle.mic_e.specs.Private.{reading}
 use Rattle.mic_e.specs.declared.Motion.{Motion}
 use Rattle.mic_e.proofs.MotionFacts.{motion}
-use Rattle.mic_e.proofs.Offset.{taken, less_28, most, below_28}
+use Rattle.mic_e.proofs.Offset.{taken, stood_for, most, stands_for_nothing}
 use Rattle.mic_e.proofs.read_motion.Goals as goal
 
 module _ (a b c : ℕ) (r : Option Motion) (none : r ≡ None) where
   no_fourth : None ≡ reading a → r ≡ read_motion a b c
   unfolding read_motion
-  no_fourth e = none ∙ rw (below_28 a e)
+  no_fourth e = none ∙ rw (stands_for_nothing a e)
 
   no_fifth : (x : ℕ) → Some x ≡ reading a → None ≡ reading b → r ≡ read_motion a b c
   unfolding read_motion
-  no_fifth x ex e = none ∙ rw (taken a x ex, below_28 b e)
+  no_fifth x ex e = none ∙ rw (taken a x ex, stands_for_nothing b e)
 
   no_sixth : (x y : ℕ) → Some x ≡ reading a → Some y ≡ reading b → None ≡ reading c → r ≡ read_motion a b c
   unfolding read_motion
-  no_sixth x y ex ey e = none ∙ rw (taken a x ex, taken b y ey, below_28 c e)
+  no_sixth x y ex ey e = none ∙ rw (taken a x ex, taken b y ey, stands_for_nothing c e)
 
 module _ (a b c x y z s : ℕ) (ex : Some x ≡ reading a) (ey : Some y ≡ reading b) (ez : Some z ≡ reading c) (es : s ≡ less_if 800 (10 * x + y / 10)) where
   is_speed : s ≡ knots a b
   unfolding knots
-  is_speed = es ∙ rw (less_28 a x ex, less_28 b y ey)
+  is_speed = es ∙ rw (stood_for a x ex, stood_for b y ey)
 
   fast : 799 < s → None ≡ read_motion a b c
   unfolding read_motion
@@ -34,7 +34,7 @@ module _ (a b c x y z s : ℕ) (ex : Some x ≡ reading a) (ey : Some y ≡ read
   module _ (d : ℕ) (hs : s ≤ 799) (ed : d ≡ less_if 400 (100 * (y % 10) + z)) where
     is_course : d ≡ degrees b c
     unfolding degrees
-    is_course = ed ∙ rw (less_28 b y ey, less_28 c z ez)
+    is_course = ed ∙ rw (stood_for b y ey, stood_for c z ez)
 
     turned : 360 < d → None ≡ read_motion a b c
     unfolding read_motion
