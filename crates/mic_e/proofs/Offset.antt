@@ -1,9 +1,9 @@
 -- The offset of 28: the bytes from 28 on are a class of 228, so of one of them 227 at most is left; a byte below 28 wraps, and
 -- stands for nothing.
 -- Assumes nothing.
-use Rattle.std.proofs.Common.{◌≡◌, ℕ, ◌+◌, ◌-◌, ◌%◌, ◌^◌, ◌<◌, ◌≤◌, Bool, true, false, cond, ltb, Some, None, refl, arith, le-ltb, ltb-false}
-use Rattle.laws.proofs.Tests.{not_so, within_low, within_yes}
-use Rattle.laws.proofs.Classes.{in_class, not_in_class, class_place}
+use Rattle.std.proofs.Common.{◌≡◌, ℕ, ◌+◌, ◌-◌, ◌%◌, ◌^◌, ◌<◌, ◌≤◌, Bool, true, false, cond, ltb, Some, None, refl, arith}
+use Rattle.laws.proofs.Tests.{within_low}
+use Rattle.laws.proofs.Classes.{in_class, class_place}
 use Rattle.mic_e.specs.Private.{reading}
 
 -- d is the wrapped difference of a byte b
