@@ -38,19 +38,14 @@ struct Angle(Longitude);
 
 impl Display for Angle {
     fn fmt<W: fmt::Write>(&self, f: &mut Formatter<W>) -> fmt::Result {
-        let angle = self.0.0;
-        let size = angle.unsigned_abs();
-        let letter = match angle {
-            0 => "",
-            1.. => " E",
-            _ => " W",
-        };
-        write!(
-            f,
-            "{:03} {:02}.{:02}{letter}",
-            size / 6000,
-            size % 6000 / 100,
-            size % 100
-        )
+        let mut text = [0; 9];
+        lonlat::write_longitude(self.0, &mut text);
+        let degrees = str::from_utf8(&text[..3]).or(Err(fmt::Error))?;
+        let minutes = str::from_utf8(&text[3..8]).or(Err(fmt::Error))?;
+        write!(f, "{degrees} {minutes}")?;
+        if self.0.0 == 0 {
+            return Ok(());
+        }
+        write!(f, " {}", char::from(text[8]))
     }
 }
