@@ -1,4 +1,5 @@
 // The three columns of a field: its bytes in decimal, in hexadecimal, and as characters.
+use buffer::Pieces;
 use std::fmt;
 use std::fmt::{Display, Formatter};
 
@@ -20,7 +21,20 @@ pub struct Columns(pub [u8; 3]);
 impl Display for Columns {
     fn fmt<W: fmt::Write>(&self, f: &mut Formatter<W>) -> fmt::Result {
         let [a, b, c] = self.0;
-        write!(f, " {a:3} {b:3} {c:3}   {a:02x} {b:02x} {c:02x}   ")?;
-        write!(f, "|{}{}{}|", character(a), character(b), character(c))
+        write!(f, " {a:3} {b:3} {c:3}   {} {} {}", Hex(a), Hex(b), Hex(c))?;
+        write!(f, "   |{}{}{}|", character(a), character(b), character(c))
+    }
+}
+
+// A byte in two hexadecimal digits.
+#[derive(Clone, Copy)]
+struct Hex(u8);
+
+impl Display for Hex {
+    fn fmt<W: fmt::Write>(&self, f: &mut Formatter<W>) -> fmt::Result {
+        let mut room = [0; 2];
+        let mut digits = Pieces::new(&mut room);
+        numbers::put_hex(self.0, &mut digits);
+        f.write_str(str::from_utf8(digits.written()).or(Err(fmt::Error))?)
     }
 }
