@@ -84,8 +84,7 @@ impl<'a, R: Read> Input<'a, R> {
 
     // Moves what is not taken to the front, and reads once behind it.
     fn fill(&mut self) -> Result<()> {
-        self.buffer.copy_within(self.next..self.held, 0);
-        self.held -= self.next;
+        self.held = buffer::shift(self.buffer, self.next, self.held);
         self.next = 0;
         let n = self.from.read(&mut self.buffer[self.held..])?;
         self.held += n;
