@@ -57,7 +57,8 @@ impl<'a, R: Read> Input<'a, R> {
     fn step(&mut self, most: usize) -> Result<Step> {
         let rest = &self.buffer[self.next..self.held];
         let all = rest.len();
-        if let Some(n) = rest.iter().position(|b| *b == b'\n') {
+        let n = laws::find(rest, b'\n');
+        if n < all {
             return Ok(self.take(n, 1, false));
         }
         if self.over && (self.passing || all == 0) {
