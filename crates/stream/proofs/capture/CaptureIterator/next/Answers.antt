@@ -1,4 +1,4 @@
--- `next`: a line ends before what is left, and that starts behind it.
+-- `next`: a line lies in the capture, and the next one starts behind its place.
 -- Assumes nothing.
 use Rattle.std.proofs.Common.{◌≡◌, ℕ, List, Some, arith, rules, sym, ◌∙◌}
 use Rattle.std.specs.declared.option.Option.{Option}
@@ -7,16 +7,10 @@ use Rattle.lines.specs.Lines.{line_at}
 use Rattle.lines.proofs.Walk.{Ahead, ahead}
 use Rattle.stream.proofs.capture.CaptureIterator.next.Goals as goal
 
--- where the line lies in what was left
-here : {s : List ℕ} {line : Line} {r : Option Line}
-    → r ≡ line_at s 0 → r ≡ Some line → Ahead s 0 line.start line.end line.next
+-- where the line lies in the capture
+here : {s : List ℕ} {at : ℕ} {line : Line} {r : Option Line}
+    → r ≡ line_at s at → r ≡ Some line → Ahead s at line.start line.end line.next
 here e is = ahead _ _ _ _ _ (sym e ∙ is)
-
-pub slice_bounds-self-count : goal.slice_bounds-self-count
-slice_bounds-self-count c = omega (arith, here c.line_at.ensures c.in_ok-line.was)
-
-pub slice_bounds-self-start : goal.slice_bounds-self-start
-slice_bounds-self-start c = omega (arith, here c.line_at.ensures c.in_ok-line.was)
 
 pub slice_bounds-result-count : goal.slice_bounds-result-count
 slice_bounds-result-count c = omega (arith, here c.line_at.ensures c.in_ok-line.was)
