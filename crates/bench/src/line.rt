@@ -8,9 +8,9 @@ pub fn parts(s: &[u8]) -> (&[u8], &[u8]) {
     }
 }
 
-// Whether a question is of a recorded answer.
-pub fn is_recorded(question: &[u8]) -> bool {
-    matches!(question, [b'T' | b'F', b' ', ..])
+// Whether a line is of a recorded answer.
+pub fn is_recorded(s: &[u8]) -> bool {
+    matches!(s, [b'T' | b'F', b' ', ..])
 }
 
 // Whether a word starts with the number of a refusal, alone or before a colon.

@@ -21,29 +21,27 @@ fn ask<'a>(question: &[u8], room: &'a mut [u8]) -> &'a [u8] {
     lines::cut(room, used)
 }
 
-// Writes a line of two parts.
-fn write_line(first: &[u8], second: &[u8], out: &mut impl Write) -> io::Result<()> {
-    out.write_all(first)?;
-    out.write_all(second)?;
-    out.write_all(b"\n")
+// Puts a line of two parts, each left out where it does not fit.
+fn put_line(first: &[u8], second: &[u8], out: &mut Pieces) {
+    out.put(first);
+    out.put(second);
+    out.put_byte(b'\n');
 }
 
 // Asks what one line asks, and compares. One that is as it should be gets a line, but for a recorded answer; one that is not two: what
 // it should be, of a line that is too long its beginning, and what it is.
-fn compare(s: &[u8], tally: &mut Tally, out: &mut impl Write) -> io::Result<()> {
+fn compare(s: &[u8], tally: &mut Tally, out: &mut Pieces) {
     let (question, expected) = line::parts(s);
     let mut room = [0; 8192];
     let answer = ask(question, &mut room);
     let agrees = line::agrees(expected, answer);
     tally.count(agrees);
     if !agrees {
-        write_line(b"WRONG ", lines::cut(s, 8192), out)?;
-        return write_line(b"  is ", answer, out);
+        put_line(b"WRONG ", lines::cut(s, 8192), out);
+        put_line(b"  is ", answer, out);
+    } else if !line::is_recorded(s) {
+        put_line(b"ok ", question, out);
     }
-    if line::is_recorded(question) {
-        return Ok(());
-    }
-    write_line(b"ok ", question, out)
 }
 
 // A line of the table, once there is room for what it prints; an empty one is passed over, and a heading, which starts with `#`, is
@@ -51,15 +49,16 @@ fn compare(s: &[u8], tally: &mut Tally, out: &mut impl Write) -> io::Result<()> 
 fn take(s: &[u8], tally: &mut Tally, out: &mut Output<'_, impl Write>) -> io::Result<()> {
     out.make_room()?;
     match s {
-        [] => Ok(()),
-        [b'#', ..] => write_line(b"", s, out),
-        _ => compare(s, tally, out),
+        [] => {}
+        [b'#', ..] => put_line(b"", s, &mut out.pieces),
+        _ => compare(s, tally, &mut out.pieces),
     }
+    Ok(())
 }
 
 // The totals, and all that is not written yet.
-fn finish(tally: Tally, out: &mut impl Write) -> io::Result<()> {
-    writeln!(out, "{tally}")?;
+fn finish(tally: Tally, out: &mut Output<'_, impl Write>) -> io::Result<()> {
+    tally.put(&mut out.pieces);
     out.flush()
 }
 

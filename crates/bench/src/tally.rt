@@ -1,6 +1,5 @@
 // How many values were as they should be.
-use std::fmt;
-use std::fmt::{Display, Formatter};
+use buffer::Pieces;
 
 // Those that were, and all.
 #[derive(Clone, Copy, Default)]
@@ -15,10 +14,12 @@ impl Tally {
         self.right = self.right.saturating_add(right as u32);
         self.all = self.all.saturating_add(1);
     }
-}
 
-impl Display for Tally {
-    fn fmt<W: fmt::Write>(&self, f: &mut Formatter<W>) -> fmt::Result {
-        write!(f, "{} of {} as they should be", self.right, self.all)
+    // Puts the line of the totals.
+    pub fn put(self, out: &mut Pieces) {
+        numbers::put_count(self.right as usize, out);
+        out.put(b" of ");
+        numbers::put_count(self.all as usize, out);
+        out.put(b" as they should be\n");
     }
 }
