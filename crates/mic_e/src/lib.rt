@@ -122,7 +122,6 @@ enum Bit {
 // ---- speed and course, read
 
 // What a byte stands for: 28 less. A byte below 28 stands for nothing: less 28, it wraps to more than 227.
-#[tactic(auto, unfolding(crate::specs::Private::reading))]
 fn reading(b: u8) -> Option<u32>
     ensures { result ≡ reading b }
 {
