@@ -279,7 +279,7 @@ fn is_character(c: u8) -> bool
 fn is_last(c: u8) -> bool
     ensures { result ≡ is_last c }
 {
-    is_character(c) && !(c.wrapping_sub(b'A') < 11)
+    !(c.wrapping_sub(b'A') < 11) && is_character(c)
 }
 
 // The digit or blank that a character shows: `0-9`, `A-J` and `P-Y` are digits.
