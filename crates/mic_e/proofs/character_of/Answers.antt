@@ -3,14 +3,15 @@ use Rattle.std.proofs.Common.{◌≡◌, ℕ, ◌+◌, ◌-◌, ◌%◌, ◌<◌
 use Rattle.laws.specs.Bytes.{digit0, digit9, capital_a, capital_k, capital_l, capital_p, capital_z, is_digit}
 use Rattle.mic_e.specs.Character.{character_of}
 use Rattle.mic_e.specs.declared.Bit.TheVariants.{Zero, Custom, Standard}
-use Rattle.mic_e.proofs.Classes.{inside, outside, place}
+use Rattle.mic_e.proofs.Classes.{place}
+use Rattle.numbers.proofs.Counts.{digit_yes, digit_no}
 use Rattle.mic_e.proofs.character_of.Goals as goal
 use Rattle.mic_e.proofs.character_of.Goals.{in-Zero, in-Custom, in-Standard}
 
 -- what stands for a digit, counted from a bit's 0
 module _ (d : ℕ) (byte : d < 256) (digit : (d + 208) % 256 < 10) where
   yes : is_digit d ≡ true
-  yes = inside digit0 digit9 10 208 d byte refl refl (omega arith) digit
+  yes = digit_yes d ((d + 208) % 256) (omega arith) (omega arith)
 
   from_0 : (d + 208) % 256 ≡ d - digit0
   from_0 = place digit0 digit9 10 208 d byte refl refl (omega arith) digit
@@ -33,7 +34,7 @@ module _ (d : ℕ) (byte : d < 256) (digit : (d + 208) % 256 < 10) where
 -- what stands for any other byte
 module _ (d : ℕ) (byte : d < 256) (other : 10 ≤ (d + 208) % 256) where
   no : is_digit d ≡ false
-  no = outside digit0 digit9 10 208 d byte refl refl (omega arith) other
+  no = digit_no d ((d + 208) % 256) (omega arith) (omega arith) (omega arith)
 
   zero_blank : capital_l ≡ character_of Zero d
   unfolding character_of
