@@ -1,10 +1,9 @@
 -- `character_of`: each bit has its digits and its blank. Assumes nothing.
-use Rattle.std.proofs.Common.{◌≡◌, ℕ, ◌+◌, ◌-◌, ◌%◌, ◌<◌, ◌≤◌, true, false, refl, arith}
-use Rattle.laws.specs.Bytes.{digit0, digit9, capital_a, capital_k, capital_l, capital_p, capital_z, is_digit}
+use Rattle.std.proofs.Common.{◌≡◌, ℕ, ◌+◌, ◌-◌, ◌%◌, ◌<◌, ◌≤◌, true, false, arith}
+use Rattle.laws.specs.Bytes.{digit0, capital_a, capital_k, capital_l, capital_p, capital_z, is_digit}
 use Rattle.mic_e.specs.Character.{character_of}
 use Rattle.mic_e.specs.declared.Bit.TheVariants.{Zero, Custom, Standard}
-use Rattle.mic_e.proofs.Classes.{place}
-use Rattle.numbers.proofs.Counts.{digit_yes, digit_no}
+use Rattle.numbers.proofs.Counts.{digit_yes, digit_no, digit_value}
 use Rattle.mic_e.proofs.character_of.Goals as goal
 use Rattle.mic_e.proofs.character_of.Goals.{in-Zero, in-Custom, in-Standard}
 
@@ -14,7 +13,7 @@ module _ (d : ℕ) (byte : d < 256) (digit : (d + 208) % 256 < 10) where
   yes = digit_yes d ((d + 208) % 256) (omega arith) (omega arith)
 
   from_0 : (d + 208) % 256 ≡ d - digit0
-  from_0 = place digit0 digit9 10 208 d byte refl refl (omega arith) digit
+  from_0 = digit_value d ((d + 208) % 256) (omega arith) (omega arith)
 
   least : digit0 ≤ d
   least = omega arith
