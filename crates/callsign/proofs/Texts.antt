@@ -8,8 +8,8 @@ use Rattle.laws.specs.Bytes.{star, dash, digit0}
 use Rattle.laws.specs.Lists.{index_of, pad_to}
 use Rattle.laws.proofs.Places.{index_split, index_le}
 use Rattle.callsign.specs.declared.CallRead.{CallRead}
-use Rattle.callsign.specs.Utf8.{utf8}
-use Rattle.callsign.specs.Text.{joined, call_as, made, marked_as, is_zero, call_refused, call_accepted, parted, read_unstarred, read_text}
+use Rattle.callsign.specs.Utf8.{utf8, characters}
+use Rattle.callsign.specs.Text.{joined, call_as, made, blank_call, marked_as, is_zero, call_refused, call_accepted, parted, read_unstarred, read_text}
 use Rattle.callsign.proofs.Ranges.{joined_full}
 
 -- ---- the two sides of a dash
@@ -40,6 +40,11 @@ module _ (a b : List ℕ) (starred : Bool) (r : CallRead) where
       ssid_kept t p e = rw (ne_eqb (length a) 0 h, ne_eqb (length b) 0 k, ← q, t, joined_full a b k, ← p) e
 
 -- ---- the text without its star
+
+pub empty : (t : List ℕ) (starred : Bool) (r : CallRead) → length t ≡ 0 → r ≡ call_accepted blank_call starred → r ≡ read_unstarred t starred
+unfolding read_unstarred blank_call utf8 characters index_of
+empty [] starred r h e = e
+empty (b ∷ t) starred r h e = absurd (omega arith)
 
 module _ (t : List ℕ) (starred : Bool) (r : CallRead) where
   pub too_long : 16 < length t → r ≡ call_refused 4 → r ≡ read_unstarred t starred
@@ -81,6 +86,9 @@ module _ (s : List ℕ) (r : CallRead) where
       go : (s : List ℕ) → length s < 1 → get_or s (length s - 1) 0 ≡ star → ⊥
       go [] h q = let z : 0 ≡ star = q in omega arith
       go (x ∷ s) h q = omega arith
+
+  pub none_read : length s ≡ 0 → r ≡ call_accepted blank_call false → r ≡ read_text s
+  none_read h e = none_starred (omega arith) (empty s false r h e)
 
   pub starred : get_or s (length s - 1) 0 ≡ star → r ≡ read_unstarred (take (length s - 1) s) true → r ≡ read_text s
   unfolding read_text

@@ -123,6 +123,9 @@ module _ (t : List ℕ) (n lo hi i : ℕ) (h : i < length t) (e : utf8 t ≡ cha
     unfolding asked_by
     none_begins o w q = sym (between ∙ ap (λ (rs : List Span). characters rs (drop (i + 1) t)) (sym q ∙ ap asked_by w) ∙ none_in_never (drop (i + 1) t))
 
+    pub ascii_passed : get_or t i 0 < 0x80 → utf8 t ≡ characters (owed n lo hi) (drop (i + 1) t)
+    ascii_passed k = between ∙ ap (λ (rs : List Span). characters rs (drop (i + 1) t)) (ascii_after (get_or t i 0) k) ∙ sym (none_owed n lo hi (drop (i + 1) t) z)
+
     pub first_passed : (o : Option Tails) (a : Tails) → o ≡ Some a → asked_by o ≡ after (get_or t i 0) → utf8 t ≡ characters (owed a.count a.lowest a.highest) (drop (i + 1) t)
     unfolding asked_by
     first_passed o a w q = between ∙ ap (λ (rs : List Span). characters rs (drop (i + 1) t)) (sym q ∙ ap asked_by w)

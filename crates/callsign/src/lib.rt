@@ -112,6 +112,9 @@ fn is_utf8(t: &[u8]) -> bool
     let mut owed = Tails::new(0, 0x80, 0xbf);
     for &b in t {
         if owed.count == 0 {
+            if b.is_ascii() {
+                continue;
+            }
             let Some(next) = after_first(b) else {
                 return false;
             };
@@ -233,6 +236,7 @@ pub fn read_text(s: &[u8]) -> CallRead
     ensures { result ≡ read_text s.now }
 {
     match s {
+        [] => accepted(blank(), false),
         [t @ .., b'*'] => read_unstarred(t, true),
         _ => read_unstarred(s, false),
     }
