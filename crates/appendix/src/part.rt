@@ -16,7 +16,7 @@ pub fn write(opening: &str, page: Page<'_>, out: &mut impl Write) -> Result<()> 
     let setting = page.setting;
     writeln!(out, "{opening}")?;
     writeln!(out, "{setting}")?;
-    notes::above(setting, out)?;
+    write!(out, "{}", notes::above(setting))?;
     table::write(page.fields, notes::sent(setting), out)?;
-    notes::below(setting, out)
+    write!(out, "{}", notes::below(setting))
 }

@@ -5,8 +5,8 @@
 mod longitude;
 mod writer;
 
+pub use longitude::{LinesAbove, LinesBelow};
 use settings::Setting;
-use std::io::{Result, Write};
 
 // The field that the standard's own writer sends for a setting, if it sends that one.
 pub fn sent(asked: Setting) -> Option<[u8; 3]> {
@@ -16,18 +16,12 @@ pub fn sent(asked: Setting) -> Option<[u8; 3]> {
     }
 }
 
-// Writes what stands above the table of a setting.
-pub fn above(asked: Setting, out: &mut impl Write) -> Result<()> {
-    match asked {
-        Setting::Moving(_, _) => Ok(()),
-        Setting::Lying(longitude, way) => longitude::above(longitude, way, out),
-    }
+// What stands above the table of a setting.
+pub fn above(asked: Setting) -> LinesAbove {
+    LinesAbove(asked)
 }
 
-// Writes what stands below it.
-pub fn below(asked: Setting, out: &mut impl Write) -> Result<()> {
-    match asked {
-        Setting::Moving(_, _) => Ok(()),
-        Setting::Lying(longitude, way) => longitude::below(longitude, way, out),
-    }
+// What stands below it.
+pub fn below(asked: Setting) -> LinesBelow {
+    LinesBelow(asked)
 }

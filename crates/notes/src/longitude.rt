@@ -1,12 +1,38 @@
 // A longitude: the destination that goes with it, and how the standard's own writer sends it.
 use crate::writer;
 use lonlat::Longitude;
-use settings::Way;
-use std::io::{Result, Write};
+use settings::{Setting, Way};
+use std::fmt;
+use std::fmt::{Display, Formatter};
 
-// Writes what stands above the table: what the offset and the direction are in the destination, and where the longitude lies on the
-// other side than the direction.
-pub fn above(longitude: Longitude, way: Way, out: &mut impl Write) -> Result<()> {
+// The lines above the table of a setting; a motion has none.
+#[derive(Clone, Copy)]
+pub struct LinesAbove(pub Setting);
+
+impl Display for LinesAbove {
+    fn fmt<W: fmt::Write>(&self, f: &mut Formatter<W>) -> fmt::Result {
+        match self.0 {
+            Setting::Moving(_, _) => Ok(()),
+            Setting::Lying(longitude, way) => above(longitude, way, f),
+        }
+    }
+}
+
+// The lines below it.
+#[derive(Clone, Copy)]
+pub struct LinesBelow(pub Setting);
+
+impl Display for LinesBelow {
+    fn fmt<W: fmt::Write>(&self, f: &mut Formatter<W>) -> fmt::Result {
+        match self.0 {
+            Setting::Moving(_, _) => Ok(()),
+            Setting::Lying(longitude, way) => below(longitude, way, f),
+        }
+    }
+}
+
+// Writes what the offset and the direction are in the destination, and where the longitude lies on the other side than the direction.
+fn above<W: fmt::Write>(longitude: Longitude, way: Way, f: &mut Formatter<W>) -> fmt::Result {
     let fifth = if way.hundred {
         "P to Z (offset 100)"
     } else {
@@ -17,30 +43,27 @@ pub fn above(longitude: Longitude, way: Way, out: &mut impl Write) -> Result<()>
     } else {
         "0 to 9 or L (east)"
     };
-    writeln!(
-        out,
-        "In the destination the fifth character is {fifth}, the sixth {sixth}."
+    write!(
+        f,
+        "In the destination the fifth character is {fifth}, the sixth {sixth}.\n"
     )?;
     if way.west && 0 < longitude.0 {
-        writeln!(out, "The longitude lies east, the direction is west.")?;
+        f.write_str("The longitude lies east, the direction is west.\n")?;
     }
     if !way.west && longitude.0 < 0 {
-        writeln!(out, "The longitude lies west, the direction is east.")?;
+        f.write_str("The longitude lies west, the direction is east.\n")?;
     }
     Ok(())
 }
 
-// Writes what stands below the table: how the standard's own writer sends the longitude, where that is another setting.
-pub fn below(longitude: Longitude, way: Way, out: &mut impl Write) -> Result<()> {
+// Writes how the standard's own writer sends the longitude, where that is another setting.
+fn below<W: fmt::Write>(longitude: Longitude, way: Way, f: &mut Formatter<W>) -> fmt::Result {
     match writer::way_of(longitude) {
-        None => writeln!(
-            out,
-            "The standard's own writer sends no longitude of 180 degrees."
-        ),
+        None => f.write_str("The standard's own writer sends no longitude of 180 degrees.\n"),
         Some(sent) if sent == way => Ok(()),
-        Some(sent) => writeln!(
-            out,
-            "The standard's own writer sends this longitude with {sent}."
+        Some(sent) => write!(
+            f,
+            "The standard's own writer sends this longitude with {sent}.\n"
         ),
     }
 }

@@ -3,7 +3,9 @@
 // at the start of the line that ./tusselgro turns into a status.
 #![tactic(auto)]
 
-use page::{Columns, Page};
+mod row;
+
+use page::Page;
 use std::io::{self, Write};
 use stream::{Failure, Output};
 use verdict::{Line, Tally};
@@ -18,7 +20,7 @@ fn print(page: Page<'_>, capture: &[u8], out: &mut Output<'_, impl Write>) -> io
         tally.count(line);
         if let Line::MicE(field, verdict) = line {
             out.make_room()?;
-            writeln!(out, "{number:5}{}   {verdict}", Columns(field))?;
+            row::write(number, field, verdict, out)?;
         }
     }
     writeln!(out, "{tally}")?;

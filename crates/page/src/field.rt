@@ -1,16 +1,14 @@
 // The three columns of a field: its bytes in decimal, in hexadecimal, and as characters.
 use buffer::Pieces;
-use std::fmt;
-use std::fmt::{Display, Formatter};
 
 // What stands over the columns.
 pub const HEADING: &str = " decimal       hex        characters";
 
 // A byte as the character that it is, or a dot.
-pub fn character(b: u8) -> char {
+pub fn character(b: u8) -> u8 {
     match b {
-        b' '..=b'~' => char::from(b),
-        _ => '.',
+        b' '..=b'~' => b,
+        _ => b'.',
     }
 }
 
@@ -18,23 +16,28 @@ pub fn character(b: u8) -> char {
 #[derive(Clone, Copy)]
 pub struct Columns(pub [u8; 3]);
 
-impl Display for Columns {
-    fn fmt<W: fmt::Write>(&self, f: &mut Formatter<W>) -> fmt::Result {
-        let [a, b, c] = self.0;
-        write!(f, " {a:3} {b:3} {c:3}   {} {} {}", Hex(a), Hex(b), Hex(c))?;
-        write!(f, "   |{}{}{}|", character(a), character(b), character(c))
+impl Columns {
+    // Puts the columns, 31 bytes.
+    pub fn put(self, row: &mut Pieces) {
+        for b in self.0 {
+            row.put(&decimal(b));
+        }
+        row.put(b"  ");
+        for b in self.0 {
+            row.put_byte(b' ');
+            numbers::put_hex(b, row);
+        }
+        row.put(b"   |");
+        for b in self.0 {
+            row.put_byte(character(b));
+        }
+        row.put_byte(b'|');
     }
 }
 
-// A byte in two hexadecimal digits.
-#[derive(Clone, Copy)]
-struct Hex(u8);
-
-impl Display for Hex {
-    fn fmt<W: fmt::Write>(&self, f: &mut Formatter<W>) -> fmt::Result {
-        let mut room = [0; 2];
-        let mut digits = Pieces::new(&mut room);
-        numbers::put_hex(self.0, &mut digits);
-        f.write_str(str::from_utf8(digits.written()).or(Err(fmt::Error))?)
-    }
+// A byte in decimal, at the end of four places.
+fn decimal(b: u8) -> [u8; 4] {
+    let hundreds = if b < 100 { b' ' } else { b'0' + b / 100 };
+    let tens = if b < 10 { b' ' } else { b'0' + b / 10 % 10 };
+    [b' ', hundreds, tens, b'0' + b % 10]
 }

@@ -17,7 +17,7 @@ struct Characters<'a>(&'a [u8]);
 impl Display for Characters<'_> {
     fn fmt<W: fmt::Write>(&self, f: &mut Formatter<W>) -> fmt::Result {
         for b in self.0.iter().take(64) {
-            f.write_char(field::character(*b))?;
+            f.write_char(char::from(field::character(*b)))?;
         }
         Ok(())
     }
