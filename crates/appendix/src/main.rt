@@ -35,7 +35,7 @@ fn print(rt: HostRuntime, settings: &[u8]) -> io::Result<usize> {
         match Page::of(text, &mut room) {
             Ok(page) => {
                 let opening = if shown { "" } else { part::NOTE };
-                part::write(opening, page, &mut out)?;
+                part::put(opening, page, &mut out.pieces);
                 shown = true;
             }
             Err(error) => page::tell(&rt, number, text, error),

@@ -1,7 +1,7 @@
 // The part of the page for a setting: a heading, a table of its fields and their number.
 use crate::table;
+use buffer::Pieces;
 use page::Page;
-use std::io::{Result, Write};
 
 // What stands once, at the top.
 pub const NOTE: &str =
@@ -11,12 +11,14 @@ Between bars stand the characters; a dot there is a byte that does not print, or
 A star marks the field that the standard's own writer sends.
 ";
 
-// Writes the part for a setting, behind what opens it and a blank line.
-pub fn write(opening: &str, page: Page<'_>, out: &mut impl Write) -> Result<()> {
+// Puts the part for a setting, behind what opens it and a blank line.
+pub fn put(opening: &str, page: Page<'_>, out: &mut Pieces) {
     let setting = page.setting;
-    writeln!(out, "{opening}")?;
-    writeln!(out, "{setting}")?;
-    write!(out, "{}", notes::above(setting))?;
-    table::write(page.fields, notes::sent(setting), out)?;
-    write!(out, "{}", notes::below(setting))
+    out.put(opening.as_bytes());
+    out.put_byte(b'\n');
+    setting.put(out);
+    out.put_byte(b'\n');
+    notes::above(setting, out);
+    table::put(page.fields, notes::sent(setting), out);
+    notes::below(setting, out);
 }

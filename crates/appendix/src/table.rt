@@ -1,26 +1,26 @@
 // The table of a setting's fields, and their number.
 use buffer::Pieces;
 use page::Columns;
-use std::io::{Result, Write};
 
-// Writes the table of the fields, of which one may be what the standard's own writer sends.
-pub fn write(fields: &[[u8; 3]], sent: Option<[u8; 3]>, out: &mut impl Write) -> Result<()> {
+// Puts the table of the fields, of which one may be what the standard's own writer sends.
+pub fn put(fields: &[[u8; 3]], sent: Option<[u8; 3]>, out: &mut Pieces) {
     if fields.is_empty() {
-        return writeln!(out, "no field: no unit can send this setting");
+        out.put(b"no field: no unit can send this setting\n");
+        return;
     }
-    writeln!(out, " {}", page::HEADING)?;
+    out.put_byte(b' ');
+    out.put(page::HEADING.as_bytes());
+    out.put_byte(b'\n');
     for field in fields {
-        out.write_all(&row(*field, sent == Some(*field)))?;
+        out.put_byte(if sent == Some(*field) { b'*' } else { b' ' });
+        out.put(&Columns(*field).text());
+        out.put_byte(b'\n');
     }
-    let unit = if fields.len() == 1 { "field" } else { "fields" };
-    writeln!(out, "{} {unit}", fields.len())
-}
-
-// The line of a field: a star where it is the one that is sent, and its columns.
-fn row(field: [u8; 3], is_sent: bool) -> [u8; 33] {
-    let mut text = [b'\n'; 33];
-    let mut row = Pieces::new(&mut text);
-    row.put_byte(if is_sent { b'*' } else { b' ' });
-    Columns(field).put(&mut row);
-    text
+    let unit = if fields.len() == 1 {
+        " field\n"
+    } else {
+        " fields\n"
+    };
+    numbers::put_count(fields.len(), out);
+    out.put(unit.as_bytes());
 }

@@ -5,7 +5,7 @@
 mod longitude;
 mod writer;
 
-pub use longitude::{LinesAbove, LinesBelow};
+use buffer::Pieces;
 use settings::Setting;
 
 // The field that the standard's own writer sends for a setting, if it sends that one.
@@ -16,12 +16,16 @@ pub fn sent(asked: Setting) -> Option<[u8; 3]> {
     }
 }
 
-// What stands above the table of a setting.
-pub fn above(asked: Setting) -> LinesAbove {
-    LinesAbove(asked)
+// Puts what stands above the table of a setting.
+pub fn above(asked: Setting, out: &mut Pieces) {
+    if let Setting::Lying(longitude, way) = asked {
+        longitude::above(longitude, way, out);
+    }
 }
 
-// What stands below it.
-pub fn below(asked: Setting) -> LinesBelow {
-    LinesBelow(asked)
+// Puts what stands below it.
+pub fn below(asked: Setting, out: &mut Pieces) {
+    if let Setting::Lying(longitude, way) = asked {
+        longitude::below(longitude, way, out);
+    }
 }

@@ -12,15 +12,15 @@ use verdict::{Line, Tally};
 
 // Writes the setting, a row for each Mic-E packet of a capture, and the line that counts.
 fn print(page: Page<'_>, capture: &[u8], out: &mut Output<'_, impl Write>) -> io::Result<Tally> {
-    writeln!(out, "{}", page.setting)?;
-    writeln!(out, " line{}", page::HEADING)?;
+    page.setting.put(&mut out.pieces);
+    writeln!(out, "\n line{}", page::HEADING)?;
     let mut tally = Tally::default();
     for (number, text) in (1..).zip(stream::lines(capture)) {
         let line = Line::of(text, page);
         tally.count(line);
         if let Line::MicE(field, verdict) = line {
             out.make_room()?;
-            row::write(number, field, verdict, out)?;
+            row::put(number, field, verdict, &mut out.pieces);
         }
     }
     writeln!(out, "{tally}")?;

@@ -17,21 +17,24 @@ pub fn character(b: u8) -> u8 {
 pub struct Columns(pub [u8; 3]);
 
 impl Columns {
-    // Puts the columns, 31 bytes.
-    pub fn put(self, row: &mut Pieces) {
+    // The columns as they are printed.
+    pub fn text(self) -> [u8; 31] {
+        let mut text = [0; 31];
+        let mut row = Pieces::new(&mut text);
         for b in self.0 {
             row.put(&decimal(b));
         }
         row.put(b"  ");
         for b in self.0 {
             row.put_byte(b' ');
-            numbers::put_hex(b, row);
+            numbers::put_hex(b, &mut row);
         }
         row.put(b"   |");
         for b in self.0 {
             row.put_byte(character(b));
         }
         row.put_byte(b'|');
+        text
     }
 }
 

@@ -1,51 +1,60 @@
 // How a setting is named in print.
 use crate::{Setting, Way};
+use buffer::Pieces;
 use lonlat::Longitude;
-use std::fmt;
-use std::fmt::{Display, Formatter};
+use mic_e::{Course, Speed};
 
-impl Display for Setting {
-    fn fmt<W: fmt::Write>(&self, f: &mut Formatter<W>) -> fmt::Result {
-        match *self {
-            Setting::Moving(speed, course) => {
-                let unit = if speed.0 == 1 { "knot" } else { "knots" };
-                write!(f, "Motion: {} {unit}, course {}", speed.0, course.0)
-            }
-            Setting::Lying(longitude, way) => {
-                let hundredths = longitude.0;
-                write!(
-                    f,
-                    "Longitude: {} ({hundredths} hundredths), {way}",
-                    Angle(longitude)
-                )
-            }
+impl Setting {
+    // Puts the setting's name.
+    pub fn put(self, out: &mut Pieces) {
+        match self {
+            Setting::Moving(speed, course) => put_motion(speed, course, out),
+            Setting::Lying(longitude, way) => put_longitude(longitude, way, out),
         }
     }
 }
 
-// `offset 100, west`
-impl Display for Way {
-    fn fmt<W: fmt::Write>(&self, f: &mut Formatter<W>) -> fmt::Result {
-        let offset = if self.hundred { 100 } else { 0 };
+impl Way {
+    // Puts `offset 100, west`.
+    pub fn put(self, out: &mut Pieces) {
+        let offset = if self.hundred {
+            "offset 100, "
+        } else {
+            "offset 0, "
+        };
         let direction = if self.west { "west" } else { "east" };
-        write!(f, "offset {offset}, {direction}")
+        out.put(offset.as_bytes());
+        out.put(direction.as_bytes());
     }
 }
 
-// Degrees, minutes and the letter; zero lies on neither side, and has none.
-#[derive(Clone, Copy)]
-struct Angle(Longitude);
+fn put_motion(speed: Speed, course: Course, out: &mut Pieces) {
+    let unit = if speed.0 == 1 { " knot" } else { " knots" };
+    out.put(b"Motion: ");
+    numbers::put_count(speed.0 as usize, out);
+    out.put(unit.as_bytes());
+    out.put(b", course ");
+    numbers::put_count(course.0 as usize, out);
+}
 
-impl Display for Angle {
-    fn fmt<W: fmt::Write>(&self, f: &mut Formatter<W>) -> fmt::Result {
-        let mut text = [0; 9];
-        lonlat::write_longitude(self.0, &mut text);
-        let degrees = str::from_utf8(&text[..3]).or(Err(fmt::Error))?;
-        let minutes = str::from_utf8(&text[3..8]).or(Err(fmt::Error))?;
-        write!(f, "{degrees} {minutes}")?;
-        if self.0.0 == 0 {
-            return Ok(());
-        }
-        write!(f, " {}", char::from(text[8]))
+fn put_longitude(longitude: Longitude, way: Way, out: &mut Pieces) {
+    out.put(b"Longitude: ");
+    put_angle(longitude, out);
+    out.put(b" (");
+    numbers::put_number(longitude.0, out);
+    out.put(b" hundredths), ");
+    way.put(out);
+}
+
+// Puts degrees, minutes and the letter; zero lies on neither side, and has none.
+fn put_angle(longitude: Longitude, out: &mut Pieces) {
+    let mut text = [0; 9];
+    lonlat::write_longitude(longitude, &mut text);
+    out.put(&text[..3]);
+    out.put_byte(b' ');
+    out.put(&text[3..8]);
+    if longitude.0 != 0 {
+        out.put_byte(b' ');
+        out.put_byte(text[8]);
     }
 }

@@ -1,8 +1,7 @@
 // A packet held against a page.
+use buffer::Pieces;
 use page::Page;
 use settings::{Setting, Way};
-use std::fmt;
-use std::fmt::{Display, Formatter};
 
 // What is said of a packet. Elsewhere: its destination says another way than the page's.
 #[derive(Clone, Copy)]
@@ -33,12 +32,16 @@ pub fn verdict_of(page: Page<'_>, field: [u8; 3], way: Way) -> Verdict {
     }
 }
 
-impl Display for Verdict {
-    fn fmt<W: fmt::Write>(&self, f: &mut Formatter<W>) -> fmt::Result {
-        match *self {
-            Verdict::OnPage => f.write_str("on the page"),
-            Verdict::NotOnPage => f.write_str("not on the page"),
-            Verdict::Elsewhere(way) => write!(f, "not on the page: its destination says {way}"),
+impl Verdict {
+    // Puts what is said.
+    pub fn put(self, out: &mut Pieces) {
+        match self {
+            Verdict::OnPage => out.put(b"on the page"),
+            Verdict::NotOnPage => out.put(b"not on the page"),
+            Verdict::Elsewhere(way) => {
+                out.put(b"not on the page: its destination says ");
+                way.put(out);
+            }
         }
     }
 }
