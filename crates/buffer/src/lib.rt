@@ -56,7 +56,9 @@ fn copy(s: &[u8], out: &mut [u8], at: usize)
     requires { at + length s.now ≤ length out.old }
     ensures { out.new ≡ paste out.old at s.now (length s.now) }
 {
-    out[at..at + s.len()].copy_from_slice(s);
+    for i in 0..s.len() {
+        out[at + i] = s[i];
+    }
 }
 
 // Writes bytes to the front of out, or answers 16 and leaves it alone.
@@ -67,7 +69,7 @@ pub fn write(bytes: &[u8], out: &mut [u8]) -> Answer
     if out.len() < n {
         return no_room(n);
     }
-    out[..n].copy_from_slice(bytes);
+    copy(bytes, out, 0);
     done(n)
 }
 
