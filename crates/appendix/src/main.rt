@@ -8,7 +8,7 @@ mod table;
 
 use page::Page;
 use std::io::{self, Write};
-use stream::{Failure, Output};
+use stream::{Failure, Writer};
 
 // Puts the settings to the front of input; answers how many bytes they are.
 fn gather(rt: HostRuntime, input: &mut [u8]) -> io::Result<usize> {
@@ -21,7 +21,7 @@ fn gather(rt: HostRuntime, input: &mut [u8]) -> io::Result<usize> {
 // Prints the page of all settings, and tells which are wrong; answers how many settings there were.
 fn print(rt: HostRuntime, settings: &[u8]) -> io::Result<usize> {
     let mut held = [0; 65536];
-    let mut out = Output::new(rt.stdout(), &mut held);
+    let mut out = Writer::new(rt.stdout(), &mut held);
     let texts = settings
         .split(|b| *b == b'\n')
         .map(|text| settings::bare(text))

@@ -8,7 +8,7 @@ mod tally;
 
 use buffer::Pieces;
 use std::io::{self, Write};
-use stream::{Failure, Input, Output};
+use stream::{Failure, Reader, Writer};
 use tally::Tally;
 
 // The answer to a question, at the front of room.
@@ -46,7 +46,7 @@ fn compare(s: &[u8], tally: &mut Tally, out: &mut Pieces) {
 
 // A line of the table, once there is room for what it prints; an empty one is passed over, and a heading, which starts with `#`, is
 // printed as it stands.
-fn take(s: &[u8], tally: &mut Tally, out: &mut Output<'_, impl Write>) -> io::Result<()> {
+fn take(s: &[u8], tally: &mut Tally, out: &mut Writer<'_, impl Write>) -> io::Result<()> {
     out.make_room()?;
     match s {
         [] => {}
@@ -57,7 +57,7 @@ fn take(s: &[u8], tally: &mut Tally, out: &mut Output<'_, impl Write>) -> io::Re
 }
 
 // The totals, and all that is not written yet.
-fn finish(tally: Tally, out: &mut Output<'_, impl Write>) -> io::Result<()> {
+fn finish(tally: Tally, out: &mut Writer<'_, impl Write>) -> io::Result<()> {
     tally.put(&mut out.pieces);
     out.flush()
 }
@@ -65,8 +65,8 @@ fn finish(tally: Tally, out: &mut Output<'_, impl Write>) -> io::Result<()> {
 fn run(rt: HostRuntime) -> Result<(), Failure> {
     let mut read = [0; 65536];
     let mut held = [0; 65536];
-    let mut input = Input::new(rt.stdin(), &mut read);
-    let mut out = Output::new(rt.stdout(), &mut held);
+    let mut input = Reader::new(rt.stdin(), &mut read);
+    let mut out = Writer::new(rt.stdout(), &mut held);
     let mut tally = Tally::default();
     for _ in 0..u64::MAX {
         let Some(line) = input.next_line(8192).map_err(Failure::Unread)? else {

@@ -4,7 +4,7 @@
 
 use buffer::Pieces;
 use std::io::{Read, Write};
-use stream::{Failure, Input, Output};
+use stream::{Failure, Reader, Writer};
 
 // Puts the line that answers a request.
 fn answer(request: &[u8], out: &mut Pieces) {
@@ -15,7 +15,7 @@ fn answer(request: &[u8], out: &mut Pieces) {
 }
 
 // Answers each request of an input.
-fn run(input: &mut Input<'_, impl Read>, out: &mut Output<'_, impl Write>) -> Result<(), Failure> {
+fn run(input: &mut Reader<'_, impl Read>, out: &mut Writer<'_, impl Write>) -> Result<(), Failure> {
     for _ in 0..u64::MAX {
         let Some(request) = input.next_line(4096).map_err(Failure::Unread)? else {
             break;
@@ -29,8 +29,8 @@ fn run(input: &mut Input<'_, impl Read>, out: &mut Output<'_, impl Write>) -> Re
 fn main(rt: HostRuntime) {
     let mut read = [0; 65536];
     let mut held = [0; 65536];
-    let mut input = Input::new(rt.stdin(), &mut read);
-    let mut out = Output::new(rt.stdout(), &mut held);
+    let mut input = Reader::new(rt.stdin(), &mut read);
+    let mut out = Writer::new(rt.stdout(), &mut held);
     if let Err(failure) = run(&mut input, &mut out) {
         let _ = eprintln!(rt; "{failure}");
     }

@@ -5,10 +5,10 @@
 
 use std::env::Env;
 use std::io::{self, Write};
-use stream::{Failure, Output};
+use stream::{Failure, Writer};
 
 // Writes the heading and the rows of all lines; a row has 142 bytes at most.
-fn list(capture: &[u8], strict: bool, out: &mut Output<'_, impl Write>) -> io::Result<()> {
+fn list(capture: &[u8], strict: bool, out: &mut Writer<'_, impl Write>) -> io::Result<()> {
     out.write_all(&row::HEADING)?;
     for (number, line) in (1..).zip(stream::lines(capture)) {
         let mut text = [0; 142];
@@ -35,7 +35,7 @@ fn read(rt: HostRuntime, strict: bool) -> Result<(), Failure> {
     let Some(capture) = read else {
         return Err(refuse(&mut rt.stdout()));
     };
-    let mut out = Output::new(rt.stdout(), &mut held);
+    let mut out = Writer::new(rt.stdout(), &mut held);
     list(capture, strict, &mut out).map_err(Failure::Unwritten)
 }
 

@@ -7,11 +7,11 @@ mod row;
 
 use page::Page;
 use std::io::{self, Write};
-use stream::{Failure, Output};
+use stream::{Failure, Writer};
 use verdict::{Line, Tally};
 
 // Writes the setting, a row for each Mic-E packet of a capture, and the line that counts.
-fn print(page: Page<'_>, capture: &[u8], out: &mut Output<'_, impl Write>) -> io::Result<Tally> {
+fn print(page: Page<'_>, capture: &[u8], out: &mut Writer<'_, impl Write>) -> io::Result<Tally> {
     page.setting.put(&mut out.pieces);
     writeln!(out, "\n line{}", page::HEADING)?;
     let mut tally = Tally::default();
@@ -46,7 +46,7 @@ fn check(rt: HostRuntime, page: Page<'_>) -> Result<(), Failure> {
     let capture = stream::read_all(&mut rt.stdin(), &mut input)
         .map_err(Failure::Unread)?
         .ok_or(Failure::Refused("the capture is over 65,536 bytes; split it at ends of lines"))?;
-    let mut out = Output::new(rt.stdout(), &mut held);
+    let mut out = Writer::new(rt.stdout(), &mut held);
     judge(print(page, capture, &mut out).map_err(Failure::Unwritten)?)
 }
 

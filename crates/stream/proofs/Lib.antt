@@ -1,1 +1,2 @@
 pub mod Shifted
+pub mod Unique

@@ -12,6 +12,6 @@ mod whole;
 pub use arguments::is_given;
 pub use capture::{Capture, lines};
 pub use failure::Failure;
-pub use input::Input;
-pub use output::Output;
+pub use input::{Input, Reader};
+pub use output::{Output, Writer};
 pub use whole::{read_all, read_full};

@@ -92,25 +92,26 @@ pub fn time_of(first: u8, second: u8, third: u8, form: u8) -> Time
     ensures { result ≡ time_of first second third form }
 {
     if form == b'h' {
-        Time {
+        return Time {
             day: 0,
             hour: first,
             minute: second,
             second: third,
             form,
-        }
-    } else {
-        Time {
-            day: first,
-            hour: second,
-            minute: third,
-            second: 0,
-            form,
-        }
+        };
+    }
+    Time {
+        day: first,
+        hour: second,
+        minute: third,
+        second: 0,
+        form,
     }
 }
 
-// Reads exactly seven bytes: six digits and `z`, `/` or `h`, each number in its range.
+// Reads exactly seven bytes: six digits and `z`, `/` or `h`, each number in its range. It goes into its callers, so that what they
+// make of the answer is made once.
+#[inline]
 pub fn read_time(s: &[u8]) -> Option<Time>
     ensures { result ≡ read_time s.now }
 {
